@@ -1,0 +1,5 @@
+pub mod Numbers
+pub mod Bytes
+pub mod Query
+pub mod Stored
+pub mod Reading
