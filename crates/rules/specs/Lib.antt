@@ -3,3 +3,15 @@ pub mod Bytes
 pub mod Query
 pub mod Stored
 pub mod Reading
+pub mod Analysis
+pub mod Lexing
+pub mod Numerals
+pub mod Setup
+pub mod Parsing
+pub mod Floats
+pub mod Rewriting
+pub mod Lists
+pub mod Matching
+pub mod Show
+pub mod Answers
+pub mod Cases

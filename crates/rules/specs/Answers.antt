@@ -1,0 +1,98 @@
+-- Each public call's whole answer: number, length, count, rounds, and what the output and the room hold afterwards. Section 'Refusal numbers'.
+use Prim.Native.Nat.{ℕ, _*_}
+use mathlib.Core.List.{List, [], _∷_, _++_}
+use mathlib.Core.Bool.{Bool, true, false}
+use lib.ListN.{length, drop, replicate}
+use lib.Dec.{leb}
+use Rattle.rules.specs.Numbers.{Refusal, number, Read, got, refused, need, onRead, andThen, longAnswer, shortRoom, parseRoom, rewriteRoom, selectRoom}
+use Rattle.rules.specs.Bytes.{big}
+use Rattle.rules.specs.Query.{Query}
+use Rattle.rules.specs.Stored.{encode}
+use Rattle.rules.specs.Reading.{readForRewriting, readForSelection}
+use Rattle.rules.specs.Setup.{Setup, readSetup}
+use Rattle.rules.specs.Parsing.{parse}
+use Rattle.rules.specs.Rewriting.{Rewritten, rewritten, rewrite}
+use Rattle.rules.specs.Lists.{Entry, readList}
+use Rattle.rules.specs.Matching.{chosen}
+
+-- the refusal's number or 0, the bytes written, the records chosen, the rounds made
+pub record Answer : Type 0 where
+  pub refusal : ℕ
+  pub written : ℕ
+  pub count : ℕ
+  pub rounds : ℕ
+
+-- what a call leaves: its answer, the lent output and the lent room
+pub record Left : Type 0 where
+  pub answer : Answer
+  pub output : List ℕ
+  pub room : List ℕ
+
+-- what a call that is not refused has to say
+pub record Reply : Type 0 where
+  pub bytes : List ℕ
+  pub count : ℕ
+  pub rounds : ℕ
+
+abbrev pub zeros : List ℕ → List ℕ
+zeros room = replicate (length room) 0
+
+-- a refusal leaves the output as it was; success changes the answer's bytes only; the room ends all zeros in every case
+abbrev pub leave : Read Reply → List ℕ → List ℕ → Left
+leave (refused r) output room = record {
+  answer = record { refusal = number r; written = 0; count = 0; rounds = 0 };
+  output = output;
+  room = zeros room;
+}
+leave (got a) output room = record {
+  answer = record { refusal = 0; written = length (a .bytes); count = a .count; rounds = a .rounds };
+  output = a .bytes ++ drop (length (a .bytes)) output;
+  room = zeros room;
+}
+
+-- an answer longer than the lent output is refused
+abbrev pub fitting : ℕ → Reply → Read Reply
+fitting n a = need (leb (length (a .bytes)) n) longAnswer (got a)
+
+-- 32 before all else, then what the call itself refuses, then 18
+unfoldable pub call : ℕ → Read Reply → List ℕ → List ℕ → Left
+call n reply output room =
+    leave (need (leb n (length room)) shortRoom (andThen reply (fitting (length output)))) output room
+
+-- ---- parsing: the setup (3), then the text
+
+abbrev pub storedReply : Query → Reply
+storedReply q = record { bytes = encode q; count = 0; rounds = 0 }
+
+unfoldable pub parseReply : ℕ → ℕ → List ℕ → List ℕ → List ℕ → Read Reply
+parseReply o a f es text = onRead storedReply (andThen (readSetup o a f es) (λ st. parse st text))
+
+unfoldable pub parseLeft : ℕ → ℕ → List ℕ → List ℕ → List ℕ → List ℕ → List ℕ → Left
+parseLeft o a f es text output room = call parseRoom (parseReply o a f es text) output room
+
+-- ---- rewriting
+
+abbrev pub rewrittenReply : Rewritten → Reply
+rewrittenReply (rewritten q n) = record { bytes = encode q; count = 0; rounds = n }
+
+unfoldable pub rewriteReply : List ℕ → Read Reply
+rewriteReply s = onRead (λ q. rewrittenReply (rewrite q)) (readForRewriting s)
+
+unfoldable pub rewriteLeft : List ℕ → List ℕ → List ℕ → Left
+rewriteLeft s output room = call rewriteRoom (rewriteReply s) output room
+
+-- ---- selection: the query (19, 20, 21), the list (22, 23)
+
+unfoldable pub selected : List ℕ → List ℕ → Read (List ℕ)
+selected s l = andThen (readForSelection s) (λ q. onRead (chosen q) (readList l))
+
+-- record numbers as bytes, four each
+unfoldable pub rowBytes : List ℕ → List ℕ
+rowBytes [] = []
+rowBytes (n ∷ ns) = big 4 n ++ rowBytes ns
+
+abbrev pub rowsReply : List ℕ → Reply
+rowsReply ns = record { bytes = rowBytes ns; count = length ns; rounds = 0 }
+
+unfoldable pub selectLeft : List ℕ → List ℕ → List ℕ → List ℕ → Left
+selectLeft s l rows room = call selectRoom (onRead rowsReply (selected s l)) rows room

@@ -1,0 +1,209 @@
+-- Parsing, with every refusal where it is met. Section 'Lexing and parsing', from 'The grammar is mutual', and 'Parse order'.
+use Prim.Native.Nat.{ℕ, zero, suc, _+_}
+use mathlib.Core.List.{List, [], _∷_}
+use mathlib.Core.Bool.{Bool, true, false, not, _&&_, _||_, cond}
+use lib.ListN.{length, getD}
+use lib.Dec.{leb, ltb, eqb}
+use Rattle.rules.specs.Numbers.{Read, got, refused, need, onRead, andThen, longText, notAscii, fuzzyTerm, sloppyPhrase, unexpectedEnd, unexpectedToken, openBracket, noNumeral, longField, manyBrackets, textMost, fieldMost, bracketsMost, andOperator}
+use Rattle.rules.specs.Bytes.{isText}
+use Rattle.rules.specs.Query.{Word, word, Kind, must, should, mustNot, filter, Query, term, phrase, boolean, boost, matchNone, Clauses, none, clause}
+use Rattle.rules.specs.Analysis.{tokenize}
+use Rattle.rules.specs.Lexing.{Token, endKind, termKind, quotedKind, colonKind, plusKind, minusKind, notKind, andKind, orKind, openKind, closeKind, caretKind, tildeKind, lex}
+use Rattle.rules.specs.Numerals.{numeralBits}
+use Rattle.rules.specs.Setup.{Setup, analyzerOf}
+
+-- a query, or nothing where the text analyzes to nothing
+pub data Made : Type 0 where
+  nothing : Made
+  made : Query → Made
+
+-- with the number of the next token
+pub data Found : Type 0 where
+  found : Made → ℕ → Found
+
+abbrev pub onMade : (Query → Query) → Made → Made
+onMade f nothing = nothing
+onMade f (made q) = made (f q)
+
+-- ---- the token at i
+
+abbrev pub tokenOf : List Token → ℕ → Token
+tokenOf ts i = getD ts i (record { kind = endKind; text = []; place = 0 })
+
+abbrev pub isAt : ℕ → List Token → ℕ → Bool
+isAt k ts i = eqb (tokenOf ts i .kind) k
+
+abbrev pub textAt : List Token → ℕ → List ℕ
+textAt ts i = tokenOf ts i .text
+
+-- ---- terms and phrases
+
+-- the kind of the default operator
+abbrev pub operatorKind : ℕ → Kind
+operatorKind o = cond (eqb o andOperator) must should
+
+unfoldable pub termClauses : Kind → List ℕ → List Word → Clauses
+termClauses k f [] = none
+termClauses k f (word p t ∷ ws) = clause k (term f t) (termClauses k f ws)
+
+-- several tokens make a Boolean of the default operator's kind for a term, a phrase for a quote
+unfoldable pub termOf : ℕ → List ℕ → List Word → Made
+termOf o f [] = nothing
+termOf o f (word p t ∷ []) = made (term f t)
+termOf o f (v ∷ w ∷ ws) = made (boolean 0 (termClauses (operatorKind o) f (v ∷ w ∷ ws)))
+
+unfoldable pub phraseOf : List ℕ → List Word → Made
+phraseOf f [] = nothing
+phraseOf f (word p t ∷ []) = made (term f t)
+phraseOf f (v ∷ w ∷ ws) = made (phrase f (v ∷ w ∷ ws))
+
+-- ---- a clause, in the field f and below d open brackets; `sub` reads a query
+
+module _ (st : Setup) (ts : List Token) where
+  -- a boost may follow
+  unfoldable pub boostAt : Made → ℕ → Read Found
+  boostAt m i =
+      let boosted = onRead (λ b. found (onMade (boost b) m) (i + 2)) (numeralBits (textAt ts (i + 1))) in
+      let taken = need (isAt termKind ts (i + 1)) noNumeral boosted in
+      cond (isAt caretKind ts i) taken (got (found m i))
+
+  unfoldable pub plainAt : List ℕ → ℕ → Read Found
+  plainAt f i =
+      let m = termOf (st .operator) f (tokenize (analyzerOf st f) (textAt ts i)) in
+      need (not (isAt tildeKind ts (i + 1))) fuzzyTerm (boostAt m (i + 1))
+
+  unfoldable pub quotedAt : List ℕ → ℕ → Read Found
+  quotedAt f i =
+      let m = phraseOf f (tokenize (analyzerOf st f) (textAt ts i)) in
+      need (not (isAt tildeKind ts (i + 1))) sloppyPhrase (boostAt m (i + 1))
+
+  -- after the query in brackets
+  unfoldable pub closedAt : Found → Read Found
+  closedAt (found m j) = need (isAt closeKind ts j) openBracket (boostAt m (j + 1))
+
+  module _ (sub : List ℕ → ℕ → ℕ → Read Found) where
+    unfoldable pub bracketAt : List ℕ → ℕ → ℕ → Read Found
+    bracketAt f d i =
+        let inner = andThen (sub f (suc d) (i + 1)) closedAt in
+        need (ltb d bracketsMost) manyBrackets inner
+
+    unfoldable pub bodyAt : List ℕ → ℕ → ℕ → Read Found
+    bodyAt f d i =
+        cond (isAt termKind ts i) (plainAt f i)
+        (cond (isAt openKind ts i) (bracketAt f d i)
+        (cond (isAt quotedKind ts i) (quotedAt f i)
+        (cond (isAt endKind ts i) (refused unexpectedEnd) (refused unexpectedToken))))
+
+    -- a field name and a colon may stand before
+    unfoldable pub clauseAt : List ℕ → ℕ → ℕ → Read Found
+    clauseAt f d i =
+        let named = need (leb (length (textAt ts i)) fieldMost) longField (bodyAt (textAt ts i) d (i + 2)) in
+        cond (isAt termKind ts i && isAt colonKind ts (i + 1)) named (bodyAt f d i)
+
+-- ---- a query: its clauses, kinds set as in `add_clause`
+
+pub data Conjunction : Type 0 where
+  unjoined joinedByAnd joinedByOr : Conjunction
+
+pub data Modifier : Type 0 where
+  unmodified required prohibited : Modifier
+
+-- looked for only when some clause has been kept
+abbrev pub conjunctionAt : Clauses → List Token → ℕ → Conjunction
+conjunctionAt none ts i = unjoined
+conjunctionAt (clause k q cs) ts i = cond (isAt andKind ts i) joinedByAnd (cond (isAt orKind ts i) joinedByOr unjoined)
+
+abbrev pub afterConjunction : Conjunction → ℕ → ℕ
+afterConjunction unjoined i = i
+afterConjunction joinedByAnd i = i + 1
+afterConjunction joinedByOr i = i + 1
+
+abbrev pub modifierAt : List Token → ℕ → Modifier
+modifierAt ts i = cond (isAt plusKind ts i) required (cond (isAt minusKind ts i || isAt notKind ts i) prohibited unmodified)
+
+abbrev pub afterModifier : Modifier → ℕ → ℕ
+afterModifier unmodified i = i
+afterModifier required i = i + 1
+afterModifier prohibited i = i + 1
+
+-- what a conjunction makes of the kind before it
+abbrev pub kindBefore : ℕ → Conjunction → Kind → Kind
+kindBefore o unjoined k = k
+kindBefore o joinedByAnd must = must
+kindBefore o joinedByAnd should = must
+kindBefore o joinedByAnd mustNot = mustNot
+kindBefore o joinedByAnd filter = must
+kindBefore o joinedByOr must = cond (eqb o andOperator) should must
+kindBefore o joinedByOr should = should
+kindBefore o joinedByOr mustNot = mustNot
+kindBefore o joinedByOr filter = cond (eqb o andOperator) should filter
+
+-- the kind of a clause after a conjunction and a modifier
+abbrev pub kindAfter : ℕ → Conjunction → Modifier → Kind
+kindAfter o c prohibited = mustNot
+kindAfter o unjoined unmodified = operatorKind o
+kindAfter o unjoined required = must
+kindAfter o joinedByAnd unmodified = must
+kindAfter o joinedByAnd required = must
+kindAfter o joinedByOr unmodified = should
+kindAfter o joinedByOr required = cond (eqb o andOperator) should must
+
+-- the clauses kept so far stand with the last one first
+unfoldable pub touched : ℕ → Conjunction → Clauses → Clauses
+touched o c none = none
+touched o c (clause k q cs) = clause (kindBefore o c k) q cs
+
+unfoldable pub inOrderBefore : Clauses → Clauses → Clauses
+inOrderBefore cs none = cs
+inOrderBefore cs (clause k q ds) = inOrderBefore (clause k q cs) ds
+
+-- one kept Must or Should clause stands for itself
+abbrev pub alone : Kind → Query → Query
+alone must q = q
+alone should q = q
+alone mustNot q = boolean 0 (clause mustNot q none)
+alone filter q = boolean 0 (clause filter q none)
+
+unfoldable pub queryOf : Clauses → Made
+queryOf none = nothing
+queryOf (clause k q none) = made (alone k q)
+queryOf (clause k q (clause j p cs)) = made (boolean 0 (inOrderBefore none (clause k q (clause j p cs))))
+
+-- a clause that analyzes to nothing is not kept, yet its conjunction alters the clause before; `more` reads on
+unfoldable pub addClause : ℕ → Conjunction → Modifier → (Clauses → ℕ → Read Found) → Clauses → Found → Read Found
+addClause o c m more cs (found nothing j) = more (touched o c cs) j
+addClause o c m more cs (found (made q) j) = more (clause (kindAfter o c m) q (touched o c cs)) j
+
+-- a query stops before a closing bracket and at the end
+abbrev pub stopsAt : List Token → ℕ → Bool
+stopsAt ts i = isAt closeKind ts i || isAt endKind ts i
+
+-- the clauses from i on, with cs kept before them; n is above the number of unread tokens
+unfoldable pub parseQuery : Setup → List Token → ℕ → List ℕ → ℕ → Clauses → ℕ → Read Found
+parseQuery st ts zero f d cs i = refused unexpectedEnd
+parseQuery st ts (suc n) f d cs i =
+    let c = conjunctionAt cs ts i in
+    let j = afterConjunction c i in
+    let m = modifierAt ts j in
+    let one = clauseAt st ts (λ g e h. parseQuery st ts n g e none h) f d (afterModifier m j) in
+    let more = andThen one (addClause (st .operator) c m (λ ds h. parseQuery st ts n f d ds h) cs) in
+    cond (stopsAt ts i) (got (found (queryOf cs) i)) more
+
+-- ---- the text
+
+abbrev pub orMatchNone : Made → Query
+orMatchNone nothing = matchNone
+orMatchNone (made q) = q
+
+unfoldable pub wholeQuery : List Token → Found → Read Query
+wholeQuery ts (found m j) = need (isAt endKind ts j) unexpectedToken (got (orMatchNone m))
+
+unfoldable pub parseTokens : Setup → List Token → Read Query
+parseTokens st ts = andThen (parseQuery st ts (suc (length ts)) (st .field) 0 none 0) (wholeQuery ts)
+
+-- 1, 2; then the whole text is lexed; then parsing
+unfoldable pub parse : Setup → List ℕ → Read Query
+parse st s =
+    let parsed = andThen (lex s) (parseTokens st) in
+    let plain = need (isText s) notAscii parsed in
+    need (leb (length s) textMost) longText plain

@@ -1,0 +1,261 @@
+-- Weight, one round of rewriting, all rounds and their count. Section 'One round of rewriting'.
+use Prim.Native.Nat.{ℕ, zero, suc, _+_, max}
+use mathlib.Core.List.{List, [], _∷_}
+use mathlib.Core.Bool.{Bool, true, false, not, _&&_, _||_, cond}
+use lib.Dec.{leb, ltb}
+use lib.Ieee.{Float}
+use Rattle.rules.specs.Query.{Word, word, Kind, must, should, mustNot, filter, Query, term, phrase, boolean, boost, constantScore, matchAll, matchNone, range, Clauses, none, clause, equal}
+use Rattle.rules.specs.Floats.{one, widened, narrowed, plus, times, isOne}
+
+-- ---- measures
+
+unfoldable mutual
+  pub weight : Query → ℕ
+  weight (term f t) = 1
+  weight (phrase f ws) = 2
+  weight (boolean m cs) = 3 + weights cs
+  weight (boost b q) = 1 + weight q
+  weight (constantScore q) = 1 + weight q
+  weight matchAll = 1
+  weight matchNone = 1
+  weight (range n f l u) = 1
+
+  pub weights : Clauses → ℕ
+  weights none = 0
+  weights (clause k q cs) = 1 + weight q + weights cs
+
+-- the largest minimum_should_match
+unfoldable mutual
+  pub largest : Query → ℕ
+  largest (term f t) = 0
+  largest (phrase f ws) = 0
+  largest (boolean m cs) = max m (largests cs)
+  largest (boost b q) = largest q
+  largest (constantScore q) = largest q
+  largest matchAll = 0
+  largest matchNone = 0
+  largest (range n f l u) = 0
+
+  pub largests : Clauses → ℕ
+  largests none = 0
+  largests (clause k q cs) = max (largest q) (largests cs)
+
+-- ---- a boost, a constant score and a phrase, of what is inside after its own round
+
+unfoldable pub isNone : Query → Bool
+isNone (term f t) = false
+isNone (phrase f ws) = false
+isNone (boolean m cs) = false
+isNone (boost b q) = false
+isNone (constantScore q) = false
+isNone matchAll = false
+isNone matchNone = true
+isNone (range n f l u) = false
+
+-- a nested boost is one 32-bit product
+unfoldable pub boosted : ℕ → Query → Query
+boosted b (term f t) = boost b (term f t)
+boosted b (phrase f ws) = boost b (phrase f ws)
+boosted b (boolean m cs) = boost b (boolean m cs)
+boosted b (boost c q) = boost (times c b) q
+boosted b (constantScore q) = boost b (constantScore q)
+boosted b matchAll = boost b matchAll
+boosted b matchNone = matchNone
+boosted b (range n f l u) = boost b (range n f l u)
+
+unfoldable pub scored : Query → Query
+scored (term f t) = constantScore (term f t)
+scored (phrase f ws) = constantScore (phrase f ws)
+scored (boolean m cs) = constantScore (boolean m cs)
+scored (boost c q) = constantScore q
+scored (constantScore q) = constantScore q
+scored matchAll = constantScore matchAll
+scored matchNone = matchNone
+scored (range n f l u) = constantScore (range n f l u)
+
+unfoldable pub phrased : List ℕ → List Word → Query
+phrased f [] = matchNone
+phrased f (word p t ∷ []) = term f t
+phrased f (v ∷ w ∷ ws) = phrase f (v ∷ w ∷ ws)
+
+-- ---- kinds
+
+abbrev pub isNeeded : Kind → Bool
+isNeeded must = true
+isNeeded should = false
+isNeeded mustNot = false
+isNeeded filter = true
+
+abbrev pub isMustNot : Kind → Bool
+isMustNot must = false
+isMustNot should = false
+isMustNot mustNot = true
+isMustNot filter = false
+
+abbrev pub ifShould : Kind → ℕ
+ifShould must = 0
+ifShould should = 1
+ifShould mustNot = 0
+ifShould filter = 0
+
+abbrev pub scores : Kind → Bool
+scores must = true
+scores should = true
+scores mustNot = false
+scores filter = false
+
+-- Must, and Should when the minimum is at most 1
+abbrev pub summable : ℕ → Kind → Bool
+summable m must = true
+summable m should = leb m 1
+summable m mustNot = false
+summable m filter = false
+
+-- an equal clause of kind j, kept before, stands for one of kind k: of its own kind, and a Must for a Filter
+abbrev pub standsFor : Kind → Kind → Bool
+standsFor must must = true
+standsFor must should = false
+standsFor must mustNot = false
+standsFor must filter = true
+standsFor should must = false
+standsFor should should = true
+standsFor should mustNot = false
+standsFor should filter = false
+standsFor mustNot must = false
+standsFor mustNot should = false
+standsFor mustNot mustNot = true
+standsFor mustNot filter = false
+standsFor filter must = false
+standsFor filter should = false
+standsFor filter mustNot = false
+standsFor filter filter = true
+
+-- ---- the merging of clauses
+
+-- a query with one outer boost taken off, and that boost
+unfoldable pub base : Query → Query
+base (term f t) = term f t
+base (phrase f ws) = phrase f ws
+base (boolean m cs) = boolean m cs
+base (boost b q) = q
+base (constantScore q) = constantScore q
+base matchAll = matchAll
+base matchNone = matchNone
+base (range n f l u) = range n f l u
+
+unfoldable pub boostOf : Query → Float
+boostOf (term f t) = one
+boostOf (phrase f ws) = one
+boostOf (boolean m cs) = one
+boostOf (boost b q) = widened b
+boostOf (constantScore q) = one
+boostOf matchAll = one
+boostOf matchNone = one
+boostOf (range n f l u) = one
+
+-- a merged clause: kind, base and running sum
+pub data Merged : Type 0 where
+  empty : Merged
+  merged : Kind → Query → Float → Merged → Merged
+
+-- q, of kind k: an equal one takes it up and changes its sum by f, or it is kept with the sum s
+unfoldable pub put : (Float → Float) → Float → Kind → Query → Merged → Merged
+put f s k q empty = merged k q s empty
+put f s k q (merged j p t ms) =
+    let further = merged j p t (put f s k q ms) in
+    cond (standsFor j k && equal p q) (merged j p (f t) ms) further
+
+-- a summable clause without its boost, and another as it is
+unfoldable pub addMerged : ℕ → Kind → Query → Merged → Merged
+addMerged m k q ms =
+    cond (summable m k) (put (λ t. plus t (boostOf q)) (boostOf q) k (base q) ms) (put (λ t. t) one k q ms)
+
+unfoldable pub mergeOnto : ℕ → Merged → Clauses → Merged
+mergeOnto m ms none = ms
+mergeOnto m ms (clause k q cs) = mergeOnto m (addMerged m k q ms) cs
+
+-- the sum is rounded once, and put back where it is not 1
+abbrev pub reboosted : Kind → Query → Float → Query
+reboosted k q s = cond (not (isOne s) && scores k) (boost (narrowed s) q) q
+
+unfoldable pub clausesOf : Merged → Clauses
+clausesOf empty = none
+clausesOf (merged k q s ms) = clause k (reboosted k q s) (clausesOf ms)
+
+unfoldable pub mergedBoolean : ℕ → Clauses → Query
+mergedBoolean m cs = boolean m (clausesOf (mergeOnto m empty cs))
+
+-- ---- a Boolean, of clauses after their own round: the steps of `rewrite_boolean`, the last one first
+
+-- one clause, with a minimum of at most 1
+unfoldable pub lone : Kind → Query → Query
+lone must q = q
+lone should q = q
+lone mustNot q = matchNone
+lone filter q = boost 0 (constantScore q)
+
+unfoldable pub loneOrMerged : ℕ → Clauses → Query
+loneOrMerged m none = mergedBoolean m none
+loneOrMerged m (clause k q none) = cond (leb m 1) (lone k q) (mergedBoolean m (clause k q none))
+loneOrMerged m (clause k q (clause j p cs)) = mergedBoolean m (clause k q (clause j p cs))
+
+unfoldable pub shouldCount : Clauses → ℕ
+shouldCount none = 0
+shouldCount (clause k q cs) = ifShould k + shouldCount cs
+
+unfoldable pub onlyMustNot : Clauses → Bool
+onlyMustNot none = true
+onlyMustNot (clause k q cs) = isMustNot k && onlyMustNot cs
+
+unfoldable pub ofLive : ℕ → Clauses → Query
+ofLive m cs = cond (onlyMustNot cs) matchNone (cond (ltb (shouldCount cs) m) matchNone (loneOrMerged m cs))
+
+-- a Must or a Filter that is MatchNone
+unfoldable pub isDead : Clauses → Bool
+isDead none = false
+isDead (clause k q cs) = (isNeeded k && isNone q) || isDead cs
+
+-- a Should or a MustNot that is MatchNone is dropped
+unfoldable pub live : Clauses → Clauses
+live none = none
+live (clause k q cs) = cond (isNone q) (live cs) (clause k q (live cs))
+
+unfoldable pub rewriteBoolean : ℕ → Clauses → Query
+rewriteBoolean m cs = cond (isDead cs) matchNone (ofLive m (live cs))
+
+-- ---- one round, children first
+
+unfoldable mutual
+  pub rewriteOnce : Query → Query
+  rewriteOnce (term f t) = term f t
+  rewriteOnce (phrase f ws) = phrased f ws
+  rewriteOnce (boolean m cs) = rewriteBoolean m (rewriteEach cs)
+  rewriteOnce (boost b q) = cond (isOne (widened b)) (rewriteOnce q) (boosted b (rewriteOnce q))
+  rewriteOnce (constantScore q) = scored (rewriteOnce q)
+  rewriteOnce matchAll = matchAll
+  rewriteOnce matchNone = matchNone
+  rewriteOnce (range n f l u) = range n f l u
+
+  pub rewriteEach : Clauses → Clauses
+  rewriteEach none = none
+  rewriteEach (clause k q cs) = clause k (rewriteOnce q) (rewriteEach cs)
+
+-- ---- all rounds: until one changes nothing, the last unchanged one counted
+
+pub data Rewritten : Type 0 where
+  rewritten : Query → ℕ → Rewritten
+
+abbrev pub oneRoundMore : Rewritten → Rewritten
+oneRoundMore (rewritten q n) = rewritten q (suc n)
+
+-- at most k rounds
+unfoldable pub rounds : ℕ → Query → Rewritten
+rounds zero q = rewritten q 0
+rounds (suc k) q =
+    let r = rewriteOnce q in
+    let further = oneRoundMore (rounds k r) in
+    cond (equal r q) (rewritten r 1) further
+
+-- each round that changes the query lowers its weight, so that this many are enough
+abbrev pub rewrite : Query → Rewritten
+rewrite q = rounds (weight q) q
