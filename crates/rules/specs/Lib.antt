@@ -15,3 +15,4 @@ pub mod Matching
 pub mod Show
 pub mod Answers
 pub mod Cases
+pub mod Computing
