@@ -5,6 +5,7 @@
 
 mod check;
 mod document_cases;
+mod document_limits;
 mod lists;
 mod numeral_cases;
 mod parse_cases;

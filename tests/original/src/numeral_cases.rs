@@ -5,7 +5,7 @@ use original::random::Random;
 use original::random_text;
 
 const RANDOM: usize = 100;
-const TIES: usize = 20;
+const TIES: usize = 12;
 
 pub fn list(seed: u64) -> List {
     let mut list = List::new(
@@ -28,6 +28,7 @@ pub fn list(seed: u64) -> List {
 }
 
 /// Signs, points, exponents.
+#[rustfmt::skip]
 const PLAIN: &[&str] = &[
     "0", "1", "2", "10", "007", "+0", "-0", "+1", "-1", "0.5", "-0.5", "+.5", ".5", "5.", "-5.", "00.00", "-.0",
     "0.", ".0", "1.0", "1.5e0", "1e5", "1E5", "1e+5", "1E+5", "1e-5", "-1e-5", "1e05", "1e+0005", "1e-0005", "1.e5",
@@ -36,6 +37,7 @@ const PLAIN: &[&str] = &[
 ];
 
 /// Ties and near ties between neighbours.
+#[rustfmt::skip]
 const BETWEEN: &[&str] = &[
     "16777215", "16777216", "16777217", "16777218", "16777219", "16777220", "16777221", "-16777217", "-16777219",
     "16777217.0", "16777217.0000001", "16777216.9999999", "167772.17e2", "1.6777217e7", "16777217e0",
@@ -49,6 +51,7 @@ const BETWEEN: &[&str] = &[
 ];
 
 /// Around the least normal number, the subnormals, and 2^-150.
+#[rustfmt::skip]
 const SMALL: &[&str] = &[
     "1.17549435e-38", "1.1754943508222875079687365372222456e-38", "1.17549428e-38", "1.17549421e-38",
     "1.17549424e-38", "1.17549431e-38", "1.1754942807573642917278829910357665e-38",
@@ -66,6 +69,7 @@ const SMALL: &[&str] = &[
 ];
 
 /// Around the greatest number, (2^25-1)*2^103 and infinity.
+#[rustfmt::skip]
 const LARGE: &[&str] = &[
     "3.4028234e38", "3.4028235e38", "3.4028236e38", "-3.4028236e38", "3.40282346638528859811704183484516925e38",
     "340282346638528859811704183484516925440", "340282346638528859811704183484516925441",
@@ -83,6 +87,7 @@ const LARGE: &[&str] = &[
 ];
 
 /// Numerals of 39 and 40 bytes.
+#[rustfmt::skip]
 const FORTY: &[&str] = &[
     "000000000000000000000000000000000000001", "0000000000000000000000000000000000000001",
     "1000000000000000000000000000000000000000", "9999999999999999999999999999999999999999",
@@ -101,12 +106,14 @@ const FORTY: &[&str] = &[
 ];
 
 /// Numbers that have a name.
+#[rustfmt::skip]
 const NAMED: &[&str] = &[
     "inf", "Inf", "INF", "iNf", "+inf", "-inf", "infinity", "Infinity", "INFINITY", "iNfInItY", "+infinity",
     "-InFiNiTy", "nan", "NaN", "NAN", "nAn", "+nan", "-nan", "-NAN",
 ];
 
 /// Texts that are no numerals.
+#[rustfmt::skip]
 const NONE: &[&str] = &[
     "", ".", "+", "-", "+.", "-.", "e", "e5", "E", ".e5", "+e5", "1e", "1E", "1e+", "1e-", "1.e", "1.e+", "--1", "++1",
     "+-1", "-+1", "1-", "1+", "1_0", "1,5", " 1", "1 ", "1 0", "0x1", "0b1", "1f", "1f32", "1.0f", "1d", "infinit",
@@ -115,16 +122,16 @@ const NONE: &[&str] = &[
     "\t1", "1\n", "1\x00", "\x00", "1e5x", "'1'", "1'000", "#1", "1%", "0x1p3", "1p3", "\u{7f}", "-e1", ".-1", ".+1",
 ];
 
-/// Every byte between two digits.
+/// Every byte that is neither digit nor letter between two digits.
 fn every_byte(list: &mut List) {
-    for b in 0..128_u8 {
+    for b in (0..128_u8).filter(|b| !b.is_ascii_alphanumeric()) {
         list.numeral(&format!("2{}3", char::from(b)));
     }
 }
 
-/// Powers of ten, all that are neither zero nor infinity and the first ones that are.
+/// Powers of ten, from zero to infinity.
 fn powers(list: &mut List) {
-    for exponent in -47..=40 {
+    for exponent in (-46..=40).step_by(2) {
         list.numeral(&format!("1e{exponent}"));
     }
 }

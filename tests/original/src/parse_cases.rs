@@ -7,8 +7,8 @@ use original::limits::parse_is_compared;
 use original::random::Random;
 use original::random_text;
 
-const RANDOM: usize = 400;
-const DAMAGED: usize = 150;
+const RANDOM: usize = 250;
+const DAMAGED: usize = 100;
 const LONG: usize = 10;
 
 pub fn list(seed: u64) -> List {
@@ -60,15 +60,19 @@ fn short_texts(list: &mut List) {
     assert_eq!(list.len(), 1_885);
 }
 
-/// Every byte alone, between letters, and in a quote: the classes of all 128.
+/// Every byte between letters, and those that are no letter alone and in a quote too: the classes of
+/// all 128.
 fn every_byte(list: &mut List) {
-    for b in 0..128 {
-        list.parsed(&setup(OR, WHITESPACE), &[b]);
-        list.parsed(&setup(OR, WHITESPACE), &[b'a', b, b'b']);
+    let whitespace = setup(OR, WHITESPACE);
+    for b in 0..128_u8 {
         list.parsed(&setup(OR, SIMPLE), &[b'a', b, b'b']);
-    }
-    for b in 0..=b' ' {
-        list.parsed(&setup(OR, WHITESPACE), &[b'"', b'a', b, b'b', b'"']);
+        if !b.is_ascii_alphabetic() {
+            list.parsed(&whitespace, &[b]);
+            list.parsed(&whitespace, &[b'a', b, b'b']);
+        }
+        if b <= b' ' {
+            list.parsed(&whitespace, &[b'"', b'a', b, b'b', b'"']);
+        }
     }
 }
 
@@ -102,7 +106,11 @@ fn by_hand(list: &mut List) {
     for texts in [tables::DOCUMENT_AND, tables::NOTHING] {
         ask(list, &and, texts);
     }
-    for texts in [tables::DOCUMENT_WHITESPACE, tables::OPERATORS, tables::SEPARATORS] {
+    for texts in [
+        tables::DOCUMENT_WHITESPACE,
+        tables::OPERATORS,
+        tables::SEPARATORS,
+    ] {
         ask(list, &whitespace, texts);
     }
     ask(list, &keyword, tables::SEPARATORS);

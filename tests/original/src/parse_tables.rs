@@ -1,16 +1,20 @@
 //! Texts for parsing written by hand, by what they show. Field `f`, Or, simple, unless said.
 
 /// Document 01, 'Both sides of each line', and its sentence on `"a\`.
+#[rustfmt::skip]
 pub const DOCUMENT: &[&str] = &[
     "", "a", "-a", "wi-fi", "a AND b OR c", "a OR b AND c", "1 AND b", r"\AND", "a^-1", r"a^\-1",
     "a^1e+5", "a^2^3", "()^x", "a^16777217", "a^16777219", "a^1e39", r#""a\"#,
 ];
 /// The same, for And.
+#[rustfmt::skip]
 pub const DOCUMENT_AND: &[&str] = &["a OR b", "a AND b OR c", "a OR b AND c", "wi-fi"];
 /// The same, for the whitespace analyzer.
+#[rustfmt::skip]
 pub const DOCUMENT_WHITESPACE: &[&str] = &["wi-fi", "a&&b"];
 
 /// Refusals 4 to 7, and which comes first; then texts that miss them narrowly.
+#[rustfmt::skip]
 pub const LEXING: &[&str] = &[
     "\"", "\"a", "a \"b", r#""a\""#, "\"a\"b\"", "\"(", "\\", "a\\", "a \\", r#""\"#, "f:\\", "a^\\",
     "(\\", "[", "]", "{", "}", "a[", "[a TO b]", "a]", "f:{1 TO 2}", "a^[", "*", "?", "a*", "a?b",
@@ -20,6 +24,7 @@ pub const LEXING: &[&str] = &[
 ];
 
 /// Refusals 8 and 9, and `~` where it is an unexpected token.
+#[rustfmt::skip]
 pub const TILDES: &[&str] = &[
     "a~", "a ~", "f:a~", "a~2", "1~", "(a~)", "-a~", "a AND b~", r"\AND~", "\"a\"~", "\"a b\"~2",
     "f:\"a\" ~", "\"\"~", "~", "a^2~", "(a)~", "f:~", "+~", r"a\~", "\"a~\"", "a~^2", "a^~",
@@ -27,6 +32,7 @@ pub const TILDES: &[&str] = &[
 ];
 
 /// Refusals 10 to 12.
+#[rustfmt::skip]
 pub const GRAMMAR: &[&str] = &[
     "+", "-", "!", "NOT", "a AND", "a OR", "a +", "f:", "f :", "a AND NOT", "(+", "(a AND", "a &&",
     "a ||", "f:g", ")", "a)", ":", "a::b", "a:b:c", "AND", "OR", "AND a", "OR a", "NOT NOT a", "++a",
@@ -37,6 +43,7 @@ pub const GRAMMAR: &[&str] = &[
 ];
 
 /// Refusals 13 and 14.
+#[rustfmt::skip]
 pub const BAD_BOOSTS: &[&str] = &[
     "a^x", "a^1e", "a^.", "a^1_0", "a^0x1", r"a^\ 1", r"a^1\ ", "a^infinit", "1^x", "\"\"^x", "(a)^x",
     "f:a^x", "\"a\"^x", "a^1f", "a^e5", "a^1e+", "a^1-", "a^1,5", r"a^\+", r"a^\-\-1", "a^1e5.0",
@@ -45,6 +52,7 @@ pub const BAD_BOOSTS: &[&str] = &[
 ];
 
 /// Boosts that are read.
+#[rustfmt::skip]
 pub const BOOSTS: &[&str] = &[
     "a^2", "a^ 2", "a ^2", "a ^ 2", "a^2 b", r"a^\2", "a^1e-5", "a^1E5", "a^inf", "a^INFINITY",
     "a^nan", r"a^\-nan", r"a^\+NaN", r"a^\-0", "a^0", "a^1", "a^.5", "a^5.", "a^007", "(a b)^2",
@@ -54,6 +62,7 @@ pub const BOOSTS: &[&str] = &[
 ];
 
 /// Operators: signs, words, doubled bytes; and where they are text.
+#[rustfmt::skip]
 pub const OPERATORS: &[&str] = &[
     "&", "&&", "&a", "a&", "a &b", "a & b", "&&&", "& &", "|", "||", "|||", "a||b", "a || b", "a |b",
     "a|", "&|", "|&", "a && b", "a &&b", "a&& b", "a &&& b", "&&&&", "a && && b", r"\&&", r"&\&",
@@ -66,6 +75,7 @@ pub const OPERATORS: &[&str] = &[
 ];
 
 /// Clauses that analyze to nothing, and their conjunctions.
+#[rustfmt::skip]
 pub const NOTHING: &[&str] = &[
     "()", "\"\"", "1", "1 2", "(())", "f:()", "f:\"\"", "\" \"", "\"1 2\"", "-1", "+()", "() ()", "a AND 1",
     "a OR 1", "a AND ()", "-a AND 1", "-a OR 1", "a AND 1 b", "a AND 1 OR b", "a OR 1 AND b", "1 a AND b",
@@ -74,6 +84,7 @@ pub const NOTHING: &[&str] = &[
 ];
 
 /// Escapes.
+#[rustfmt::skip]
 pub const ESCAPES: &[&str] = &[
     r"\a", r"\\", r#"\""#, r"\ ", r"a\ b", r"\:", r"a\:b", r"a\:b:c", r"\::a", r"\+a", r"\-a", r"a\(b",
     r"\~", r#""\"""#, r#""a\"b""#, r#""\\""#, r#""a\b c""#, r"\!", r"\^", r"\*", r"a\^2", r"a\^2^3",
@@ -82,6 +93,7 @@ pub const ESCAPES: &[&str] = &[
 ];
 
 /// Quotes.
+#[rustfmt::skip]
 pub const QUOTES: &[&str] = &[
     "\"a\"", "\"a b\"", "\"A B a\"", "\"a 1 b\"", "\"wi-fi\"", "\"1 a\"", "a\"b\"c", "\"a\"\"b\"", "\"a\" \"b\"",
     "f:\"a b\"", "-\"a b\"^2", "\" a \"", "\"a\x1cb\"", "\"a  b\"", "\"\x1c\"", "\"a\tb\nc\"", "\"(a OR b)\"",
@@ -90,14 +102,15 @@ pub const QUOTES: &[&str] = &[
 ];
 
 /// Bytes 1C to 1F: the whitespace analyzer splits at them, the lexer does not.
+#[rustfmt::skip]
 pub const SEPARATORS: &[&str] = &[
     "\x1c", "a\x1cb", "a\x1d\x1eb", "\x1fa", "a\x1f", "a \x1c b", "a\x1cAND\x1cb", "a AND\x1cb", "\x1c+a", "\x1c(a)",
     "f\x1c:a", "a^\x1c2", "a^2\x1c", "a AND \x1c", "-\x1c", "\"a\x1db\x1ec\"", "a\x1b\x1cb",
 ];
 
 /// Texts for setups with analyzers of single fields: `g`, `k`, the empty name, and longer ones.
+#[rustfmt::skip]
 pub const FIELDS: &[&str] = &[
-    r"g:Wi-Fi Wi-Fi k:Wi\ Fi", "g:\"A B\" k:\"A B\" \"A B\"", "(g:A B)", "g:(A B)", "g:(k:A-1 B-1)",
-    "k:(A-1 g:B-1 C-1)", "g:(A-1)^2 A-1", "G:A-1 g:A-1", r"\g:A-1", "-g:A-1 +k:A-1", "f:A-1 g:(f:A-1)",
-    "A-1", "\"A-1 B-2\"", r"A\ B", "1", "g:1", "k:\"\"", "k:1 AND g:1 OR 1", "name-of-eight:A-1",
+    r"g:Wi-Fi Wi-Fi k:Wi\ Fi", "g:\"A B\" k:\"A B\" \"A B\"", "g:(A-1 k:A-1) A-1", "k:(A-1 g:B-1)^2 G:A-1",
+    r"\g:A-1 f:A-1", "g:(f:A-1)", "A-1", "\"A-1 B-2\"", r"A\ B", "k:1 AND g:1 OR 1", "k:\"\" name-of-eight:A-1",
 ];

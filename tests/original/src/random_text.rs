@@ -31,7 +31,7 @@ pub fn text(r: &mut Random, longest: usize) -> Vec<u8> {
     loop {
         let mut out = String::new();
         query(r, 3, &mut out);
-        if out.len() <= longest {
+        if out.len() <= longest && (!out.is_empty() || r.one_in(20)) {
             return out.into_bytes();
         }
     }

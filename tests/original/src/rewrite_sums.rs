@@ -2,7 +2,7 @@
 //! clauses beside Must.
 
 use crate::lists::List;
-use crate::rewrite_cases::{KINDS, a, b, boolean};
+use crate::rewrite_cases::{a, b, boolean};
 use original::search::{Occur, Query};
 
 pub fn add(list: &mut List) {
@@ -68,12 +68,14 @@ fn boosted(base: &Query, boost: f32) -> Query {
 
 fn sums(list: &mut List) {
     for boosts in SUMS {
-        for (kind, minimum) in [(Occur::Must, 0), (Occur::Should, 0), (Occur::Should, 2)] {
+        for (kind, minimum) in [(Occur::Must, 0), (Occur::Should, 1), (Occur::Should, 2)] {
             let clauses = boosts.iter().map(|x| (kind, boosted(&a(), *x)));
             let mut clauses: Vec<_> = clauses.collect();
             list.rewritten(&boolean(minimum, &clauses));
-            clauses.push((Occur::MustNot, b()));
-            list.rewritten(&boolean(minimum, &clauses));
+            if kind == Occur::Must {
+                clauses.push((Occur::MustNot, b()));
+                list.rewritten(&boolean(minimum, &clauses));
+            }
         }
     }
 }
@@ -149,7 +151,7 @@ fn filters(list: &mut List) {
     ];
     for row in rows {
         list.rewritten(&boolean(0, row));
-        for kind in KINDS {
+        for kind in [Occur::Must, Occur::Should] {
             let more = [row, &[(kind, b()), (kind, a())]].concat();
             list.rewritten(&boolean(0, &more));
         }
