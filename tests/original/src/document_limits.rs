@@ -7,6 +7,7 @@ use original::answers::Setup;
 
 pub fn add(list: &mut List) {
     names(list);
+    names_elsewhere(list);
     names_among_faults(list);
     brackets(list);
     brackets_among_faults(list);
@@ -41,12 +42,6 @@ fn names(list: &mut List) {
             format!("\\{good}:a"),
             format!("{good}:(a b)"),
             format!("{good}:\"a b\""),
-            format!("a:{bad}"),
-            format!("a:\"{bad}\""),
-            bad.clone(),
-            format!("{bad} a:b"),
-            format!("{bad}\\:a"),
-            format!("({good}:a) {bad}"),
         ],
     );
     all_refused(
@@ -64,6 +59,23 @@ fn names(list: &mut List) {
             (format!("{}:a", "n".repeat(1_000)), 15),
         ],
     );
+}
+
+fn names_elsewhere(list: &mut List) {
+    // No field name stands there, so 15 is not given.
+    let [good, bad] = [32, 33].map(|n| "n".repeat(n));
+    all_pass(
+        list,
+        &[
+            format!("a:{bad}"),
+            format!("a:\"{bad}\""),
+            bad.clone(),
+            format!("{bad} a:b"),
+            format!("{bad}\\:a"),
+            format!("({good}:a) {bad}"),
+        ],
+    );
+    // "up to eight field names, each with an analyzer of its own"
     let others = Setup::new(1, 3, b"").entry(1, good.as_bytes());
     passes(list, &others, format!("{good}:A\\ B").as_bytes());
     refused(list, &others, format!("{bad}:A\\ B").as_bytes(), 15);

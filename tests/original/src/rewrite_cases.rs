@@ -214,10 +214,11 @@ fn dropped(list: &mut List) {
     }
 }
 
-/// Clauses that become equal when they are rewritten, and ranges that are equal only by their bits.
-fn equal_after_rewriting(list: &mut List) {
+/// Pairs that become equal when they are rewritten, pairs that never do, and ranges whose equality is
+/// that of their bits.
+fn pairs() -> Vec<(Query, Query)> {
     let quiet = |bits| Bound::Included(f64::from_bits(bits));
-    let pairs = [
+    vec![
         (a(), phrase(&[("a", 9)])),
         (a(), a().boost(1.0)),
         (a(), boolean(1, &[(Occur::Should, a())])),
@@ -248,8 +249,11 @@ fn equal_after_rewriting(list: &mut List) {
         (Query::term("f", "a"), Query::term("g", "a")),
         (Query::term("f", "a"), Query::term("f", "A")),
         (Query::MatchAll, Query::MatchAll.boost(3.0)),
-    ];
-    for (first, second) in pairs {
+    ]
+}
+
+fn equal_after_rewriting(list: &mut List) {
+    for (first, second) in pairs() {
         for kind in KINDS {
             let clauses = [(kind, first.clone()), (kind, second.clone())];
             list.rewritten(&boolean(0, &clauses));
