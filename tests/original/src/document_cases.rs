@@ -3,7 +3,7 @@
 //! side of a line passes, the stored bytes are the original's.
 
 use crate::document_limits;
-use crate::lists::List;
+use crate::lists::{self, List};
 use original::answers::{Setup, parse};
 use original::limits::parse_is_compared;
 
@@ -12,7 +12,9 @@ pub fn list() -> List {
         "document.txt",
         &[
             "Answers to parsing that document 01 decides: refusals 1, 2, 3, 15, 16, 17 and their order.",
-            "operator analyzer field fields text refusal stored",
+            lists::PARSING,
+            lists::ENTRIES,
+            lists::BYTES,
             "Made by `tests/original/run --keep`; the refusals are written by hand in document_cases.rs.",
         ],
     );

@@ -10,6 +10,13 @@ use std::collections::BTreeSet;
 use std::fmt::Write;
 use std::path::Path;
 
+/// Lines for the heads of lists.
+pub const PARSING: &str = "Columns: operator analyzer field fields text refusal stored; refusal is 0 \
+                           for none, stored is `-` when refused.";
+pub const ENTRIES: &str =
+    "fields: for each entry one byte analyzer, one byte length of name, the name.";
+pub const BYTES: &str = "Bytes are lower-case hex, `-` for no bytes.";
+
 pub struct List {
     name: &'static str,
     head: Vec<String>,
@@ -68,6 +75,7 @@ impl List {
         let answer = parse(setup, text);
         if let Ok(stored) = &answer {
             stands_for_itself(stored);
+            assert!(rewrite_is_compared(stored), "too long or deep: {text:?}");
         }
         self.parsing(setup, text, &answer);
     }

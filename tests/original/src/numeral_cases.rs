@@ -1,6 +1,6 @@
 //! The cases of numerals.txt: numerals of at most 40 bytes, and texts that are none.
 
-use crate::lists::List;
+use crate::lists::{self, List};
 use original::random::Random;
 use original::random_text;
 
@@ -12,7 +12,8 @@ pub fn list(seed: u64) -> List {
         "numerals.txt",
         &[
             "The original's answers to boost numerals (str::parse::<f32>).",
-            "text refusal bits",
+            "Columns: text refusal bits; refusal is 0 for none, bits is `-` when refused.",
+            lists::BYTES,
             &format!("Made by `tests/original/run --keep`; seed {seed}."),
         ],
     );

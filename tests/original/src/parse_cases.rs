@@ -1,6 +1,6 @@
 //! The cases of parse.txt.
 
-use crate::lists::List;
+use crate::lists::{self, List};
 use crate::parse_tables as tables;
 use original::answers::Setup;
 use original::limits::parse_is_compared;
@@ -16,7 +16,9 @@ pub fn list(seed: u64) -> List {
         "parse.txt",
         &[
             "The original's answers to parsing.",
-            "operator analyzer field fields text refusal stored",
+            lists::PARSING,
+            lists::ENTRIES,
+            lists::BYTES,
             &format!("Made by `tests/original/run --keep`; seed {seed}."),
         ],
     );

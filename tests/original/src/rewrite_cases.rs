@@ -1,6 +1,6 @@
 //! The cases of rewrite.txt: small trees for each rule, deep and long ones, random ones.
 
-use crate::lists::List;
+use crate::lists::{self, List};
 use crate::rewrite_sums;
 use original::answers::parse;
 use original::random::Random;
@@ -17,7 +17,8 @@ pub fn list(seed: u64) -> List {
         "rewrite.txt",
         &[
             "The original's answers to rewriting.",
-            "query rounds rewritten",
+            "Columns: query rounds rewritten",
+            lists::BYTES,
             &format!("Made by `tests/original/run --keep`; seed {seed}."),
         ],
     );
