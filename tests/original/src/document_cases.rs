@@ -15,7 +15,7 @@ pub fn list() -> List {
             lists::PARSING,
             lists::ENTRIES,
             lists::BYTES,
-            "Made by `tests/original/run --keep`; the refusals are written by hand in document_cases.rs.",
+            "Made by `tests/original/run --keep`; refusals written by hand (document_cases.rs, document_limits.rs).",
         ],
     );
     setups(&mut list);
