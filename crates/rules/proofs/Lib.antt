@@ -1,0 +1,3 @@
+pub mod Bools
+pub mod Bigs
+pub mod Parts
