@@ -1,3 +1,4 @@
 pub mod Bools
 pub mod Bigs
 pub mod Parts
+pub mod Rows
