@@ -1,50 +1,23 @@
--- What a record holds besides queries: kinds, words and bounds, written and read back, read and written back. Section 'Stored form'.
+-- What a record holds besides queries: words and bounds, written and read back, read and written back. Section 'Stored form'.
 use mathlib.Core.Path.{_≡_, refl, sym, ap, _∙_}
 use mathlib.Core.Logic.{_⊎_, inl, inr}
 use Prim.Native.Nat.{ℕ, zero, suc, _+_, _^_, _≤_, _<_}
 use mathlib.Core.List.{List, [], _∷_, _++_}
 use mathlib.Core.Bool.{Bool, true, false, _&&_, _||_}
 use native.Mathlib.Omega.{arith}
-use native.Mathlib.Decide.{ℕ-discrete}
 use lib.ListN.{length, take, drop, length-append, take-append-drop}
 use lib.Seq.{take-at, drop-at, length-take-le}
 use lib.Dec.{leb, eqb}
 use borrow.Author.Tests.{leb-true, le-leb, eq-eqb, eqb-true}
-use Rattle.rules.specs.Numbers.{wordTag, mustTag, shouldTag, mustNotTag, filterTag, openTag, includedTag, excludedTag}
+use Rattle.rules.specs.Numbers.{wordTag, openTag, includedTag, excludedTag}
 use Rattle.rules.specs.Bytes.{Bytes, ofBig, big, isEmpty, isText, part, tagOf, bodyOf, restOf, isPart, every, each}
-use Rattle.rules.specs.Query.{Word, word, Kind, must, should, mustNot, filter, Bound, unbounded, included, excluded}
-use Rattle.rules.specs.Stored.{kindTag, encodeBound, encodeWords, ValidBound, ValidWords}
-use Rattle.rules.specs.Reading.{isWord, wordOf, isBound, boundOf, isKind, kindOf}
+use Rattle.rules.specs.Query.{Word, word, Bound, unbounded, included, excluded}
+use Rattle.rules.specs.Stored.{encodeBound, encodeWords, ValidBound, ValidWords}
+use Rattle.rules.specs.Reading.{isWord, wordOf, isBound, boundOf}
 use Rattle.rules.proofs.Bools.{and-l, and-r, both, either}
 use Rattle.rules.proofs.Bigs.{read-big, length-big, write-big, below-big}
 use Rattle.rules.proofs.Parts.{whole-part, body-part, rest-part, is-part, part-is, part-tag, bytes-body, bytes-take, bytes-rest, empty-nil}
 use Rattle.rules.proofs.Rows.{every-done, every-step, each-done, each-next, Row, done, next, row}
-
--- ---- kinds
-
-pub kind-back : (k : Kind) → kindOf (kindTag k) ≡ k
-kind-back must = refl
-kind-back should = refl
-kind-back mustNot = refl
-kind-back filter = refl
-
-pub is-kind : (k : Kind) → isKind (kindTag k) ≡ true
-is-kind must = refl
-is-kind should = refl
-is-kind mustNot = refl
-is-kind filter = refl
-
-pub kind-again : (t : ℕ) → isKind t ≡ true → kindTag (kindOf t) ≡ t
-kind-again t h =
-    let lo = leb-true mustTag t (and-l (leb mustTag t) (leb t filterTag) h) in
-    let hi = leb-true t filterTag (and-r (leb mustTag t) (leb t filterTag) h) in
-    go (ℕ-discrete t mustTag) (ℕ-discrete t shouldTag) (ℕ-discrete t mustNotTag) lo hi
-  where
-    go : Dec (t ≡ mustTag) → Dec (t ≡ shouldTag) → Dec (t ≡ mustNotTag) → mustTag ≤ t → t ≤ filterTag → kindTag (kindOf t) ≡ t
-    go (yes e) y z lo hi = rw e
-    go (no n) (yes e) z lo hi = rw e
-    go (no n) (no m) (yes e) lo hi = rw e
-    go (no n) (no m) (no l) lo hi = let e : t ≡ filterTag = omega arith in rw e
 
 -- ---- words
 

@@ -10,7 +10,7 @@ use Rattle.rules.proofs.Bools.{clash, and-l, and-r, and-no-l}
 use Rattle.rules.proofs.Parts.{length-rest}
 
 -- what follows the first part is shorter than the fuel that is left
-rest-within : (n x : ℕ) (s : List ℕ) → length (x ∷ s) ≤ suc n → length (restOf (x ∷ s)) ≤ n
+pub rest-within : (n x : ℕ) (s : List ℕ) → length (x ∷ s) ≤ suc n → length (restOf (x ∷ s)) ≤ n
 rest-within n x s h = rw length-rest (omega arith)
 
 -- a function that goes through a row by fuel does not depend on the fuel, once there is as much as the row is long
