@@ -2,7 +2,7 @@
 use mathlib.Core.Path.{_≡_, refl, sym, ap, _∙_}
 use mathlib.Core.Logic.{_⊎_, inl, inr}
 use Prim.Native.Nat.{ℕ, zero, suc, _+_, _^_, _≤_, _<_}
-use mathlib.Core.List.{List, [], _∷_, _++_}
+use mathlib.Core.List.{List, [], _∷_, _++_, append-nil}
 use mathlib.Core.Bool.{Bool, true, false, _&&_, _||_}
 use native.Mathlib.Omega.{arith}
 use lib.ListN.{length, take, drop, length-append, take-append-drop}
@@ -94,6 +94,17 @@ module _ (r : List ℕ) where
   bound-rest unbounded = rest-part openTag [] r
   bound-rest (included x) = rest-part includedTag (big 8 x) r
   bound-rest (excluded x) = rest-part excludedTag (big 8 x) r
+
+-- with nothing after it
+module _ (b : Bound) where
+  pub is-bound-one : isBound (encodeBound b) ≡ true
+  is-bound-one = rw append-nil at (is-bound [] b)
+
+  pub bound-back-one : ValidBound b → boundOf (encodeBound b) ≡ b
+  bound-back-one v = rw append-nil at (bound-back [] b v)
+
+  pub bound-rest-one : restOf (encodeBound b) ≡ []
+  bound-rest-one = rw append-nil at (bound-rest [] b)
 
 -- a bound that passes, by its tag
 pub data BoundIs (s : List ℕ) : Type 0 where

@@ -6,3 +6,4 @@ pub mod Tags
 pub mod Leaves
 pub mod Refusals
 pub mod Steps
+pub mod Inverse

@@ -47,6 +47,10 @@ query-tag t h =
     (from Q wholeRangeTag t (t-range whole)
     (from Q floatRangeTag t (t-range float) (λ m. absurd (omega arith)))))))))) (l .0)
 
+pub is-range : (n : Numbers) → isQuery (rangeTag n) ≡ true
+is-range whole = refl
+is-range float = refl
+
 pub kind-back : (k : Kind) → kindOf (kindTag k) ≡ k
 kind-back must = refl
 kind-back should = refl
