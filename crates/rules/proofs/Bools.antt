@@ -45,6 +45,13 @@ pub and-no-r : (a : Bool) {b : Bool} → b ≡ false → a && b ≡ false
 and-no-r true h = h
 and-no-r false h = refl
 
+-- four tests in a row
+pub and-four : (a b c d : Bool) → a && (b && (c && d)) ≡ true → (a ≡ true) × (b ≡ true) × (c ≡ true) × (d ≡ true)
+and-four a b c d h =
+    let k = and-r a (b && (c && d)) h in
+    let l = and-r b (c && d) k in
+    (and-l a (b && (c && d)) h, and-l b (c && d) k, and-l c d l, and-r c d l)
+
 -- ---- `||`
 
 pub or-l : {a : Bool} (b : Bool) → a ≡ true → a || b ≡ true

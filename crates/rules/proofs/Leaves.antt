@@ -151,3 +151,6 @@ module _ (s : List ℕ) where
       go (is-open i e) = rw (at-open (part-is openTag s i .1)) (ap {B = List ℕ} (λ b. part openTag b ++ restOf s) (sym e) ∙ part-tag openTag s B i, tt)
       go (is-included i l) = rw (at-included (part-is includedTag s i .1)) (limit-again includedTag B i l)
       go (is-excluded i l) = rw (at-excluded (part-is excludedTag s i .1)) (limit-again excludedTag B i l)
+
+  pub bound-last : Bytes s → isBound s ≡ true → isEmpty (restOf s) ≡ true → encodeBound (boundOf s) ≡ s
+  bound-last B h e = sym (append-nil (encodeBound (boundOf s))) ∙ rw (← empty-nil (restOf s) e) (bound-again B h .0)

@@ -7,3 +7,4 @@ pub mod Leaves
 pub mod Refusals
 pub mod Steps
 pub mod Inverse
+pub mod Sound
