@@ -8,3 +8,4 @@ pub mod Refusals
 pub mod Steps
 pub mod Inverse
 pub mod Sound
+pub mod Equal
