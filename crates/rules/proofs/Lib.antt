@@ -9,3 +9,4 @@ pub mod Steps
 pub mod Inverse
 pub mod Sound
 pub mod Equal
+pub mod Faults
