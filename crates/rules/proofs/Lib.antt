@@ -10,3 +10,4 @@ pub mod Inverse
 pub mod Sound
 pub mod Equal
 pub mod Faults
+pub mod Sizes

@@ -77,6 +77,45 @@ module _ (t : ℕ) (b : List ℕ) where
   pub is-one : isPart t (part t b) ≡ true
   is-one = both whole-one (eq-eqb t t refl)
 
+-- ---- bytes
+
+pub bytes-cons : (x : ℕ) (s : List ℕ) → x < 256 → Bytes s → Bytes (x ∷ s)
+bytes-cons x s h B zero = h
+bytes-cons x s h B (suc i) = B i
+
+pub bytes-append : (s t : List ℕ) → Bytes s → Bytes t → Bytes (s ++ t)
+bytes-append [] t B C = C
+bytes-append (x ∷ s) t B C = bytes-cons x (s ++ t) (B 0) (bytes-append s t (λ i. B (suc i)) C)
+
+pub bytes-part : (t : ℕ) (b : List ℕ) → t < 256 → length b < 65536 → Bytes b → Bytes (part t b)
+bytes-part t b h l B =
+    let n = length b in
+    bytes-cons t (n / 256 ∷ n % 256 ∷ b) h (bytes-cons (n / 256) (n % 256 ∷ b) (omega arith) (bytes-cons (n % 256) b (omega arith) B))
+
+pub bytes-text : (s : List ℕ) → isText s ≡ true → Bytes s
+unfolding isText
+bytes-text [] h = λ i. omega arith
+bytes-text (x ∷ s) h =
+    let l = leb-true x 0x7f (and-l (leb x 0x7f) (isText s) h) in
+    bytes-cons x s (omega arith) (bytes-text s (and-r (leb x 0x7f) (isText s) h))
+
+pub bytes-drop : (n : ℕ) (s : List ℕ) → Bytes s → Bytes (drop n s)
+bytes-drop n s B i = rw getD-drop (B (n + i))
+
+pub bytes-take : (n : ℕ) (s : List ℕ) → Bytes s → Bytes (take n s)
+bytes-take zero s B i = omega arith
+bytes-take (suc n) [] B i = B i
+bytes-take (suc n) (x ∷ s) B zero = B 0
+bytes-take (suc n) (x ∷ s) B (suc i) = bytes-take n s (λ j. B (suc j)) i
+
+pub bytes-body : (s : List ℕ) → Bytes s → Bytes (bodyOf s)
+unfolding bodyOf
+bytes-body s B = bytes-take (sizeOf s) (drop 3 s) (bytes-drop 3 s B)
+
+pub bytes-rest : (s : List ℕ) → Bytes s → Bytes (restOf s)
+unfolding restOf
+bytes-rest s B = bytes-drop (sizeOf s) (drop 3 s) (bytes-drop 3 s B)
+
 -- ---- read, then written
 
 pub whole-le : (s : List ℕ) → wholeOf s ≡ true → 3 + sizeOf s ≤ length s
@@ -116,23 +155,6 @@ cut-from k s = take-all (length s - k) (drop k s) (simp length-drop (omega arith
 pub cut-rest : (s : List ℕ) (n : ℕ) → n ≡ sizeOf s → take (length s - (3 + n)) (drop (3 + n) s) ≡ restOf s
 unfolding restOf
 cut-rest s n e = cut-from (3 + n) s ∙ sym (drop-drop n 3 s) ∙ ap (λ (k : ℕ). drop k (drop 3 s)) e
-
-pub bytes-drop : (n : ℕ) (s : List ℕ) → Bytes s → Bytes (drop n s)
-bytes-drop n s B i = rw getD-drop (B (n + i))
-
-pub bytes-take : (n : ℕ) (s : List ℕ) → Bytes s → Bytes (take n s)
-bytes-take zero s B i = omega arith
-bytes-take (suc n) [] B i = B i
-bytes-take (suc n) (x ∷ s) B zero = B 0
-bytes-take (suc n) (x ∷ s) B (suc i) = bytes-take n s (λ j. B (suc j)) i
-
-pub bytes-body : (s : List ℕ) → Bytes s → Bytes (bodyOf s)
-unfolding bodyOf
-bytes-body s B = bytes-take (sizeOf s) (drop 3 s) (bytes-drop 3 s B)
-
-pub bytes-rest : (s : List ℕ) → Bytes s → Bytes (restOf s)
-unfolding restOf
-bytes-rest s B = bytes-drop (sizeOf s) (drop 3 s) (bytes-drop 3 s B)
 
 pub part-again : (s : List ℕ) → Bytes s → wholeOf s ≡ true → part (tagOf s) (bodyOf s) ++ restOf s ≡ s
 unfolding bodyOf restOf
