@@ -11,3 +11,4 @@ pub mod Sound
 pub mod Equal
 pub mod Faults
 pub mod Sizes
+pub mod Views
