@@ -1,20 +1,21 @@
 -- Equal bytes are equal queries: comparing stored forms compares queries. Sections 'Stored form' and 'One round of rewriting'.
-use mathlib.Core.Path.{_≡_, refl, sym, ap, _∙_}
-use mathlib.Core.Logic.{_⊎_, inl, inr, _↔_}
+use mathlib.Core.Path.{_≡_, refl, sym, ap, _∙_, subst}
+use mathlib.Core.Logic.{_↔_}
 use Prim.Native.Nat.{ℕ, zero, suc, _+_, _≤_}
 use mathlib.Core.List.{List, [], _∷_}
 use mathlib.Core.Bool.{Bool, true, false, _&&_}
 use native.Mathlib.Omega.{arith}
 use lib.Dec.{eqb}
 use borrow.Author.Tests.{eqb-true, eq-eqb}
-use Rattle.rules.specs.Numbers.{Refusal, malformedQuery, deepQuery, Read, got, refused, need, onRead}
+use Rattle.rules.specs.Numbers.{got}
 use Rattle.rules.specs.Bytes.{Bytes, same}
-use Rattle.rules.specs.Query.{Query, Clauses, clause, depth, sameQuery, isYes, equal}
-use Rattle.rules.specs.Stored.{encode, Valid}
+use Rattle.rules.specs.Query.{Query, Clauses, depth, depths, sameQuery, isYes, equal}
+use Rattle.rules.specs.Stored.{encode, encodes, Valid, Valids}
 use Rattle.rules.specs.Reading.{decode}
 use Rattle.rules.proofs.Bools.{clash, and-l, and-r, both, alike}
 use Rattle.rules.proofs.Refusals.{got-same}
-use Rattle.rules.proofs.Inverse.{decode-encode}
+use Rattle.rules.proofs.Steps.{clausesOf}
+use Rattle.rules.proofs.Inverse.{decode-encode, clauses-encodes}
 use Rattle.rules.proofs.Sound.{Is, decode-sound}
 
 -- ---- the comparison of bytes
@@ -40,6 +41,18 @@ pub encode-injective : (p q : Query) → Valid p → Valid q → encode p ≡ en
 encode-injective p q v w e =
     let d = depth p + depth q in
     got-same (sym (decode-encode p d v (omega arith)) ∙ ap (decode d) e ∙ decode-encode q d w (omega arith))
+
+pub encodes-injective : (cs ds : Clauses) → Valids cs → Valids ds → encodes cs ≡ encodes ds → cs ≡ ds
+encodes-injective cs ds v w e =
+    let d = depths cs + depths ds in
+    got-same (sym (clauses-encodes cs d v (omega arith)) ∙ ap (clausesOf (decode d)) e ∙ clauses-encodes ds d w (omega arith))
+
+-- what is shown of one query that has these bytes is shown of each that has them
+pub of-one : (P : Query → Type 0) (p : Query) → Valid p → P p → (q : Query) → Valid q → encode p ≡ encode q → P q
+of-one P p v x q w e = subst P (encode-injective p q v w e) x
+
+pub of-ones : (P : Clauses → Type 0) (cs : Clauses) → Valids cs → P cs → (ds : Clauses) → Valids ds → encodes cs ≡ encodes ds → P ds
+of-ones P cs v x ds w e = subst P (encodes-injective cs ds v w e) x
 
 pub equal-eq : (p q : Query) → equal p q ≡ true → p ≡ q
 equal-eq p q h = go (sameQuery p q) h

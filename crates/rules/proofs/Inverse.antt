@@ -13,13 +13,13 @@ use Rattle.rules.specs.Numbers.{termTag, phraseTag, booleanTag, boostTag
 use Rattle.rules.specs.Bytes.{ofBig, big, isEmpty, isText, isField, part, bodyOf, restOf, isPart, every, each}
 use Rattle.rules.specs.Query.{Word, Kind, Numbers, whole, float, Bound, Query, term, phrase, boolean, boost, constantScore, matchAll, matchNone, range, Clauses, none, clause, depth, depths}
 use Rattle.rules.specs.Stored.{kindTag, rangeTag, encodeBound, encodeWords, encode, encodes, theNan, isBoost, ValidWords, ValidBound, Valid, Valids}
-use Rattle.rules.specs.Reading.{closed, emptyIn, termIn, isWord, wordOf, phraseIn, boundOf, rangeIn, boostIn, constantScoreIn, added, booleanIn, isQuery, bodyIn, decode}
+use Rattle.rules.specs.Reading.{closed, emptyIn, termIn, isWord, wordOf, phraseIn, boundOf, rangeIn, boostIn, constantScoreIn, added, booleanIn, isQuery, bodyIn, decode, readWithin}
 use Rattle.rules.proofs.Bools.{both, and-l}
 use Rattle.rules.proofs.Bigs.{read-big, length-big}
 use Rattle.rules.proofs.Parts.{whole-part, body-part, rest-part, is-part, whole-one, body-one, rest-one, is-one, field-part}
 use Rattle.rules.proofs.Tags.{is-range, kind-back, is-kind}
 use Rattle.rules.proofs.Leaves.{words-back, is-bound, bound-back, bound-rest, is-bound-one, bound-back-one, bound-rest-one}
-use Rattle.rules.proofs.Steps.{term-good, phrase-good, range-good, boost-in, boolean-in, clausesOf, clauses-done, clauses-next, in-range, decode-in}
+use Rattle.rules.proofs.Steps.{term-good, phrase-good, range-good, boost-in, boolean-in, clausesOf, clauses-done, clauses-next, in-range, decode-in, read-within}
 
 pub boost-below : (b : ℕ) → isBoost b ≡ true → b < 2 ^ 32
 boost-below b h = ltb-true b (2 ^ 32) (and-l (ltb b (2 ^ 32)) (not (nanBits binary32 b) || eqb b theNan) h)
@@ -98,3 +98,7 @@ mutual
   clauses-encodes none d v h = clauses-done (decode d) [] refl
   clauses-encodes (clause k q cs) d v h =
       clause-back (decode d) k (encode q) (encodes cs) q cs (decode-encode q d (v .0) (omega arith)) (clauses-encodes cs d (v .1) (omega arith))
+
+-- with the limit on the bytes before it
+pub read-encode : (most d : ℕ) (q : Query) → Valid q → depth q ≤ d → length (encode q) ≤ most → readWithin most d (encode q) ≡ got q
+read-encode most d q v h l = read-within most d (encode q) l ∙ decode-encode q d v h

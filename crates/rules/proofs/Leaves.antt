@@ -3,14 +3,14 @@ use mathlib.Core.Path.{_≡_, refl, sym, ap, _∙_}
 use mathlib.Core.Logic.{_⊎_, inl, inr}
 use Prim.Native.Nat.{ℕ, zero, suc, _+_, _^_, _≤_, _<_}
 use mathlib.Core.List.{List, [], _∷_, _++_, append-nil}
-use mathlib.Core.Bool.{Bool, true, false, _&&_, _||_}
+use mathlib.Core.Bool.{Bool, true, false, _&&_, _||_, and-false, or-false}
 use native.Mathlib.Omega.{arith}
 use lib.ListN.{length, take, drop, length-append, take-append-drop}
 use lib.Seq.{take-at, drop-at, length-take-le}
 use lib.Dec.{leb, eqb}
-use borrow.Author.Tests.{leb-true, le-leb, eq-eqb, eqb-true}
+use borrow.Author.Tests.{leb-true, le-leb, ne-eqb, eqb-true}
 use Rattle.rules.specs.Numbers.{wordTag, openTag, includedTag, excludedTag}
-use Rattle.rules.specs.Bytes.{Bytes, ofBig, big, isEmpty, isText, part, tagOf, bodyOf, restOf, isPart, every, each}
+use Rattle.rules.specs.Bytes.{Bytes, ofBig, big, isEmpty, isText, part, tagOf, bodyOf, restOf, wholeOf, isPart, every, each}
 use Rattle.rules.specs.Query.{Word, word, Bound, unbounded, included, excluded}
 use Rattle.rules.specs.Stored.{encodeBound, encodeWords, ValidBound, ValidWords}
 use Rattle.rules.specs.Reading.{isWord, wordOf, isBound, boundOf}
@@ -124,6 +124,27 @@ module _ (s : List ℕ) where
   pub at-excluded : tagOf s ≡ excludedTag → boundOf s ≡ excluded (ofBig (bodyOf s))
   unfolding boundOf
   at-excluded e = rw (e, boundOf)
+
+  -- the test, by the tag
+  pub bound-broken : wholeOf s ≡ false → isBound s ≡ false
+  unfolding isBound
+  bound-broken w = rw (w, isBound)
+
+  pub open-bound : wholeOf s ≡ true → tagOf s ≡ openTag → isBound s ≡ isEmpty (bodyOf s)
+  unfolding isBound
+  open-bound w e = rw (w, e, isBound) (or-false (isEmpty (bodyOf s)))
+
+  pub included-bound : wholeOf s ≡ true → tagOf s ≡ includedTag → isBound s ≡ eqb (length (bodyOf s)) 8
+  unfolding isBound
+  included-bound w e = rw (w, e, isBound)
+
+  pub excluded-bound : wholeOf s ≡ true → tagOf s ≡ excludedTag → isBound s ≡ eqb (length (bodyOf s)) 8
+  unfolding isBound
+  excluded-bound w e = rw (w, e, isBound)
+
+  pub no-bound : (tagOf s ≡ openTag → ⊥) → (tagOf s ≡ includedTag → ⊥) → (tagOf s ≡ excludedTag → ⊥) → isBound s ≡ false
+  unfolding isBound
+  no-bound x y z = rw (ne-eqb (tagOf s) openTag x, ne-eqb (tagOf s) includedTag y, ne-eqb (tagOf s) excludedTag z, isBound) (simp and-false)
 
   pub bound-is : isBound s ≡ true → BoundIs s
   unfolding isBound

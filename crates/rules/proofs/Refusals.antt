@@ -52,6 +52,9 @@ module _ {A : Type 0} where
   number-not (got a) n = absurd (n refl)
   number-not (refused r) n = (r, refl)
 
+  pub number-read : {a : A} (o : Read A) → o ≡ got a → 0 ≡ numberOf o
+  number-read o e = rw e
+
   pub number-refused : {r : Refusal} (o : Read A) → o ≡ refused r → number r ≡ numberOf o
   number-refused o e = rw e
 

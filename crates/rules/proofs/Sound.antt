@@ -8,11 +8,11 @@ use lib.ListN.{length, take, drop, take-append-drop}
 use lib.Seq.{length-take-le}
 use lib.Dec.{leb, eqb}
 use borrow.Author.Tests.{leb-true, eqb-true}
-use Rattle.rules.specs.Numbers.{termTag, phraseTag, booleanTag, boostTag, constantScoreTag, matchAllTag, matchNoneTag, fieldTag, textTag, minimumTag, malformedQuery, deepQuery, Read, got, refused, onRead}
+use Rattle.rules.specs.Numbers.{termTag, phraseTag, booleanTag, boostTag, constantScoreTag, matchAllTag, matchNoneTag, fieldTag, textTag, minimumTag, longQuery, malformedQuery, deepQuery, Read, got, refused, onRead}
 use Rattle.rules.specs.Bytes.{Bytes, ofBig, big, isEmpty, isText, part, tagOf, bodyOf, restOf, wholeOf, isPart, isFieldPart, every, each}
 use Rattle.rules.specs.Query.{Kind, Numbers, Query, term, phrase, boolean, boost, constantScore, matchAll, matchNone, range, Clauses, none, clause, depth, depths}
 use Rattle.rules.specs.Stored.{kindTag, rangeTag, encodeBound, encodeWords, encode, encodes, isBoost, Valid, Valids}
-use Rattle.rules.specs.Reading.{closed, emptyIn, termIn, isWord, wordOf, phraseIn, isBound, boundOf, rangeIn, boostIn, constantScoreIn, isKind, kindOf, added, clausesIn, booleanIn, isQuery, bodyIn, decode}
+use Rattle.rules.specs.Reading.{closed, emptyIn, termIn, isWord, wordOf, phraseIn, isBound, boundOf, rangeIn, boostIn, constantScoreIn, isKind, kindOf, added, clausesIn, booleanIn, isQuery, bodyIn, decode, readWithin}
 use Rattle.rules.proofs.Bools.{and-l, and-r, and-four}
 use Rattle.rules.proofs.Bigs.{write-big, below-big}
 use Rattle.rules.proofs.Parts.{empty-nil, bytes-body, bytes-rest, bytes-drop, bytes-take, part-again, part-tag, part-only, part-last, field-is}
@@ -114,7 +114,7 @@ module _ (d : ℕ) (sub : List ℕ → Read Query) (S : (b : List ℕ) (q : Quer
         deep = omega arith;
         valid = (and-r (leb 4 (length b)) (isBoost n) (k .0), I .valid) })
 
-  clauses-sound : (n : ℕ) (s : List ℕ) (cs : Clauses) → Bytes s → clausesIn sub n s ≡ got cs → Are d s cs
+  pub clauses-sound : (n : ℕ) (s : List ℕ) (cs : Clauses) → Bytes s → clausesIn sub n s ≡ got cs → Are d s cs
   unfolding clausesIn encode depth Valid
   clauses-sound zero [] cs B h = no-clause cs h
   clauses-sound zero (x ∷ r) cs B h = no-got h
@@ -166,3 +166,9 @@ decode-sound (suc d) s q B h =
     let t = query-tag (tagOf s) (and-r (wholeOf s) (isQuery (tagOf s)) (k .0)) in
     let c = closed-got (bodyIn (decode d) (tagOf s) (bodyOf s)) (isEmpty (restOf s)) q (k .1) in
     rw (part-only s B w (c .1)) at (body-sound d (decode d) (decode-sound d) t (bodyOf s) q (bytes-body s B) (c .0))
+
+-- with the limit on the bytes before it
+pub read-sound : (most d : ℕ) (s : List ℕ) (q : Query) → Bytes s → readWithin most d s ≡ got q → (length s ≤ most) × Is d s q
+read-sound most d s q B h =
+    let k = need-got (leb (length s) most) longQuery (decode d s) q h in
+    (leb-true (length s) most (k .0), decode-sound d s q B (k .1))

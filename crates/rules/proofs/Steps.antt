@@ -8,11 +8,11 @@ use native.Mathlib.Numerals.{sub-one}
 use lib.ListN.{length, take, drop}
 use lib.Dec.{leb, eqb}
 use borrow.Author.Tests.{eq-eqb, ne-eqb, le-leb, lt-leb, leb-true}
-use Rattle.rules.specs.Numbers.{termTag, phraseTag, booleanTag, boostTag, constantScoreTag, matchAllTag, matchNoneTag, wholeRangeTag, floatRangeTag, textTag, minimumTag, number, malformedQuery, deepQuery, Read, got, refused, need, onRead}
+use Rattle.rules.specs.Numbers.{termTag, phraseTag, booleanTag, boostTag, constantScoreTag, matchAllTag, matchNoneTag, wholeRangeTag, floatRangeTag, textTag, minimumTag, number, longQuery, malformedQuery, deepQuery, Read, got, refused, need, onRead}
 use Rattle.rules.specs.Bytes.{ofBig, isEmpty, isText, tagOf, bodyOf, restOf, wholeOf, isPart, isFieldPart, every, each}
 use Rattle.rules.specs.Query.{Numbers, whole, float, Query, term, phrase, boolean, boost, constantScore, matchAll, matchNone, range, Clauses, none}
 use Rattle.rules.specs.Stored.{rangeTag, isBoost}
-use Rattle.rules.specs.Reading.{numberOf, sound, closed, emptyIn, termIn, isWord, wordOf, phraseIn, isBound, boundOf, rangeIn, boostIn, constantScoreIn, isKind, kindOf, added, clausesIn, booleanIn, isQuery, bodyIn, decode}
+use Rattle.rules.specs.Reading.{numberOf, sound, closed, emptyIn, termIn, isWord, wordOf, phraseIn, isBound, boundOf, rangeIn, boostIn, constantScoreIn, isKind, kindOf, added, clausesIn, booleanIn, isQuery, bodyIn, decode, readWithin}
 use Rattle.rules.proofs.Bools.{clash, and-l, and-r, both, and-no-l, and-no-r}
 use Rattle.rules.proofs.Refusals.{need-yes, need-no, on-number, closed-good, closed-more, closed-fault, added-number, added-fault}
 use Rattle.rules.proofs.Rows.{enough, rest-within}
@@ -222,6 +222,13 @@ pub decode-in : (d : ℕ) (s : List ℕ) → (d ≡ 0 → ⊥) → (wholeOf s &&
 unfolding decode
 decode-in zero s n h = absurd (n refl)
 decode-in (suc d) s n h = rw (sub-one (suc d)) (need-yes malformedQuery _ h)
+
+-- with the limit on the bytes before it
+pub read-long : (most d : ℕ) (s : List ℕ) → most < length s → readWithin most d s ≡ refused longQuery
+read-long most d s h = need-no longQuery (decode d s) (lt-leb (length s) most h)
+
+pub read-within : (most d : ℕ) (s : List ℕ) → length s ≤ most → readWithin most d s ≡ decode d s
+read-within most d s h = need-yes longQuery (decode d s) (le-leb (length s) most h)
 
 -- the returns of a reader once the body is read: r is the body's number
 module _ (d : ℕ) (s : List ℕ) (r : ℕ) (some : d ≡ 0 → ⊥) (ok : (wholeOf s && isQuery (tagOf s)) ≡ true) (b : List ℕ) (eb : b ≡ bodyOf s)

@@ -47,6 +47,17 @@ query-tag t h =
     (from Q wholeRangeTag t (t-range whole)
     (from Q floatRangeTag t (t-range float) (λ m. absurd (omega arith)))))))))) (l .0)
 
+pub is-query : {t : ℕ} → QueryTag t → isQuery t ≡ true
+is-query t-term = refl
+is-query t-phrase = refl
+is-query t-boolean = refl
+is-query t-boost = refl
+is-query t-constantScore = refl
+is-query t-matchAll = refl
+is-query t-matchNone = refl
+is-query (t-range whole) = refl
+is-query (t-range float) = refl
+
 pub is-range : (n : Numbers) → isQuery (rangeTag n) ≡ true
 is-range whole = refl
 is-range float = refl
