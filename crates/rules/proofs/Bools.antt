@@ -1,7 +1,6 @@
 -- Laws of tests: `&&`, `||`, `cond`, and a test that is both true and false.
 use mathlib.Core.Path.{_≡_, refl, sym, _∙_}
 use mathlib.Core.Logic.{_⊎_, inl, inr}
-use Prim.Native.Nat.{ℕ}
 use mathlib.Core.Bool.{Bool, true, false, not, _&&_, _||_, cond, true≢false}
 use borrow.Author.Tests.{not-true, not-false}
 

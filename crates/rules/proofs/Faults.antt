@@ -2,13 +2,12 @@
 use mathlib.Core.Path.{_≡_, refl, subst}
 use mathlib.Core.Logic.{_⊎_, inl, inr}
 use Prim.Native.Nat.{ℕ, zero, suc}
-use mathlib.Core.List.{List, [], _∷_}
+use mathlib.Core.List.{List}
 use mathlib.Core.Bool.{Bool, true, false, _&&_, cond}
-use lib.ListN.{length, take, drop}
 use Rattle.rules.specs.Numbers.{Refusal, malformedQuery, deepQuery, Read, got, refused, need, onRead}
-use Rattle.rules.specs.Bytes.{ofBig, isEmpty, tagOf, bodyOf, restOf, wholeOf}
-use Rattle.rules.specs.Query.{Kind, Numbers, whole, float, Query, boolean, boost, constantScore, matchAll, matchNone, Clauses, clause}
-use Rattle.rules.specs.Reading.{closed, emptyIn, termIn, phraseIn, rangeIn, boostIn, constantScoreIn, isKind, kindOf, added, clausesIn, booleanIn, isQuery, bodyIn, decode}
+use Rattle.rules.specs.Bytes.{isEmpty, tagOf, bodyOf, restOf, wholeOf}
+use Rattle.rules.specs.Query.{Kind, Numbers, Query, Clauses, clause}
+use Rattle.rules.specs.Reading.{closed, emptyIn, termIn, phraseIn, rangeIn, boostIn, constantScoreIn, added, clausesIn, booleanIn, isQuery, bodyIn, decode}
 
 -- an answer that is no refusal, or one of the two
 pub data Faulty {A : Type 0} : Read A → Type 0 where

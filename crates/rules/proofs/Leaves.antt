@@ -1,12 +1,12 @@
 -- What a record holds besides queries: words and bounds, written and read back, read and written back. Section 'Stored form'.
 use mathlib.Core.Path.{_≡_, refl, sym, ap, _∙_}
 use mathlib.Core.Logic.{_⊎_, inl, inr}
-use Prim.Native.Nat.{ℕ, zero, suc, _+_, _^_, _≤_, _<_}
+use Prim.Native.Nat.{ℕ, _^_, _≤_, _<_}
 use mathlib.Core.List.{List, [], _∷_, _++_, append-nil}
 use mathlib.Core.Bool.{Bool, true, false, _&&_, _||_, and-false, or-false}
 use native.Mathlib.Omega.{arith}
 use lib.ListN.{length, take, drop, length-append, take-append-drop}
-use lib.Seq.{take-at, drop-at, length-take-le}
+use lib.Seq.{length-take-le}
 use lib.Dec.{leb, eqb}
 use borrow.Author.Tests.{leb-true, le-leb, ne-eqb, eqb-true}
 use Rattle.rules.specs.Numbers.{wordTag, openTag, includedTag, excludedTag}
@@ -15,7 +15,7 @@ use Rattle.rules.specs.Query.{Word, word, Bound, unbounded, included, ex
 use Rattle.rules.specs.Stored.{encodeBound, encodeWords, ValidBound, ValidWords}
 use Rattle.rules.specs.Reading.{isWord, wordOf, isBound, boundOf}
 use Rattle.rules.proofs.Bools.{and-l, and-r, both, either}
-use Rattle.rules.proofs.Bigs.{read-big, length-big, write-big, below-big}
+use Rattle.rules.proofs.Bigs.{read-big, write-big, below-big}
 use Rattle.rules.proofs.Parts.{whole-part, body-part, rest-part, is-part, part-is, part-tag, bytes-body, bytes-take, bytes-rest, empty-nil}
 use Rattle.rules.proofs.Rows.{every-done, every-step, each-done, each-next, Row, done, next, row}
 
@@ -37,9 +37,10 @@ words-back [] v = (every-done isWord [] refl, each-done wordOf [] refl)
 words-back (word p t ∷ ws) v =
     let b = big 4 p ++ t in
     let s = part wordTag b ++ encodeWords ws in
-    let R = words-back ws (v .2) in
-    (every-step isWord s refl ∙ both (is-word p t (encodeWords ws) ∙ v .1) (ap (every isWord) (rest-part wordTag b (encodeWords ws)) ∙ R .0),
-     each-next wordOf s refl ∙ rw (word-back p t (encodeWords ws) (v .0), rest-part wordTag b (encodeWords ws), R .1))
+    let R = words-back ws (v .2) in (
+      every-step isWord s refl ∙ both (is-word p t (encodeWords ws) ∙ v .1) (ap (every isWord) (rest-part wordTag b (encodeWords ws)) ∙ R .0),
+      each-next wordOf s refl ∙ rw (word-back p t (encodeWords ws) (v .0), rest-part wordTag b (encodeWords ws), R .1),
+    )
 
 pub record WordIs (s : List ℕ) : Type 0 where
   pub is : isPart wordTag s ≡ true
@@ -53,7 +54,8 @@ word-is s h =
     record {
       is = and-l (isPart wordTag s) (leb 4 (length b) && isText (drop 4 b)) h;
       long = leb-true 4 (length b) (and-l (leb 4 (length b)) (isText (drop 4 b)) k);
-      text = and-r (leb 4 (length b)) (isText (drop 4 b)) k }
+      text = and-r (leb 4 (length b)) (isText (drop 4 b)) k;
+    }
 
 words-row : {s : List ℕ} → Row isWord s → Bytes s → (encodeWords (each wordOf s) ≡ s) × ValidWords (each wordOf s)
 unfolding encodeWords ValidWords
@@ -65,12 +67,13 @@ words-row (next {x} {s} h r) B =
     let four = length-take-le 4 b (w .long) in
     let B4 = bytes-take 4 b (bytes-body t B) in
     let R = words-row r (bytes-rest t B) in
-    rw (each-next wordOf t refl)
-    (ap {B = List ℕ} (λ l. part wordTag (l ++ drop 4 b) ++ encodeWords (each wordOf (restOf t))) (write-big 4 (take 4 b) B4 four)
-     ∙ ap {B = List ℕ} (λ l. part wordTag l ++ encodeWords (each wordOf (restOf t))) (take-append-drop 4 b)
-     ∙ ap {B = List ℕ} (λ l. part wordTag b ++ l) (R .0)
-     ∙ part-tag wordTag t B (w .is),
-     (below-big 4 (take 4 b) B4 four, w .text, R .1))
+    rw (each-next wordOf t refl) (
+      ap {B = List ℕ} (λ l. part wordTag (l ++ drop 4 b) ++ encodeWords (each wordOf (restOf t))) (write-big 4 (take 4 b) B4 four)
+          ∙ ap {B = List ℕ} (λ l. part wordTag l ++ encodeWords (each wordOf (restOf t))) (take-append-drop 4 b)
+          ∙ ap {B = List ℕ} (λ l. part wordTag b ++ l) (R .0)
+          ∙ part-tag wordTag t B (w .is),
+      (below-big 4 (take 4 b) B4 four, w .text, R .1),
+    )
 
 pub words-again : (s : List ℕ) → Bytes s → every isWord s ≡ true → (encodeWords (each wordOf s) ≡ s) × ValidWords (each wordOf s)
 words-again s B h = words-row (row isWord s h) B
@@ -152,18 +155,23 @@ module _ (s : List ℕ) where
     where
       limited : Bool
       limited = isPart includedTag s || isPart excludedTag s
+
       limit : (isPart includedTag s ≡ true) ⊎ (isPart excludedTag s ≡ true) → length (bodyOf s) ≡ 8 → BoundIs s
       limit (inl i) l = is-included i l
       limit (inr i) l = is-excluded i l
+
       go : ((isPart openTag s && isEmpty (bodyOf s)) ≡ true) ⊎ ((limited && eqb (length (bodyOf s)) 8) ≡ true) → BoundIs s
       go (inl k) = is-open (and-l (isPart openTag s) (isEmpty (bodyOf s)) k) (empty-nil (bodyOf s) (and-r (isPart openTag s) (isEmpty (bodyOf s)) k))
-      go (inr k) = limit (either (isPart includedTag s) (isPart excludedTag s) (and-l limited (eqb (length (bodyOf s)) 8) k)) (eqb-true (length (bodyOf s)) 8 (and-r limited (eqb (length (bodyOf s)) 8) k))
+      go (inr k) =
+          limit (either (isPart includedTag s) (isPart excludedTag s) (and-l limited (eqb (length (bodyOf s)) 8) k))
+          (eqb-true (length (bodyOf s)) 8 (and-r limited (eqb (length (bodyOf s)) 8) k))
 
   limit-again : (t : ℕ) → Bytes s → isPart t s ≡ true → length (bodyOf s) ≡ 8
       → (part t (big 8 (ofBig (bodyOf s))) ++ restOf s ≡ s) × (ofBig (bodyOf s) < 2 ^ 64)
-  limit-again t B h l =
-      (ap {B = List ℕ} (λ b. part t b ++ restOf s) (write-big 8 (bodyOf s) (bytes-body s B) l) ∙ part-tag t s B h,
-       below-big 8 (bodyOf s) (bytes-body s B) l)
+  limit-again t B h l = (
+    ap {B = List ℕ} (λ b. part t b ++ restOf s) (write-big 8 (bodyOf s) (bytes-body s B) l) ∙ part-tag t s B h,
+    below-big 8 (bodyOf s) (bytes-body s B) l,
+  )
 
   pub bound-again : Bytes s → isBound s ≡ true → (encodeBound (boundOf s) ++ restOf s ≡ s) × ValidBound (boundOf s)
   bound-again B h = go (bound-is h)

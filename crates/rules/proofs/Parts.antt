@@ -2,7 +2,7 @@
 use mathlib.Core.Path.{_≡_, refl, sym, ap, _∙_}
 use Prim.Native.Nat.{ℕ, zero, suc, _+_, _-_, _*_, _/_, _%_, _≤_, _<_}
 use mathlib.Core.List.{List, [], _∷_, _++_, append-nil}
-use mathlib.Core.Bool.{Bool, true, false, _&&_}
+use mathlib.Core.Bool.{true, false, _&&_}
 use native.Mathlib.Omega.{arith}
 use native.Mathlib.Nat.{div-add-mod', add-sub-cancel-left}
 use lib.Arith.{digits-div, digits-mod}
@@ -12,7 +12,7 @@ use lib.Dec.{leb, eqb}
 use borrow.Author.Tests.{leb-true, le-leb, lt-leb, eq-eqb, eqb-true, ne-eqb}
 use Rattle.rules.specs.Numbers.{fieldTag}
 use Rattle.rules.specs.Bytes.{Bytes, isEmpty, isText, isField, part, tagOf, sizeOf, bodyOf, restOf, wholeOf, isPart, isFieldPart}
-use Rattle.rules.proofs.Bools.{clash, and-l, and-r, both, and-no-l, and-no-r}
+use Rattle.rules.proofs.Bools.{clash, and-l, and-r, both, and-no-r}
 
 -- ---- empty lists
 
@@ -46,8 +46,8 @@ module _ (t : ℕ) (b r : List ℕ) where
   pub whole-part : wholeOf (part t b ++ r) ≡ true
   unfolding wholeOf
   whole-part =
-    let h : 3 + sizeOf (part t b ++ r) ≤ length (part t b ++ r) = omega (arith, size-part, length-append b r) in
-    le-leb _ _ h
+      let h : 3 + sizeOf (part t b ++ r) ≤ length (part t b ++ r) = omega (arith, size-part, length-append b r) in
+      le-leb _ _ h
 
   pub body-part : bodyOf (part t b ++ r) ≡ b
   unfolding bodyOf

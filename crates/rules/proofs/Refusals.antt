@@ -1,5 +1,5 @@
 -- What was read, or the refusal: laws of `need`, `onRead`, `closed` and `added`, and of the number that an answer gives for it.
-use mathlib.Core.Path.{_≡_, refl, sym, _∙_}
+use mathlib.Core.Path.{_≡_, refl, sym}
 use Prim.Native.Nat.{ℕ}
 use mathlib.Core.Bool.{Bool, true, false}
 use native.Mathlib.Omega.{arith}

@@ -1,16 +1,16 @@
 -- How long stored forms are, and that they are bytes where their lengths fit. Section 'Stored form'.
-use mathlib.Core.Path.{_≡_, refl, sym, ap, _∙_}
-use Prim.Native.Nat.{ℕ, zero, suc, _+_, _^_, _≤_, _<_}
+use mathlib.Core.Path.{_≡_, refl, ap, _∙_}
+use Prim.Native.Nat.{ℕ, _+_, _≤_, _<_}
 use mathlib.Core.List.{List, [], _∷_, _++_}
-use mathlib.Core.Bool.{Bool, true, false}
+use mathlib.Core.Bool.{true}
 use native.Mathlib.Omega.{arith}
-use lib.ListN.{length, getD, length-append}
+use lib.ListN.{length, length-append}
 use lib.Dec.{leb}
 use borrow.Author.Tests.{leb-true}
 use Rattle.rules.specs.Numbers.{fieldMost, fieldTag, textTag, wordTag, minimumTag, openTag, includedTag, excludedTag, termTag, phraseTag, booleanTag, boostTag, constantScoreTag, matchAllTag, matchNoneTag}
 use Rattle.rules.specs.Bytes.{Bytes, big, isText, isField, part}
 use Rattle.rules.specs.Query.{Word, word, Kind, must, should, mustNot, filter, Numbers, whole, float, Bound, unbounded, included, excluded, Query, term, phrase, boolean, boost, constantScore, matchAll, matchNone, range, Clauses, none, clause}
-use Rattle.rules.specs.Stored.{kindTag, rangeTag, encodeBound, encodeWords, encode, encodes, ValidWords, ValidBound, Valid, Valids}
+use Rattle.rules.specs.Stored.{kindTag, rangeTag, encodeBound, encodeWords, encode, encodes, ValidWords, Valid, Valids}
 use Rattle.rules.proofs.Bools.{and-l, and-r}
 use Rattle.rules.proofs.Bigs.{bytes-big}
 use Rattle.rules.proofs.Parts.{length-part, bytes-append, bytes-part, bytes-text}
@@ -115,6 +115,7 @@ range-byte float = omega arith
 -- the body of a record that is not too long fits its header
 mutual
   unfolding encode Valid
+
   pub bytes-encode : (q : Query) → Valid q → length (encode q) < 3 + 65536 → Bytes (encode q)
   bytes-encode (term f t) v l =
       let n = length-term f t in

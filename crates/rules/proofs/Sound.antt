@@ -1,21 +1,21 @@
 -- What is read is what was written: bytes that are read as q are its stored form, and q is valid and not too deep. Section 'Stored form'.
 use mathlib.Core.Path.{_≡_, refl, sym, ap, _∙_}
-use Prim.Native.Nat.{ℕ, zero, suc, _+_, _^_, _≤_, _<_}
+use Prim.Native.Nat.{ℕ, zero, suc, _≤_}
 use mathlib.Core.List.{List, [], _∷_, _++_}
-use mathlib.Core.Bool.{Bool, true, false, _&&_}
+use mathlib.Core.Bool.{true, _&&_}
 use native.Mathlib.Omega.{arith}
 use lib.ListN.{length, take, drop, take-append-drop}
 use lib.Seq.{length-take-le}
 use lib.Dec.{leb, eqb}
 use borrow.Author.Tests.{leb-true, eqb-true}
-use Rattle.rules.specs.Numbers.{termTag, phraseTag, booleanTag, boostTag, constantScoreTag, matchAllTag, matchNoneTag, fieldTag, textTag, minimumTag, longQuery, malformedQuery, deepQuery, Read, got, refused, onRead}
-use Rattle.rules.specs.Bytes.{Bytes, ofBig, big, isEmpty, isText, part, tagOf, bodyOf, restOf, wholeOf, isPart, isFieldPart, every, each}
-use Rattle.rules.specs.Query.{Kind, Numbers, Query, term, phrase, boolean, boost, constantScore, matchAll, matchNone, range, Clauses, none, clause, depth, depths}
+use Rattle.rules.specs.Numbers.{termTag, phraseTag, booleanTag, boostTag, constantScoreTag, matchAllTag, matchNoneTag, fieldTag, textTag, minimumTag, longQuery, malformedQuery, deepQuery, Read, got, refused}
+use Rattle.rules.specs.Bytes.{Bytes, ofBig, isEmpty, isText, part, tagOf, bodyOf, restOf, wholeOf, isPart, isFieldPart, every, each}
+use Rattle.rules.specs.Query.{Numbers, Query, boolean, boost, constantScore, matchAll, matchNone, Clauses, none, clause, depth, depths}
 use Rattle.rules.specs.Stored.{kindTag, rangeTag, encodeBound, encodeWords, encode, encodes, isBoost, Valid, Valids}
-use Rattle.rules.specs.Reading.{closed, emptyIn, termIn, isWord, wordOf, phraseIn, isBound, boundOf, rangeIn, boostIn, constantScoreIn, isKind, kindOf, added, clausesIn, booleanIn, isQuery, bodyIn, decode, readWithin}
+use Rattle.rules.specs.Reading.{emptyIn, termIn, isWord, wordOf, phraseIn, isBound, boundOf, rangeIn, boostIn, constantScoreIn, isKind, kindOf, clausesIn, booleanIn, isQuery, bodyIn, decode, readWithin}
 use Rattle.rules.proofs.Bools.{and-l, and-r, and-four}
 use Rattle.rules.proofs.Bigs.{write-big, below-big}
-use Rattle.rules.proofs.Parts.{empty-nil, bytes-body, bytes-rest, bytes-drop, bytes-take, part-again, part-tag, part-only, part-last, field-is}
+use Rattle.rules.proofs.Parts.{bytes-body, bytes-rest, bytes-drop, bytes-take, part-again, part-tag, part-only, part-last, field-is}
 use Rattle.rules.proofs.Tags.{QueryTag, t-term, t-phrase, t-boolean, t-boost, t-constantScore, t-matchAll, t-matchNone, t-range, query-tag, kind-again}
 use Rattle.rules.proofs.Leaves.{words-again, bound-again, bound-last}
 use Rattle.rules.proofs.Refusals.{no-got, got-same, need-got, on-got, closed-got, added-got}
@@ -63,7 +63,8 @@ module _ (d : ℕ) (sub : List ℕ → Read Query) (S : (b : List ℕ) (q : Quer
       rw (sym (got-same (k .1))) (record {
         form = ap (part termTag) (fielded b (part textTag (bodyOf r)) B (f .0) (part-last textTag r (bytes-rest b B) (c .1) (c .3)));
         deep = omega arith;
-        valid = (f .1, c .2) })
+        valid = (f .1, c .2);
+      })
 
   is-phrase : (b : List ℕ) (q : Query) → Bytes b → phraseIn b ≡ got q → Is (suc d) (part phraseTag b) q
   unfolding phraseIn encode depth Valid
@@ -75,7 +76,8 @@ module _ (d : ℕ) (sub : List ℕ → Read Query) (S : (b : List ℕ) (q : Quer
       rw (sym (got-same (k .1))) (record {
         form = ap (part phraseTag) (fielded b (encodeWords (each wordOf r)) B (f .0) (W .0));
         deep = omega arith;
-        valid = (f .1, W .1) })
+        valid = (f .1, W .1);
+      })
 
   is-range : (n : Numbers) (b : List ℕ) (q : Query) → Bytes b → rangeIn n b ≡ got q → Is (suc d) (part (rangeTag n) b) q
   unfolding rangeIn encode depth Valid
@@ -92,7 +94,8 @@ module _ (d : ℕ) (sub : List ℕ → Read Query) (S : (b : List ℕ) (q : Quer
       rw (sym (got-same (k .1))) (record {
         form = range-form n (bodyOf b) (boundOf l) (boundOf u) ∙ ap (part (rangeTag n)) (fielded b (encodeBound (boundOf l) ++ encodeBound (boundOf u)) B (f .0) e);
         deep = omega arith;
-        valid = (f .1, L .1, bound-again u Bu (c .2) .1) })
+        valid = (f .1, L .1, bound-again u Bu (c .2) .1);
+      })
 
   is-constant : (b : List ℕ) (q : Query) → Bytes b → constantScoreIn sub b ≡ got q → Is (suc d) (part constantScoreTag b) q
   unfolding constantScoreIn encode depth Valid
@@ -112,7 +115,8 @@ module _ (d : ℕ) (sub : List ℕ → Read Query) (S : (b : List ℕ) (q : Quer
       rw (a .2) (record {
         form = ap (part boostTag) (ap {B = List ℕ} (λ r. r ++ encode (a .0)) w ∙ ap {B = List ℕ} (λ r. take 4 b ++ r) (I .form) ∙ take-append-drop 4 b);
         deep = omega arith;
-        valid = (and-r (leb 4 (length b)) (isBoost n) (k .0), I .valid) })
+        valid = (and-r (leb 4 (length b)) (isBoost n) (k .0), I .valid);
+      })
 
   pub clauses-sound : (n : ℕ) (s : List ℕ) (cs : Clauses) → Bytes s → clausesIn sub n s ≡ got cs → Are d s cs
   unfolding clausesIn encode depth Valid
@@ -129,7 +133,8 @@ module _ (d : ℕ) (sub : List ℕ → Read Query) (S : (b : List ℕ) (q : Quer
       rw (a .4) (record {
         form = one-clause x (a .0) (a .1) s (kind-again x (and-r (wholeOf s) (isKind x) (k .0))) (I .form) (R .form) (part-again s B w);
         deep = omega arith;
-        valid = (I .valid, R .valid) })
+        valid = (I .valid, R .valid);
+      })
 
   is-boolean : (b : List ℕ) (q : Query) → Bytes b → booleanIn sub b ≡ got q → Is (suc d) (part booleanTag b) q
   unfolding booleanIn encode depth Valid
@@ -144,7 +149,8 @@ module _ (d : ℕ) (sub : List ℕ → Read Query) (S : (b : List ℕ) (q : Quer
         form = ap (part booleanTag) (ap {B = List ℕ} (λ r. part minimumTag r ++ encodes (a .0)) (write-big 2 (bodyOf b) (bytes-body b B) l)
             ∙ ap {B = List ℕ} (λ r. part minimumTag (bodyOf b) ++ r) (A .form) ∙ part-tag minimumTag b B (and-l (isPart minimumTag b) two (k .0)));
         deep = omega arith;
-        valid = (below-big 2 (bodyOf b) (bytes-body b B) l, A .valid) })
+        valid = (below-big 2 (bodyOf b) (bytes-body b B) l, A .valid);
+      })
 
   body-sound : {t : ℕ} → QueryTag t → (b : List ℕ) (q : Query) → Bytes b → bodyIn sub t b ≡ got q → Is (suc d) (part t b) q
   unfolding bodyIn encode depth Valid

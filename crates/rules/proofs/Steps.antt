@@ -1,19 +1,19 @@
 -- The reading, a step at a time, as the returns of code ask for it. Sections 'Stored form' and 'Refusal numbers', 'Rewrite order'.
 use mathlib.Core.Path.{_≡_, refl, sym, ap, _∙_}
-use Prim.Native.Nat.{ℕ, zero, suc, _+_, _-_, _≤_, _<_}
+use Prim.Native.Nat.{ℕ, zero, suc, _-_, _≤_, _<_}
 use mathlib.Core.List.{List, [], _∷_}
-use mathlib.Core.Bool.{Bool, true, false, _&&_}
+use mathlib.Core.Bool.{true, false, _&&_}
 use native.Mathlib.Omega.{arith}
 use native.Mathlib.Numerals.{sub-one}
 use lib.ListN.{length, take, drop}
 use lib.Dec.{leb, eqb}
-use borrow.Author.Tests.{eq-eqb, ne-eqb, le-leb, lt-leb, leb-true}
-use Rattle.rules.specs.Numbers.{termTag, phraseTag, booleanTag, boostTag, constantScoreTag, matchAllTag, matchNoneTag, wholeRangeTag, floatRangeTag, textTag, minimumTag, number, longQuery, malformedQuery, deepQuery, Read, got, refused, need, onRead}
+use borrow.Author.Tests.{le-leb, lt-leb}
+use Rattle.rules.specs.Numbers.{termTag, phraseTag, booleanTag, boostTag, constantScoreTag, matchAllTag, matchNoneTag, textTag, minimumTag, number, longQuery, malformedQuery, deepQuery, Read, got, refused, onRead}
 use Rattle.rules.specs.Bytes.{ofBig, isEmpty, isText, tagOf, bodyOf, restOf, wholeOf, isPart, isFieldPart, every, each}
 use Rattle.rules.specs.Query.{Numbers, whole, float, Query, term, phrase, boolean, boost, constantScore, matchAll, matchNone, range, Clauses, none}
 use Rattle.rules.specs.Stored.{rangeTag, isBoost}
 use Rattle.rules.specs.Reading.{numberOf, sound, closed, emptyIn, termIn, isWord, wordOf, phraseIn, isBound, boundOf, rangeIn, boostIn, constantScoreIn, isKind, kindOf, added, clausesIn, booleanIn, isQuery, bodyIn, decode, readWithin}
-use Rattle.rules.proofs.Bools.{clash, and-l, and-r, both, and-no-l, and-no-r}
+use Rattle.rules.proofs.Bools.{clash, both, and-no-l, and-no-r}
 use Rattle.rules.proofs.Refusals.{need-yes, need-no, on-number, closed-good, closed-more, closed-fault, added-number, added-fault}
 use Rattle.rules.proofs.Rows.{enough, rest-within}
 

@@ -1,21 +1,20 @@
 -- What checked bytes show of the query whose stored form they are, by tag: for functions over stored queries. Section 'Stored form'.
 use mathlib.Core.Path.{_≡_, refl, sym, ap, _∙_, subst}
-use Prim.Native.Nat.{ℕ, _+_, _^_, _≤_, _<_}
-use mathlib.Core.List.{List, [], _∷_, _++_}
-use mathlib.Core.Bool.{Bool, true, false, _&&_}
+use Prim.Native.Nat.{ℕ, _≤_}
+use mathlib.Core.List.{List, [], _++_}
+use mathlib.Core.Bool.{Bool, true, false}
 use native.Mathlib.Omega.{arith}
 use lib.ListN.{length, take, drop, length-append}
-use lib.Seq.{take-at, drop-at}
 use Rattle.rules.specs.Numbers.{termTag, phraseTag, booleanTag, boostTag, constantScoreTag, matchAllTag, matchNoneTag, wholeRangeTag, floatRangeTag, fieldTag, textTag, minimumTag}
-use Rattle.rules.specs.Bytes.{ofBig, big, isEmpty, isText, isField, part, tagOf, bodyOf, restOf, wholeOf, isPart, isFieldPart, every, each}
+use Rattle.rules.specs.Bytes.{ofBig, big, isEmpty, isField, part, tagOf, bodyOf, restOf, wholeOf, isPart, isFieldPart, every, each}
 use Rattle.rules.specs.Query.{Word, Kind, Numbers, whole, float, Bound, Query, term, phrase, boolean, boost, constantScore, matchAll, matchNone, range, Clauses, none, clause}
-use Rattle.rules.specs.Stored.{kindTag, rangeTag, encodeBound, encodeWords, encode, encodes, isBoost, ValidBound, Valid, Valids}
-use Rattle.rules.specs.Reading.{isWord, wordOf, isBound, boundOf, isKind, kindOf}
+use Rattle.rules.specs.Stored.{kindTag, rangeTag, encodeBound, encodeWords, encode, encodes, isBoost, Valid, Valids}
+use Rattle.rules.specs.Reading.{isWord, wordOf, isBound, boundOf, kindOf}
 use Rattle.rules.proofs.Bools.{clash}
 use Rattle.rules.proofs.Bigs.{read-big}
 use Rattle.rules.proofs.Parts.{whole-part, body-part, rest-part, is-part, whole-one, body-one, rest-one, is-one, field-part}
-use Rattle.rules.proofs.Tags.{QueryTag, t-term, t-phrase, t-boolean, t-boost, t-constantScore, t-matchAll, t-matchNone, t-range, is-kind, kind-back}
-use Rattle.rules.proofs.Leaves.{words-back, is-bound, bound-back, bound-rest, is-bound-one, bound-back-one, bound-rest-one}
+use Rattle.rules.proofs.Tags.{QueryTag, t-term, t-phrase, t-boolean, t-boost, t-constantScore, t-matchAll, t-matchNone, t-range, kind-back}
+use Rattle.rules.proofs.Leaves.{words-back, is-bound, bound-back, bound-rest, is-bound-one, bound-back-one}
 use Rattle.rules.proofs.Inverse.{boost-below, range-form}
 
 -- ---- a query, by its tag and its body
@@ -43,7 +42,8 @@ from-part t b s q k v e = subst (λ (l : List ℕ). Viewed l q) e (record {
   whole = whole-one t b;
   rest = rest-one t b;
   tag = k;
-  view = subst (λ (l : List ℕ). View t l q) (sym (body-one t b)) v })
+  view = subst (λ (l : List ℕ). View t l q) (sym (body-one t b)) v;
+})
 
 pub viewed : (q : Query) (s : List ℕ) → encode q ≡ s → Viewed s q
 unfolding encode
@@ -84,7 +84,8 @@ as-term (v-term {f} {t}) v =
     record {
       is = rw (F .field, F .rest, body-one textTag t);
       field = F .is;
-      text = rw (F .rest) (is-one textTag t) }
+      text = rw (F .rest) (is-one textTag t);
+    }
 
 pub record AsPhrase (b : List ℕ) (q : Query) : Type 0 where
   pub is : q ≡ phrase (bodyOf b) (each wordOf (restOf b))
@@ -99,7 +100,8 @@ as-phrase (v-phrase {f} {ws}) v =
     record {
       is = rw (F .field, F .rest, W .1);
       field = F .is;
-      words = rw (F .rest) (W .0) }
+      words = rw (F .rest) (W .0);
+    }
 
 pub record AsRange (n : Numbers) (b : List ℕ) (q : Query) : Type 0 where
   pub is : q ≡ range n (bodyOf b) (boundOf (restOf b)) (boundOf (restOf (restOf b)))
@@ -116,7 +118,8 @@ range-shown n f l u v =
       is = rw (F .field, F .rest, bound-back e l (v .1), bound-rest e l, bound-back-one u (v .2));
       field = F .is;
       lower = rw (F .rest) (is-bound e l);
-      upper = rw (F .rest, bound-rest e l) (is-bound-one u) }
+      upper = rw (F .rest, bound-rest e l) (is-bound-one u);
+    }
 
 pub as-range : (n : Numbers) {b : List ℕ} {q : Query} → View (rangeTag n) b q → Valid q → AsRange n b q
 as-range whole (v-whole {f} {l} {u}) v = range-shown whole f l u v
@@ -140,7 +143,8 @@ as-boolean (v-boolean {m} {cs}) v =
       minimum = is-part minimumTag (big 2 m) (encodes cs);
       two = ap length e;
       form = sym (rest-part minimumTag (big 2 m) (encodes cs));
-      valid = v .1 }
+      valid = v .1;
+    }
 
 pub record AsBoost (b : List ℕ) (q : Query) : Type 0 where
   pub inner : Query
@@ -160,7 +164,8 @@ as-boost (v-boost {b} {q}) v =
       long = omega (arith, length-append (big 4 b) (encode q));
       good = ap isBoost n ∙ v .0;
       form = refl;
-      valid = v .1 }
+      valid = v .1;
+    }
 
 pub record AsConstantScore (b : List ℕ) (q : Query) : Type 0 where
   pub inner : Query
@@ -224,7 +229,8 @@ front-of s (clause k q cs) h e v = record {
   form = sym (ap bodyOf (sym e) ∙ body-part (kindTag k) (encode q) (encodes cs));
   valid = v .0;
   form-others = sym (ap restOf (sym e) ∙ rest-part (kindTag k) (encode q) (encodes cs));
-  valid-others = v .1 }
+  valid-others = v .1;
+}
 
 pub no-front : (s : List ℕ) (cs : Clauses) → isEmpty s ≡ true → encodes cs ≡ s → cs ≡ none
 unfolding encodes
