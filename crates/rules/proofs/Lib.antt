@@ -1,1 +1,15 @@
+pub mod Bools
+pub mod Bigs
+pub mod Parts
+pub mod Rows
+pub mod Tags
+pub mod Leaves
+pub mod Refusals
+pub mod Steps
+pub mod Inverse
+pub mod Sound
+pub mod Equal
+pub mod Faults
+pub mod Sizes
+pub mod Views
 pub mod Cases

@@ -3,6 +3,7 @@ pub mod Bytes
 pub mod Query
 pub mod Stored
 pub mod Reading
+pub mod Checked
 pub mod Analysis
 pub mod Lexing
 pub mod Numerals

@@ -6,10 +6,15 @@ use mathlib.Core.List.{List, [], _∷_}
 use mathlib.Core.Bool.{Bool, true, false, _&&_, _||_, cond}
 use lib.ListN.{length, take, drop}
 use lib.Dec.{leb, eqb}
-use Rattle.rules.specs.Numbers.{termTag, phraseTag, booleanTag, boostTag, constantScoreTag, matchAllTag, matchNoneTag, wholeRangeTag, floatRangeTag, textTag, wordTag, minimumTag, mustTag, shouldTag, mustNotTag, filterTag, openTag, includedTag, excludedTag, malformedQuery, deepQuery, longQuery, Read, got, refused, need, onRead, andThen, rewriterBytes, rewriterDepth, selectionBytes, selectionDepth}
+use Rattle.rules.specs.Numbers.{termTag, phraseTag, booleanTag, boostTag, constantScoreTag, matchAllTag, matchNoneTag, wholeRangeTag, floatRangeTag, textTag, wordTag, minimumTag, mustTag, shouldTag, mustNotTag, filterTag, openTag, includedTag, excludedTag, malformedQuery, deepQuery, longQuery, number, Read, got, refused, need, onRead, andThen, rewriterBytes, rewriterDepth, selectionBytes, selectionDepth}
 use Rattle.rules.specs.Bytes.{ofBig, isEmpty, isText, tagOf, bodyOf, restOf, wholeOf, isPart, isFieldPart, every, each}
 use Rattle.rules.specs.Query.{Word, word, Kind, must, should, mustNot, filter, Numbers, whole, float, Bound, unbounded, included, excluded, Query, term, phrase, boolean, boost, constantScore, matchAll, matchNone, range, Clauses, none, clause}
 use Rattle.rules.specs.Stored.{isBoost}
+
+-- the number that an answer gives for it: 0 for what was read
+abbrev pub numberOf : {A : Type 0} → Read A → ℕ
+numberOf (got a) = 0
+numberOf (refused r) = number r
 
 -- a test that has to pass
 abbrev pub sound : {A : Type 0} → Bool → Read A → Read A
