@@ -12,4 +12,5 @@ pub mod Equal
 pub mod Faults
 pub mod Sizes
 pub mod Views
+pub mod rewriting
 pub mod Cases

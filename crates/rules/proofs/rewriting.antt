@@ -1,0 +1,3 @@
+-- The laws of rewriting: a round, all rounds, and what they come to.
+pub mod Boosts
+pub mod Walk
