@@ -132,16 +132,16 @@ module _ (R : Query → Query → Type 0) (S : ℕ → Clauses → Clauses → T
         pass false e =
             put-law (λ t. t) one k q q (λ ds. rw one-one (L .stay m (clause k q ds))) (λ j t xs ds c. L .again m j k q t xs ds e c) cs ms
 
-    merge-law : (cs : Clauses) (ms : Merged) → S m (join (clausesOf ms) cs) (clausesOf (mergeOnto m ms cs))
+    pub merge-law : (cs : Clauses) (ms : Merged) → S m (join (clausesOf ms) cs) (clausesOf (mergeOnto m ms cs))
     unfolding mergeOnto
     merge-law none ms = rw (join-none (clausesOf ms)) (L .stay m (clausesOf ms))
     merge-law (clause k q cs) ms = L .go m _ _ _ (add-law k q cs ms) (merge-law cs (addMerged m k q ms))
 
-    merged-law : (cs : Clauses) → R (boolean m cs) (mergedBoolean m cs)
+    pub merged-law : (cs : Clauses) → R (boolean m cs) (mergedBoolean m cs)
     unfolding mergedBoolean clausesOf
     merged-law cs = L .in-boolean m cs _ (merge-law cs empty)
 
-    live-law : (cs : Clauses) → isDead cs ≡ false → S m cs (live cs)
+    pub live-law : (cs : Clauses) → isDead cs ≡ false → S m cs (live cs)
     unfolding live isDead
     live-law none h = L .stay m none
     live-law (clause k q cs) h = pass (isNone q) refl (live-law cs (or-no-r (isNeeded k && isNone q) (isDead cs) h))
@@ -155,7 +155,7 @@ module _ (R : Query → Query → Type 0) (S : ℕ → Clauses → Clauses → T
         pass true e t =
             rw (none-is q e) (L .go m _ cs _ (L .skip m k cs (unneeded (isNeeded k) e (or-no-l (isNeeded k && isNone q) (isDead cs) h))) t)
 
-    lone-law : (cs : Clauses) → onlyMustNot cs ≡ false → m ≤ shouldCount cs → R (boolean m cs) (loneOrMerged m cs)
+    pub lone-law : (cs : Clauses) → onlyMustNot cs ≡ false → m ≤ shouldCount cs → R (boolean m cs) (loneOrMerged m cs)
     unfolding loneOrMerged onlyMustNot
     lone-law none n c = merged-law none
     lone-law (clause k q none) n c = pass (leb m 1) refl
@@ -172,7 +172,7 @@ module _ (R : Query → Query → Type 0) (S : ℕ → Clauses → Clauses → T
         pass true e = L .few-none m cs (ltb-true (shouldCount cs) m e)
         pass false e = lone-law cs n (ltb-false (shouldCount cs) m e)
 
-    of-live-law : (cs : Clauses) → R (boolean m cs) (ofLive m cs)
+    pub of-live-law : (cs : Clauses) → R (boolean m cs) (ofLive m cs)
     unfolding ofLive
     of-live-law cs = pass (onlyMustNot cs) refl
       where
@@ -181,7 +181,7 @@ module _ (R : Query → Query → Type 0) (S : ℕ → Clauses → Clauses → T
         pass true e = L .negative-none m cs e
         pass false e = enough-law cs e
 
-    boolean-law : (cs : Clauses) → R (boolean m cs) (rewriteBoolean m cs)
+    pub boolean-law : (cs : Clauses) → R (boolean m cs) (rewriteBoolean m cs)
     unfolding rewriteBoolean
     boolean-law cs = pass (isDead cs) refl
       where
@@ -189,7 +189,7 @@ module _ (R : Query → Query → Type 0) (S : ℕ → Clauses → Clauses → T
         pass true e = L .dead-none m cs e
         pass false e = L .goes _ _ _ (L .in-boolean m cs (live cs) (live-law cs e)) (of-live-law (live cs))
 
-  boosted-law : (b : ℕ) (q : Query) → R (boost b q) (boosted b q)
+  pub boosted-law : (b : ℕ) (q : Query) → R (boost b q) (boosted b q)
   unfolding boosted
   boosted-law b (term f t) = L .stays _
   boosted-law b (phrase f ws) = L .stays _
@@ -200,7 +200,7 @@ module _ (R : Query → Query → Type 0) (S : ℕ → Clauses → Clauses → T
   boosted-law b matchNone = L .off-boost b matchNone
   boosted-law b (range n f l u) = L .stays _
 
-  scored-law : (q : Query) → R (constantScore q) (scored q)
+  pub scored-law : (q : Query) → R (constantScore q) (scored q)
   unfolding scored
   scored-law (term f t) = L .stays _
   scored-law (phrase f ws) = L .stays _
@@ -211,13 +211,13 @@ module _ (R : Query → Query → Type 0) (S : ℕ → Clauses → Clauses → T
   scored-law matchNone = L .off-constant matchNone
   scored-law (range n f l u) = L .stays _
 
-  phrased-law : (f : List ℕ) (ws : List Word) → R (phrase f ws) (phrased f ws)
+  pub phrased-law : (f : List ℕ) (ws : List Word) → R (phrase f ws) (phrased f ws)
   unfolding phrased
   phrased-law f [] = L .no-words f
   phrased-law f (word p t ∷ []) = L .one-word f t p
   phrased-law f (v ∷ w ∷ ws) = L .stays _
 
-  boost-law : (i : Bool) (b : ℕ) (p q : Query) → R p q → R (boost b p) (cond i q (boosted b q))
+  pub boost-law : (i : Bool) (b : ℕ) (p q : Query) → R p q → R (boost b p) (cond i q (boosted b q))
   boost-law true b p q h = L .goes _ _ _ (L .off-boost b p) h
   boost-law false b p q h = L .goes _ _ _ (L .in-boost b p q h) (boosted-law b q)
 
@@ -234,6 +234,6 @@ module _ (R : Query → Query → Type 0) (S : ℕ → Clauses → Clauses → T
     once-law matchNone = L .stays _
     once-law (range n f l u) = L .stays _
 
-    each-law : (cs : Clauses) (m : ℕ) → S m cs (rewriteEach cs)
+    pub each-law : (cs : Clauses) (m : ℕ) → S m cs (rewriteEach cs)
     each-law none m = L .stay m none
     each-law (clause k q cs) m = L .in-clause m k _ _ _ _ (once-law q) (each-law cs m)
