@@ -4,3 +4,4 @@ pub mod Walk
 pub mod Rounds
 pub mod Measures
 pub mod Bounds
+pub mod Weights
