@@ -5,3 +5,4 @@ pub mod Rounds
 pub mod Measures
 pub mod Bounds
 pub mod Weights
+pub mod Tidiness

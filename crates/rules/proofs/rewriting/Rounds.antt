@@ -1,7 +1,8 @@
 -- Rounds one after another: the query after each of them, and a law of one round as a law of all. Section 'One round of rewriting'.
 use mathlib.Core.Path.{_≡_, refl, sym, ap, _∙_, subst}
-use Prim.Native.Nat.{ℕ, zero, suc}
+use Prim.Native.Nat.{ℕ, zero, suc, _≤_}
 use mathlib.Core.Bool.{Bool, true, false, cond}
+use native.Mathlib.Omega.{arith}
 use Rattle.rules.specs.Query.{Query, Clauses, equal}
 use Rattle.rules.specs.Rewriting.{rewriteOnce, Rewritten, rewritten, oneRoundMore, rounds}
 use Rattle.rules.proofs.rewriting.Walk.{Law, once-law}
@@ -36,6 +37,22 @@ result-after (suc k) q = pass (equal (rewriteOnce q) q) (rounds k (rewriteOnce q
     pass : (b : Bool) (r : Rewritten) → resultOf r ≡ afterRounds (countOf r) (rewriteOnce q)
         → resultOf (cond b (rewritten (rewriteOnce q) 1) (oneRoundMore r)) ≡ afterRounds (countOf (cond b (rewritten (rewriteOnce q) 1) (oneRoundMore r))) q
     pass true r h = refl
+    pass false (rewritten p n) h = h
+
+-- the result of any rounds is a round's
+pub result-once : (k : ℕ) (q : Query) → 1 ≤ k → (p : Query) × (resultOf (rounds k q) ≡ rewriteOnce p)
+unfolding rounds
+result-once zero q h = absurd (omega arith)
+result-once (suc zero) q h = pass (equal (rewriteOnce q) q)
+  where
+    pass : (b : Bool) → (p : Query) × (resultOf (cond b (rewritten (rewriteOnce q) 1) (rewritten (rewriteOnce q) 1)) ≡ rewriteOnce p)
+    pass true = (q, refl)
+    pass false = (q, refl)
+result-once (suc (suc k)) q h = pass (equal (rewriteOnce q) q) (rounds (suc k) (rewriteOnce q)) (result-once (suc k) (rewriteOnce q) (omega arith))
+  where
+    pass : (b : Bool) (r : Rewritten) → ((p : Query) × (resultOf r ≡ rewriteOnce p))
+        → (p : Query) × (resultOf (cond b (rewritten (rewriteOnce q) 1) (oneRoundMore r)) ≡ rewriteOnce p)
+    pass true r h = (q, refl)
     pass false (rewritten p n) h = h
 
 -- ---- laws of a round are laws of rounds
