@@ -12,5 +12,6 @@ pub mod Equal
 pub mod Faults
 pub mod Sizes
 pub mod Views
+pub mod Phrases
 pub mod rewriting
 pub mod Cases
