@@ -13,7 +13,7 @@ use Rattle.rules.specs.Rewriting.{weight, isNone, boosted, scored, phras
 use Rattle.rules.specs.Tidy.{Apart, Distinct, Tidy, Tidies}
 use Rattle.rules.proofs.Bools.{clash, and-l}
 use Rattle.rules.proofs.Equal.{equal-refl}
-use Rattle.rules.proofs.rewriting.Boosts.{one-one}
+use Rattle.rules.proofs.rewriting.Kinds.{stands-self, stands-same}
 use Rattle.rules.proofs.rewriting.Rounds.{resultOf, result-once}
 use Rattle.rules.proofs.rewriting.Weights.{one-weight}
 
@@ -58,27 +58,6 @@ base-plain (constantScore q) h = refl
 base-plain matchAll h = refl
 base-plain matchNone h = refl
 base-plain (range n f l u) h = refl
-
--- ---- kinds
-
-stands-self : (k : Kind) → standsFor k k ≡ true
-stands-self must = refl
-stands-self should = refl
-stands-self mustNot = refl
-stands-self filter = refl
-
--- what stands for a summable clause is summable
-stands-summable : (m : ℕ) (j k : Kind) → summable m k ≡ true → standsFor j k ≡ true → summable m j ≡ true
-stands-summable m must must h c = refl
-stands-summable m should must h c = clash c refl
-stands-summable m mustNot must h c = clash c refl
-stands-summable m filter must h c = clash c refl
-stands-summable m must should h c = refl
-stands-summable m should should h c = h
-stands-summable m mustNot should h c = clash c refl
-stands-summable m filter should h c = clash c refl
-stands-summable m j mustNot h c = clash h refl
-stands-summable m j filter h c = clash h refl
 
 -- ---- the merging of clauses
 
@@ -128,7 +107,7 @@ module _ (m : ℕ) where
     where
       raise : summable m k ≡ true → (j : Kind) (p : Query) (t : Float) → standsFor j k ≡ true → Fit m j p t → Fit m j p (plus t (boostOf q))
       raise e j p t c (inl g) = inl g
-      raise e j p t c (inr g) = clash (stands-summable m j k e c) (g .0)
+      raise e j p t c (inr g) = clash (rw (stands-same m j k c e) e) (g .0)
 
       pass : (b : Bool) → summable m k ≡ b
           → Sorted m (cond b (put (λ t. plus t (boostOf q)) (boostOf q) k (base q) ms) (put (λ t. t) one k q ms))
