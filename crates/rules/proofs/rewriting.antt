@@ -6,5 +6,7 @@ pub mod Rounds
 pub mod Measures
 pub mod Bounds
 pub mod Weights
+pub mod Merging
 pub mod Tidiness
 pub mod Truth
+pub mod Places
