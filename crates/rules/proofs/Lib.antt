@@ -13,5 +13,7 @@ pub mod Faults
 pub mod Sizes
 pub mod Views
 pub mod Phrases
+pub mod Choices
 pub mod rewriting
+pub mod Demands
 pub mod Cases

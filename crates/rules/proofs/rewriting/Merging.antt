@@ -72,7 +72,7 @@ module _ (m : ℕ) (k : Kind) (q : Query) where
   other-add j p n (merged i o t ms) h =
       add-by m k q i o t ms (Other j p) (λ e. (h .0, h .1)) (λ e. (h .0, other-add j p n ms (h .1)))
 
-  all-other-add : (ms : Merged) → AllOther ms → AllOther (addMerged m k q ms)
+  pub all-other-add : (ms : Merged) → AllOther ms → AllOther (addMerged m k q ms)
   unfolding AllOther Other
   all-other-add empty h = rw add-empty (tt, tt)
   all-other-add (merged j p t ms) h =

@@ -11,36 +11,12 @@ use Rattle.rules.specs.Reading.{kindOf}
 use Rattle.rules.specs.Floats.{one, plus}
 use Rattle.rules.specs.Rewriting.{summable, standsFor, base, boostOf, Merged, empty, merged, put, addMerged, mergeOnto, reboosted, clausesOf}
 use Rattle.rules.specs.ByPlace.{held, sameKind, seen, total, sumFrom, snoc, mergedByPlace}
-use Rattle.rules.proofs.Bools.{clash, alike, both, and-l, and-r, or-l, or-r}
+use Rattle.rules.proofs.Bools.{clash, fails, alike, both, and-l, and-r, or-false, or-assoc, absorb}
 use Rattle.rules.proofs.Tags.{kind-back}
 use Rattle.rules.proofs.Equal.{equal-eq, equal-refl}
 use Rattle.rules.proofs.rewriting.Kinds.{stands-self, stands-same, stands-on}
 use Rattle.rules.proofs.rewriting.Walk.{join, join-none}
-use Rattle.rules.proofs.rewriting.Merging.{takes, raised, add-empty, add-merged, Other, AllOther}
-
--- ---- small laws
-
-by-test : (P : Bool → Type 0) (b : Bool) → (b ≡ true → P true) → (b ≡ false → P false) → P b
-by-test P true t f = t refl
-by-test P false t f = f refl
-
--- a test that can not pass
-fails : (b : Bool) → (b ≡ true → ⊥) → b ≡ false
-fails true h = absurd (h refl)
-fails false h = refl
-
-or-assoc : (a b c : Bool) → (a || (b || c)) ≡ ((a || b) || c)
-or-assoc true b c = refl
-or-assoc false b c = refl
-
-or-false : (a : Bool) → (a || false) ≡ a
-or-false true = refl
-or-false false = refl
-
-absorb : (x r y : Bool) → (y ≡ true → x ≡ true) → (x || r) ≡ ((x || r) || y)
-absorb true r y f = refl
-absorb false r true f = clash (f refl) refl
-absorb false r false f = sym (or-false r)
+use Rattle.rules.proofs.rewriting.Merging.{takes, raised, add-empty, add-merged, add-by, Other, AllOther, all-other-add}
 
 kind-same : (j k : Kind) → sameKind j k ≡ true → j ≡ k
 kind-same j k h = sym (kind-back j) ∙ ap kindOf (eqb-true (kindTag j) (kindTag k) h) ∙ kind-back k
@@ -125,3 +101,77 @@ module _ (m : ℕ) (k : Kind) (q : Query) where
               ≡ cond b (total (cond (sums j h) (plus s (boostOf q)) s) j h cs) (cond (sums j h) (plus s (boostOf q)) s)
         go true e = ap (λ (b : Bool). total (cond b (plus s (boostOf q)) s) j h cs) (sums-same j h e)
         go false e = rw (sums-not j h e)
+
+    closing-other : (j : Kind) (h : Query) → takes m j h k q ≡ true → (ms : Merged) → Other j h ms → closing m (clause k q cs) ms ≡ closing m cs ms
+    unfolding closing Other
+    closing-other j h t empty o = refl
+    closing-other j h t (merged i x s ms) o =
+        rw (closing-other j h t ms (o .1)) (ap (λ (u : Float). clause i (reboosted i x u) (closing m cs ms)) (sum-next i x s ∙ rw (sums-once j i h x t (o .0))))
+
+    -- a new one is kept behind the others
+    abbrev kept : Clauses → Clauses
+    kept X = clause k (reboosted k (held m k q) (sumFrom m k q cs)) X
+
+    step : (ms : Merged) → AllOther ms → (X : Clauses)
+        → join (closing m cs (addMerged m k q ms)) X
+          ≡ join (closing m (clause k q cs) ms) (cond (hit ms k (held m k q)) X (kept X))
+    unfolding closing hit AllOther sumFrom
+    step empty o X = rw add-empty (ap (λ (u : Float). clause k (reboosted k (held m k q) u) X) (go (summable m k)))
+      where
+        go : (b : Bool)
+            → cond b (total (cond b (boostOf q) one) k (cond b (base q) q) cs) (cond b (boostOf q) one) ≡ cond b (total (boostOf q) k (base q) cs) one
+        go true = refl
+        go false = refl
+    step (merged j h s ms) o X = rw add-merged (go (takes m j h k q) refl (step ms (o .1) X))
+      where
+        go : (b : Bool) → takes m j h k q ≡ b
+            → join (closing m cs (addMerged m k q ms)) X ≡ join (closing m (clause k q cs) ms) (cond (hit ms k (held m k q)) X (kept X))
+            → join (closing m cs (cond b (merged j h (raised m k q s) ms) (merged j h s (addMerged m k q ms)))) X
+              ≡ clause j (reboosted j h (cond (summable m j) (total s j h (clause k q cs)) s))
+                (join (closing m (clause k q cs) ms) (cond (b || hit ms k (held m k q)) X (kept X)))
+        go true e ih = rw (sum-next j h s, e, closing-other j h e ms (o .0))
+        go false e ih = rw (sum-next j h s, e, ih)
+
+-- ---- what has been seen
+
+module _ (m : ℕ) (k : Kind) (q : Query) (i : Kind) (l : Query) where
+  seen-snoc : (pre : Clauses) → seen m (snoc pre k q) i l ≡ (seen m pre i l || (standsFor k i && equal (held m k q) l))
+  unfolding seen
+  seen-snoc none = or-false (standsFor k i && equal (held m k q) l)
+  seen-snoc (clause j p cs) = rw (seen-snoc cs) (or-assoc (standsFor j i && equal (held m j p) l) (seen m cs i l) (standsFor k i && equal (held m k q) l))
+
+  hit-add : (ms : Merged) → hit (addMerged m k q ms) i l ≡ (hit ms i l || (standsFor k i && equal (held m k q) l))
+  unfolding hit
+  hit-add empty = rw add-empty (or-false (standsFor k i && equal (held m k q) l))
+  hit-add (merged j h s ms) =
+      add-by m k q j h s ms (λ (r : Merged). hit r i l ≡ (hit (merged j h s ms) i l || (standsFor k i && equal (held m k q) l))) taken (λ e. further (hit-add ms))
+    where
+      taken : takes m j h k q ≡ true → hit (merged j h (raised m k q s) ms) i l ≡ (hit (merged j h s ms) i l || (standsFor k i && equal (held m k q) l))
+      taken e = absorb (standsFor j i && equal h l) (hit ms i l) (standsFor k i && equal (held m k q) l) onwards
+        where
+          onwards : (standsFor k i && equal (held m k q) l) ≡ true → (standsFor j i && equal h l) ≡ true
+          onwards z =
+              let a = stands-on j k i (and-l (standsFor j k) (equal h (held m k q)) e) (and-l (standsFor k i) (equal (held m k q) l) z) in
+              let b : h ≡ held m k q = equal-eq h (held m k q) (and-r (standsFor j k) (equal h (held m k q)) e) in
+              let c : held m k q ≡ l = equal-eq (held m k q) l (and-r (standsFor k i) (equal (held m k q) l) z) in
+              both a (equal-refl h l (b ∙ c))
+
+      further : hit (addMerged m k q ms) i l ≡ (hit ms i l || (standsFor k i && equal (held m k q) l))
+          → hit (merged j h s (addMerged m k q ms)) i l ≡ (hit (merged j h s ms) i l || (standsFor k i && equal (held m k q) l))
+      further ih = rw ih (or-assoc (standsFor j i && equal h l) (hit ms i l) (standsFor k i && equal (held m k q) l))
+
+-- ---- by place
+
+by-place : (m : ℕ) (cs pre : Clauses) (ms : Merged) → AllOther ms → ((i : Kind) (l : Query) → seen m pre i l ≡ hit ms i l)
+    → clausesOf (mergeOnto m ms cs) ≡ join (closing m cs ms) (mergedByPlace m pre cs)
+unfolding mergeOnto mergedByPlace
+by-place m none pre ms o f = sym (join-none (closing m none ms) ∙ closing-none m ms)
+by-place m (clause k q cs) pre ms o f =
+    by-place m cs (snoc pre k q) (addMerged m k q ms) (all-other-add m k q ms o)
+    (λ i l. seen-snoc m k q i l pre ∙ ap (λ (b : Bool). b || (standsFor k i && equal (held m k q) l)) (f i l) ∙ sym (hit-add m k q i l ms))
+    ∙ step m k q cs ms o (mergedByPlace m (snoc pre k q) cs)
+    ∙ rw (f k (held m k q))
+
+pub merged-by-place : (m : ℕ) (cs : Clauses) → clausesOf (mergeOnto m empty cs) ≡ mergedByPlace m none cs
+unfolding closing hit seen AllOther
+merged-by-place m cs = by-place m cs none empty tt (λ i l. refl)
