@@ -1,7 +1,7 @@
 -- The merging of clauses with no merged clauses in memory: each stays in its place. Section 'One round of rewriting'.
 -- A clause is kept unless an earlier one takes it up, and its sum is gathered from the clauses behind it.
 use Prim.Native.Nat.{ℕ}
-use mathlib.Core.Bool.{Bool, true, false, _&&_, _||_, cond}
+use mathlib.Core.Bool.{Bool, false, _&&_, _||_, cond}
 use lib.Dec.{eqb}
 use lib.Ieee.{Float}
 use Rattle.rules.specs.Query.{Kind, Query, Clauses, none, clause, equal}

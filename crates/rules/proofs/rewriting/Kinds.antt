@@ -1,8 +1,8 @@
 -- Which kind stands for which: its own, and a Must for a Filter. Section 'One round of rewriting'.
-use mathlib.Core.Path.{_≡_, refl, sym, ap}
+use mathlib.Core.Path.{_≡_, refl}
 use mathlib.Core.Logic.{_⊎_, inl, inr}
 use Prim.Native.Nat.{ℕ}
-use mathlib.Core.Bool.{Bool, true, false}
+use mathlib.Core.Bool.{Bool, true}
 use Rattle.rules.specs.Query.{Kind, must, should, mustNot, filter}
 use Rattle.rules.specs.Rewriting.{isNeeded, summable, standsFor}
 use Rattle.rules.specs.Matching.{allows}

@@ -2,14 +2,13 @@
 use mathlib.Core.Path.{_≡_, refl, sym, ap, _∙_}
 use Prim.Native.Nat.{ℕ}
 use mathlib.Core.Bool.{Bool, true, false, _&&_, _||_, cond}
-use lib.Dec.{eqb}
 use lib.Ieee.{Float}
 use borrow.Author.Tests.{eqb-true, eq-eqb}
 use Rattle.rules.specs.Query.{Kind, Query, Clauses, none, clause, equal}
 use Rattle.rules.specs.Stored.{kindTag}
 use Rattle.rules.specs.Reading.{kindOf}
 use Rattle.rules.specs.Floats.{one, plus}
-use Rattle.rules.specs.Rewriting.{summable, standsFor, base, boostOf, Merged, empty, merged, put, addMerged, mergeOnto, reboosted, clausesOf}
+use Rattle.rules.specs.Rewriting.{summable, standsFor, base, boostOf, Merged, empty, merged, addMerged, mergeOnto, reboosted, clausesOf}
 use Rattle.rules.specs.ByPlace.{held, sameKind, seen, total, sumFrom, snoc, mergedByPlace}
 use Rattle.rules.proofs.Bools.{clash, fails, alike, both, and-l, and-r, or-false, or-assoc, absorb}
 use Rattle.rules.proofs.Tags.{kind-back}
@@ -51,8 +50,7 @@ module _ (m : ℕ) (k : Kind) (q : Query) where
   sums-from : (j : Kind) (h : Query) → sums j h ≡ true → (j ≡ k) × (h ≡ base q) × (summable m k ≡ true)
   sums-from j h e =
       let t = and-l (takes m j h k q) (summable m k) e in
-      let s = and-r (takes m j h k q) (summable m k) e in
-      (
+      let s = and-r (takes m j h k q) (summable m k) e in (
         stands-same m j k (and-l (standsFor j k) (equal h (held m k q)) t) s,
         equal-eq h (held m k q) (and-r (standsFor j k) (equal h (held m k q)) t) ∙ rw s,
         s,
@@ -92,13 +90,13 @@ module _ (m : ℕ) (k : Kind) (q : Query) where
   module _ (cs : Clauses) where
     sum-next : (j : Kind) (h : Query) (s : Float)
         → cond (summable m j) (total s j h (clause k q cs)) s
-          ≡ cond (summable m j) (total (cond (sums j h) (plus s (boostOf q)) s) j h cs) (cond (sums j h) (plus s (boostOf q)) s)
+        ≡ cond (summable m j) (total (cond (sums j h) (plus s (boostOf q)) s) j h cs) (cond (sums j h) (plus s (boostOf q)) s)
     unfolding total
     sum-next j h s = go (summable m j) refl
       where
         go : (b : Bool) → summable m j ≡ b
             → cond b (total (cond (sameKind k j && equal (base q) h) (plus s (boostOf q)) s) j h cs) s
-              ≡ cond b (total (cond (sums j h) (plus s (boostOf q)) s) j h cs) (cond (sums j h) (plus s (boostOf q)) s)
+            ≡ cond b (total (cond (sums j h) (plus s (boostOf q)) s) j h cs) (cond (sums j h) (plus s (boostOf q)) s)
         go true e = ap (λ (b : Bool). total (cond b (plus s (boostOf q)) s) j h cs) (sums-same j h e)
         go false e = rw (sums-not j h e)
 
@@ -114,7 +112,7 @@ module _ (m : ℕ) (k : Kind) (q : Query) where
 
     step : (ms : Merged) → AllOther ms → (X : Clauses)
         → join (closing m cs (addMerged m k q ms)) X
-          ≡ join (closing m (clause k q cs) ms) (cond (hit ms k (held m k q)) X (kept X))
+        ≡ join (closing m (clause k q cs) ms) (cond (hit ms k (held m k q)) X (kept X))
     unfolding closing hit AllOther sumFrom
     step empty o X = rw add-empty (ap (λ (u : Float). clause k (reboosted k (held m k q) u) X) (go (summable m k)))
       where
@@ -127,8 +125,8 @@ module _ (m : ℕ) (k : Kind) (q : Query) where
         go : (b : Bool) → takes m j h k q ≡ b
             → join (closing m cs (addMerged m k q ms)) X ≡ join (closing m (clause k q cs) ms) (cond (hit ms k (held m k q)) X (kept X))
             → join (closing m cs (cond b (merged j h (raised m k q s) ms) (merged j h s (addMerged m k q ms)))) X
-              ≡ clause j (reboosted j h (cond (summable m j) (total s j h (clause k q cs)) s))
-                (join (closing m (clause k q cs) ms) (cond (b || hit ms k (held m k q)) X (kept X)))
+            ≡ clause j (reboosted j h (cond (summable m j) (total s j h (clause k q cs)) s))
+            (join (closing m (clause k q cs) ms) (cond (b || hit ms k (held m k q)) X (kept X)))
         go true e ih = rw (sum-next j h s, e, closing-other j h e ms (o .0))
         go false e ih = rw (sum-next j h s, e, ih)
 

@@ -1,20 +1,20 @@
 -- Where no minimum is above 1, a round keeps what a query is true of. Sections 'One round of rewriting' and 'Matching and selection'.
-use mathlib.Core.Path.{_≡_, refl, sym, ap, _∙_}
+use mathlib.Core.Path.{_≡_, refl, sym, _∙_}
 use Prim.Native.Nat.{ℕ, _+_, _≤_, _<_, max, min}
-use mathlib.Core.List.{List, [], _∷_}
+use mathlib.Core.List.{List}
 use mathlib.Core.Bool.{Bool, true, false, not, _&&_, _||_, cond}
 use native.Mathlib.Omega.{arith}
 use lib.Dec.{leb}
 use lib.Ieee.{Float}
 use borrow.Author.Tests.{leb-true, le-leb, lt-leb}
-use Rattle.rules.specs.Query.{word, Kind, must, should, mustNot, filter, Query, term, phrase, boolean, boost, constantScore, matchAll, matchNone, range, Clauses, none, clause}
+use Rattle.rules.specs.Query.{Kind, must, should, mustNot, filter, Query, term, phrase, boolean, boost, constantScore, matchAll, matchNone, range, Clauses, none, clause}
 use Rattle.rules.specs.Floats.{narrowed, isOne}
-use Rattle.rules.specs.Rewriting.{largest, largests, isNone, isNeeded, isMustNot, scores, standsFor, base, reboosted, lone, shouldCount, onlyMustNot, isDead, rewriteOnce, rounds, rewrite}
+use Rattle.rules.specs.Rewriting.{largest, largests, isNone, isNeeded, isMustNot, scores, standsFor, base, reboosted, lone, shouldCount, onlyMustNot, isDead, rewriteOnce, rounds}
 use Rattle.rules.specs.Lists.{Entry}
 use Rattle.rules.specs.Matching.{bit, allows, countsFor, anyNeeded, enough, matches, allAllow, shouldsTrue}
-use Rattle.rules.proofs.Bools.{clash, alike, and-true, and-false, and-same, and-swap, or-same, or-swap}
+use Rattle.rules.proofs.Bools.{clash, alike, and-false, and-same, and-swap, or-same, or-swap}
 use Rattle.rules.proofs.Phrases.{no-phrase, one-phrase}
-use Rattle.rules.proofs.rewriting.Kinds.{stands-needed, stands-allows, stands-same}
+use Rattle.rules.proofs.rewriting.Kinds.{stands-needed, stands-allows}
 use Rattle.rules.proofs.rewriting.Walk.{Law, join, none-is, once-law}
 use Rattle.rules.proofs.rewriting.Rounds.{resultOf, afterRounds, after-law, rounds-law}
 use Rattle.rules.proofs.rewriting.Bounds.{Bounded, BoundedAll, bounds-law}
