@@ -17,3 +17,4 @@ pub mod Choices
 pub mod rewriting
 pub mod Demands
 pub mod Cases
+pub mod Classes
