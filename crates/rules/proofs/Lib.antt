@@ -18,3 +18,5 @@ pub mod rewriting
 pub mod Demands
 pub mod Cases
 pub mod Classes
+pub mod Pieces
+pub mod Tokens
