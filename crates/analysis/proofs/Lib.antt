@@ -3,3 +3,4 @@ pub mod Spans
 pub mod Steps
 pub mod Chunks
 pub mod Walks
+pub mod Rows
