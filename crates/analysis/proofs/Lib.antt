@@ -4,3 +4,4 @@ pub mod Steps
 pub mod Chunks
 pub mod Walks
 pub mod Rows
+pub mod Only

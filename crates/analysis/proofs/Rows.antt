@@ -1,40 +1,24 @@
 -- Names in rows, and the analyzer that the last entry of a name gives. Assumes nothing.
-use mathlib.Core.Path.{_≡_, refl, sym, ap, ap₂, _∙_}
-use mathlib.Core.Bool.{Bool, true, false, _&&_, cond, and-eq-true-iff, true≢false}
+use mathlib.Core.Path.{_≡_, refl, sym, ap, _∙_}
+use mathlib.Core.Bool.{Bool, true, false, cond}
 use mathlib.Core.List.{List, [], _∷_, _++_}
 use Prim.Native.Nat.{ℕ, zero, suc, _-_, _≤_, _<_, min}
-use native.Mathlib.Numerals.{add-one}
 use native.Mathlib.Decide.{ℕ-discrete}
 use native.Mathlib.Omega.{arith}
-use lib.Dec.{eqb}
 use lib.ListN.{length, getD, take, length-append, List·getD-append}
 use lib.Seq.{ext-getD, getD-at, take-suc}
-use borrow.Author.Tests.{eq-eqb, eqb-true}
 use Rattle.rules.specs.Bytes.{same}
+use Rattle.rules.proofs.Equal.{same-refl, same-eq}
 use Rattle.rules.specs.Setup.{FieldEntry, fieldEntry, analyzerAmong}
-use Rattle.analysis.specs.Fields.{rowText, entryAt, entriesTo, arrayEntries}
+use Rattle.analysis.specs.Fields.{rowText, entryAt, entriesTo}
 
 -- ---- equal texts
-
-same-self : (s : List ℕ) → same s s ≡ true
-unfolding same
-same-self [] = refl
-same-self (c ∷ s) = rw (eq-eqb c c refl, same-self s)
-
-same-is : (s t : List ℕ) → same s t ≡ true → s ≡ t
-unfolding same
-same-is [] [] h = refl
-same-is [] (y ∷ t) h = absurd (true≢false (sym h))
-same-is (x ∷ s) [] h = absurd (true≢false (sym h))
-same-is (x ∷ s) (y ∷ t) h =
-    let p = and-eq-true-iff (eqb x y) (same s t) .0 h in
-    ap₂ _∷_ (eqb-true x y (p .0)) (same-is s t (p .1))
 
 differ : (s t : List ℕ) → (s ≡ t → ⊥) → same s t ≡ false
 differ s t n = pass (same s t) refl
   where
     pass : (b : Bool) → same s t ≡ b → b ≡ false
-    pass true e = absurd (n (same-is s t e))
+    pass true e = absurd (n (same-eq s t e))
     pass false e = refl
 
 -- ---- rows
@@ -64,7 +48,7 @@ module _ (r f : List ℕ) where
   pub row-same : ((i : ℕ) → i < length f → getD r i 0 ≡ getD f i 0) → same (rowText (length f) r) f ≡ true
   row-same g =
       let e : rowText (length f) r ≡ f = ext-getD 0 (rowText (length f) r) f (row-length (length f) r) (λ i h. let l : i < length f = rw row-length at h in row-at (length f) r i l ∙ g i l) in
-      rw e (same-self f)
+      rw e (same-refl f)
 
   pub row-other : (i : ℕ) → i < length f → (getD r i 0 ≡ getD f i 0 → ⊥) → same (rowText (length f) r) f ≡ false
   row-other i h n = differ (rowText (length f) r) f (λ e. n (sym (row-at (length f) r i h) ∙ ap (λ (l : List ℕ). getD l i 0) e))

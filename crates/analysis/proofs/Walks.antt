@@ -3,12 +3,10 @@ use mathlib.Core.Path.{_≡_, refl, sym, ap, _∙_}
 use mathlib.Core.Bool.{Bool}
 use mathlib.Core.List.{List, [], _∷_}
 use Prim.Native.Nat.{ℕ, zero, suc, _+_, _-_, _≤_, _<_}
-use native.Mathlib.Numerals.{add-one}
 use native.Mathlib.Nat.{add-zero, zero-add, add-suc, suc-add}
 use native.Mathlib.Omega.{arith}
 use lib.ListN.{length, take, drop}
 use lib.Seq.{drop-nil}
-use Rattle.rules.specs.Query.{Word, word}
 use Rattle.rules.specs.Analysis.{after, tokenTexts, placedFrom, tokenize}
 use Rattle.rules.proofs.Pieces.{outside, front-of-after}
 use Rattle.analysis.specs.Tokens.{inside, startFrom, textFrom, spelled, beforeToken, Found, Nth}

@@ -1,15 +1,14 @@
-use Rattle.analysis.proofs.Rows.{row-same, row-other}
-use borrow.Author.Count.{below-none, below-more}
-use lib.ListN.{length, getD}
-use Prim.Native.Nat.{ℕ, _≤_, _<_, _-_}
+-- `fields::is_row` meets its contract. The loop's invariant: the bytes passed are equal. Assumes nothing.
+use mathlib.Core.Path.{_≡_, sym}
 use mathlib.Core.List.{[]}
-use mathlib.Core.Path.{_≡_, sym, _∙_}
+use Prim.Native.Nat.{ℕ, _≤_, _<_, _-_}
 use native.Mathlib.Omega.{arith}
+use lib.ListN.{length, getD}
+use borrow.Author.Count.{below-none, below-more}
 use borrow.Author.Needs.{needs}
-use Rattle.analysis.proofs.fields.is_row.Statement.{statement}
+use Rattle.analysis.proofs.Rows.{row-same, row-other}
 use Rattle.analysis.proofs.fields.is_row.Tie as tie
-use Rattle.analysis.proofs.fields.is_row.Reads as reads
-use Rattle.analysis.proofs.fields.is_row.Lts as lts
+use Rattle.analysis.proofs.fields.is_row.Statement.{statement}
 
 abbrev Inv-loop : tie.InvT-loop
 Inv-loop names k field i₀ i = (i ≤ length field) × ((j : ℕ) → j < i → getD (getD names k []) j 0 ≡ getD field j 0)
@@ -17,43 +16,33 @@ Inv-loop names k field i₀ i = (i ≤ length field) × ((j : ℕ) → j < i →
 abbrev μ-loop : tie.MeasureT-loop
 μ-loop names k field i₀ i = length field - i
 
--- src/fields.rt:29:5
 loop-holds : tie.Need-loop-holds Inv-loop μ-loop
 loop-holds c = (omega arith, below-none _)
 
--- src/fields.rt:30:12
 mul-if1 : tie.Need-mul-if1 Inv-loop μ-loop
 mul-if1 c = search needs
 
--- src/fields.rt:30:12
 index-1-if1 : tie.Need-index-1-if1 Inv-loop μ-loop
 index-1-if1 c = search needs
 
--- src/fields.rt:30:12
 index-2-if1 : tie.Need-index-2-if1 Inv-loop μ-loop
 index-2-if1 c = search needs
 
--- src/fields.rt:30:27
 shared-slice-read-if1 : tie.Need-shared-slice-read-if1 Inv-loop μ-loop
 shared-slice-read-if1 c = search needs
 
--- src/fields.rt:31:13
 returns : tie.Need-returns Inv-loop μ-loop
 returns c = sym (row-other (getD (c .before .before .before .before .before .args .names .now) (c .before .before .before .before .before .args .k) []) (c .before .before .before .before .before .args .field .now) (c .before .before .before .before .loop .i) (c .before .before .before .loop-test .taken) (c .if1 .taken))
 
--- src/fields.rt:33:9
 add-i : tie.Need-add-i Inv-loop μ-loop
 add-i c = search needs
 
--- src/fields.rt:29:5
 loop-less : tie.Need-loop-less Inv-loop μ-loop
 loop-less c = omega arith
 
--- src/fields.rt:29:5
 loop-again : tie.Need-loop-again Inv-loop μ-loop
 loop-again c = (omega arith, below-more _ _ (c .before .before .before .before .loop .inv .1) (c .if1 .left))
 
--- src/fields.rt:24:1
 returns-2 : tie.Need-returns-2 Inv-loop μ-loop
 returns-2 c = sym (row-same (getD (c .before .before .args .names .now) (c .before .before .args .k) []) (c .before .before .args .field .now) (λ j h. c .before .loop .inv .1 j (omega arith)))
 
