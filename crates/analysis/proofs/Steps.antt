@@ -124,6 +124,10 @@ pub start-onward : (P : ℕ → Bool) (s : List ℕ) (at : ℕ) → at ≤ start
 unfolding startFrom
 start-onward P s at = omega arith
 
+start-most : (P : ℕ → Bool) (s : List ℕ) (at : ℕ) → startFrom P s at ≤ at + (length s - at)
+unfolding startFrom
+start-most P s at = omega (arith, front-most (outside P) (drop at s), length-drop at s)
+
 first-most : (a : ℕ) (r : List ℕ) → length (firstOf a r) ≤ length r
 unfolding firstOf
 first-most a r = pass (eqb a 1) (eqb a 2)
@@ -144,7 +148,7 @@ found a s at start len p z = record {
   place = p;
   size = z;
   onward = rw p (start-onward (inside a) s at);
-  within = rw (p, z) (text-most (inside a) a s at);
+  within = rw (p, z) (omega (arith, start-most (inside a) s at, text-most (inside a) a s at));
   none = λ e. steps a s at .0 (sym z ∙ e);
   one = λ h. rw p (steps a s at .1 len (sym z) h);
 }
