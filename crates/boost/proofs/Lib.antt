@@ -3,3 +3,7 @@ pub mod Widen
 pub mod Shift
 pub mod Narrow
 pub mod Nans
+pub mod Limbs
+pub mod Tens
+pub mod Rises
+pub mod Halves
