@@ -7,3 +7,4 @@ pub mod Limbs
 pub mod Tens
 pub mod Rises
 pub mod Halves
+pub mod Runs
