@@ -8,3 +8,5 @@ pub mod Tens
 pub mod Rises
 pub mod Halves
 pub mod Runs
+pub mod Scales
+pub mod Once

@@ -1,0 +1,43 @@
+use native.Mathlib.Omega.{arith}
+use borrow.Author.Needs.{needs}
+use Rattle.boost.proofs.decimal.above.Statement.{statement}
+use Rattle.boost.proofs.decimal.above.Tie as tie
+use Rattle.boost.proofs.decimal.above.Reads as reads
+use Rattle.boost.proofs.decimal.above.Lts as lts
+use Rattle.boost.proofs.decimal.above_by_rows.Reads as above-by-rows-reads
+use Rattle.boost.proofs.quick.multiple.Reads as multiple-reads
+
+-- src/decimal.rt:63:13
+multiple-requires : tie.Need-multiple-requires
+multiple-requires c κs = search needs
+
+-- src/decimal.rt:63:13
+returns : tie.Need-returns
+returns c = search needs
+
+-- src/decimal.rt:65:9
+above-by-rows-requires : tie.Need-above-by-rows-requires
+above-by-rows-requires c κs = search needs
+
+-- src/decimal.rt:65:9
+returns-2 : tie.Need-returns-2
+returns-2 c = search needs
+
+-- src/decimal.rt:67:5
+above-by-rows-requires-2 : tie.Need-above-by-rows-requires-2
+above-by-rows-requires-2 c κs = search needs
+
+-- src/decimal.rt:55:1
+returns-3 : tie.Need-returns-3
+returns-3 c = search needs
+
+pub above-spec : {M : Type 1} → statement M
+above-spec =
+    tie.close
+    (tie.spec
+    multiple-requires
+    returns
+    above-by-rows-requires
+    returns-2
+    above-by-rows-requires-2
+    returns-3)

@@ -1,0 +1,43 @@
+use native.Mathlib.Omega.{arith}
+use borrow.Author.Needs.{needs}
+use Rattle.boost.proofs.decimal.below.Statement.{statement}
+use Rattle.boost.proofs.decimal.below.Tie as tie
+use Rattle.boost.proofs.decimal.below.Reads as reads
+use Rattle.boost.proofs.decimal.below.Lts as lts
+use Rattle.boost.proofs.decimal.below_by_rows.Reads as below-by-rows-reads
+use Rattle.boost.proofs.quick.quotient.Reads as quotient-reads
+
+-- src/decimal.rt:48:13
+quotient-requires : tie.Need-quotient-requires
+quotient-requires c κs = search needs
+
+-- src/decimal.rt:48:13
+returns : tie.Need-returns
+returns c = search needs
+
+-- src/decimal.rt:50:9
+below-by-rows-requires : tie.Need-below-by-rows-requires
+below-by-rows-requires c κs = search needs
+
+-- src/decimal.rt:50:9
+returns-2 : tie.Need-returns-2
+returns-2 c = search needs
+
+-- src/decimal.rt:52:5
+below-by-rows-requires-2 : tie.Need-below-by-rows-requires-2
+below-by-rows-requires-2 c κs = search needs
+
+-- src/decimal.rt:40:1
+returns-3 : tie.Need-returns-3
+returns-3 c = search needs
+
+pub below-spec : {M : Type 1} → statement M
+below-spec =
+    tie.close
+    (tie.spec
+    quotient-requires
+    returns
+    below-by-rows-requires
+    returns-2
+    below-by-rows-requires-2
+    returns-3)

@@ -1,0 +1,30 @@
+use native.Mathlib.Omega.{arith}
+use borrow.Author.Needs.{needs}
+use Rattle.boost.proofs.decimal.scaled_down.Statement.{statement}
+use Rattle.boost.proofs.decimal.scaled_down.Tie as tie
+use Rattle.boost.proofs.decimal.scaled_down.Reads as reads
+use Rattle.boost.proofs.decimal.scaled_down.Lts as lts
+use Rattle.boost.proofs.decimal.below.Reads as below-reads
+
+-- src/decimal.rt:97:13
+add-if1 : tie.Need-add-if1
+add-if1 c = search needs
+
+-- src/decimal.rt:98:9
+returns : tie.Need-returns
+returns c = search needs
+
+-- src/decimal.rt:100:17
+add-below : tie.Need-add-below
+add-below c = search needs
+
+-- src/decimal.rt:100:5
+below-requires : tie.Need-below-requires
+below-requires c κs = search needs
+
+-- src/decimal.rt:90:1
+returns-2 : tie.Need-returns-2
+returns-2 c = search needs
+
+pub scaled-down-spec : {M : Type 1} → statement M
+scaled-down-spec = tie.close (tie.spec add-if1 returns add-below below-requires returns-2)

@@ -1,0 +1,21 @@
+use native.Mathlib.Omega.{arith}
+use borrow.Author.Needs.{needs}
+use Rattle.boost.proofs.numeral.is_point.Statement.{statement}
+use Rattle.boost.proofs.numeral.is_point.Tie as tie
+use Rattle.boost.proofs.numeral.is_point.Reads as reads
+use Rattle.boost.proofs.numeral.is_point.Lts as lts
+
+-- src/numeral.rt:96:16
+shared-slice-read-result : tie.Need-shared-slice-read-result
+shared-slice-read-result c = search needs
+
+-- src/numeral.rt:96:9
+returns : tie.Need-returns
+returns c = search needs
+
+-- src/numeral.rt:92:1
+returns-2 : tie.Need-returns-2
+returns-2 c = search needs
+
+pub is-point-spec : {M : Type 1} → statement M
+is-point-spec = tie.close (tie.spec shared-slice-read-result returns returns-2)

@@ -1,0 +1,25 @@
+use native.Mathlib.Omega.{arith}
+use borrow.Author.Needs.{needs}
+use Rattle.boost.proofs.numeral.small_letter.Statement.{statement}
+use Rattle.boost.proofs.numeral.small_letter.Tie as tie
+use Rattle.boost.proofs.numeral.small_letter.Reads as reads
+use Rattle.boost.proofs.numeral.small_letter.Lts as lts
+
+-- src/numeral.rt:135:9
+returns : tie.Need-returns
+returns c = search needs
+
+-- src/numeral.rt:138:9
+returns-2 : tie.Need-returns-2
+returns-2 c = search needs
+
+-- src/numeral.rt:140:5
+add-result : tie.Need-add-result
+add-result c = search needs
+
+-- src/numeral.rt:131:1
+returns-3 : tie.Need-returns-3
+returns-3 c = search needs
+
+pub small-letter-spec : {M : Type 1} → statement M
+small-letter-spec = tie.close (tie.spec returns returns-2 add-result returns-3)
