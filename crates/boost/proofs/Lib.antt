@@ -10,3 +10,7 @@ pub mod Halves
 pub mod Runs
 pub mod Scales
 pub mod Once
+pub mod Grammar
+pub mod Wholes
+pub mod Words
+pub mod Fills

@@ -67,6 +67,18 @@ held-is s point places v g h = go v (numberOf s point places) (g .is) h
     go : (v n : ℕ) → v ≡ min n shortMost → v < shortMost → n ≡ v
     go v n e h = omega arith
 
+pub held-zero : (s : List ℕ) (point places v : ℕ) → Held s point places v → v ≡ 0 → numberOf s point places ≡ 0
+held-zero s point places v g e = go v (numberOf s point places) (g .is) e
+  where
+    go : (v n : ℕ) → v ≡ min n shortMost → v ≡ 0 → n ≡ 0
+    go v n e h = omega arith
+
+pub places-most : (s : List ℕ) (point places v : ℕ) → Held s point places v → length s ≤ 40 → places ≤ 40
+places-most s point places v g h = go point places (length s) (g .within) h
+  where
+    go : (p k n : ℕ) → p + k ≤ n → n ≤ 40 → k ≤ 40
+    go p k n e h = omega arith
+
 pub held-some : (s : List ℕ) (point places v : ℕ) → Held s point places v → (v ≡ 0 → ⊥) → 0 < numberOf s point places
 held-some s point places v g h = go v (numberOf s point places) (g .is) h
   where

@@ -1,3 +1,7 @@
+use Rattle.boost.proofs.Scales.{held-is}
+use Rattle.rules.specs.Numerals.{nearest}
+use Prim.Native.Nat.{ℕ, _*_, _^_}
+use mathlib.Core.Path.{_≡_, sym, ap, _∙_}
 use native.Mathlib.Omega.{arith}
 use borrow.Author.Needs.{needs}
 use Rattle.boost.proofs.decimal.above.Statement.{statement}
@@ -13,7 +17,7 @@ multiple-requires c κs = search needs
 
 -- src/decimal.rt:63:13
 returns : tie.Need-returns
-returns c = search needs
+returns c = c .multiple .ensures ∙ ap (λ (x : ℕ). nearest (x * 10 ^ (c .before .before .before .before .before .args .n)) 1) (sym (held-is (c .before .before .before .before .before .args .s .now) (c .before .before .before .before .before .args .d .point) (c .before .before .before .before .before .args .d .places) (c .before .before .before .before .before .args .d .value) (c .before .before .before .before .before .pre .0) (c .before .if2 .taken)))
 
 -- src/decimal.rt:65:9
 above-by-rows-requires : tie.Need-above-by-rows-requires

@@ -1,3 +1,5 @@
+use Rattle.boost.proofs.Scales.{held-few, down-tiny, down-below}
+use Rattle.boost.specs.Digits.{numberOf}
 use native.Mathlib.Omega.{arith}
 use borrow.Author.Needs.{needs}
 use Rattle.boost.proofs.decimal.scaled_down.Statement.{statement}
@@ -12,7 +14,7 @@ add-if1 c = search needs
 
 -- src/decimal.rt:98:9
 returns : tie.Need-returns
-returns c = search needs
+returns c = down-tiny (numberOf (c .before .before .args .s .now) (c .before .before .args .d .point) (c .before .before .args .d .places)) (c .before .before .args .x) (c .before .before .args .d .places) (held-few (c .before .before .args .s .now) (c .before .before .args .d .point) (c .before .before .args .d .places) (c .before .before .args .d .value) (c .before .before .pre .0) (c .before .before .pre .1 .0)) (c .if1 .taken)
 
 -- src/decimal.rt:100:17
 add-below : tie.Need-add-below
@@ -24,7 +26,7 @@ below-requires c κs = search needs
 
 -- src/decimal.rt:90:1
 returns-2 : tie.Need-returns-2
-returns-2 c = search needs
+returns-2 c = down-below (numberOf (c .before .before .before .args .s .now) (c .before .before .before .args .d .point) (c .before .before .before .args .d .places)) (c .before .before .before .args .x) (c .before .before .before .args .d .places) (c .below .result) (c .before .if1 .left) (c .below .ensures)
 
 pub scaled-down-spec : {M : Type 1} → statement M
 scaled-down-spec = tie.close (tie.spec add-if1 returns add-below below-requires returns-2)

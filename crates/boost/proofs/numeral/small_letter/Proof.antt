@@ -1,3 +1,4 @@
+use Rattle.boost.proofs.Words.{lower-low, lower-high, lower-mid}
 use native.Mathlib.Omega.{arith}
 use borrow.Author.Needs.{needs}
 use Rattle.boost.proofs.numeral.small_letter.Statement.{statement}
@@ -7,11 +8,11 @@ use Rattle.boost.proofs.numeral.small_letter.Lts as lts
 
 -- src/numeral.rt:135:9
 returns : tie.Need-returns
-returns c = search needs
+returns c = lower-low (c .before .args .b) (c .if1 .taken)
 
 -- src/numeral.rt:138:9
 returns-2 : tie.Need-returns-2
-returns-2 c = search needs
+returns-2 c = lower-high (c .before .before .args .b) (c .before .if1 .left) (c .if2 .taken)
 
 -- src/numeral.rt:140:5
 add-result : tie.Need-add-result
@@ -19,7 +20,7 @@ add-result c = search needs
 
 -- src/numeral.rt:131:1
 returns-3 : tie.Need-returns-3
-returns-3 c = search needs
+returns-3 c = lower-mid (c .before .before .args .b) (c .before .if1 .left) (c .if2 .left)
 
 pub small-letter-spec : {M : Type 1} → statement M
 small-letter-spec = tie.close (tie.spec returns returns-2 add-result returns-3)
