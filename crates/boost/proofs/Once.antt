@@ -98,7 +98,7 @@ div-values (fin s m e) (fin t n d) a b B h k =
     ∙ ap (λ (u : Bool). round binary32 (unlike u t) (m * up e * down d) (n * up d * down e)) (h .0)
     ∙ ap (λ (u : Bool). round binary32 (unlike false u) (m * up e * down d) (n * up d * down e)) (k .0)
     ∙ round-same binary32 false (m * up e * down d) (n * up d * down e) a b (bottom-pos n (up d) b (down d) (down e) (part t n d b k) B (down-pos d) (down-pos e)) B
-        (cross a b (m * up e) (n * up d) (down e) (down d) (part s m e a h) (part t n d b k))
+    (cross a b (m * up e) (n * up d) (down e) (down d) (part s m e a h) (part t n d b k))
 
 mul-values : (x y : Float) (a b : ℕ) → HasValue x false a 1 → HasValue y false b 1 → mul binary32 x y ≡ round binary32 false (a * b) 1
 unfolding mul
@@ -110,7 +110,7 @@ mul-values (fin s m e) (fin t n d) a b h k =
     ap (λ (u : Bool). round binary32 (unlike u t) (m * up e * (n * up d)) (down e * down d)) (h .0)
     ∙ ap (λ (u : Bool). round binary32 (unlike false u) (m * up e * (n * up d)) (down e * down d)) (k .0)
     ∙ round-same binary32 false (m * up e * (n * up d)) (down e * down d) (a * b) 1 (mul-pos (down-pos e) (down-pos d)) (one-pos 0)
-        (tops a b (m * up e) (n * up d) (down e) (down d) (part s m e a h) (part t n d b k))
+    (tops a b (m * up e) (n * up d) (down e) (down d) (part s m e a h) (part t n d b k))
   where
     one-pos : (z : ℕ) → 0 < 1
     one-pos z = omega arith
@@ -136,8 +136,6 @@ round-not-nan f s num den =
     (units-not-nan f s (closest (num * 2 ^ low f) (den * 2 ^ (size (num * 2 ^ low f / den) - prec f))) (size (num * 2 ^ low f / den) - prec f))
 
 -- ---- the answers, for a t that is a power of ten
-
-
 
 module _ (d n t : ℕ) (H : d < shortMost) (N : n < 8) (e : t ≡ 10 ^ n) where
   quotient-is : div binary32 (float d) (float t) ≡ round binary32 false d (10 ^ n)

@@ -6,8 +6,8 @@ use Prim.Native.Nat.{ℕ, zero, suc, _+_, _-_, _^_, _≤_, _<_}
 use native.Mathlib.Nat.{le-trans, le-of-eq}
 use native.Mathlib.Numerals.{add-one}
 use native.Mathlib.Omega.{arith}
-use lib.ListN.{length, drop, getD, drop-of-length-le}
-use lib.Seq.{drop-cons}
+use lib.ListN.{length, take, drop, getD, length-drop, drop-of-length-le}
+use lib.Seq.{take-all}
 use lib.Dec.{leb, eqb, le→leb, lit<}
 use lib.Arith.{lt→nleb}
 use lib.Ieee.Bits.{is-true, is-false}
@@ -183,3 +183,7 @@ module _ (s : List ℕ) where
 
       zero-le : (n : ℕ) → 0 ≤ n
       zero-le n = omega arith
+
+  -- what is lent after the sign
+  pub lent : (m : Bool) → Sign s m (drop 1 s) → Sign s m (take (length s - 1) (drop 1 s))
+  lent m g = record { minus = g .minus; left = g .left ∙ sym (take-all (length s - 1) (drop 1 s) (le-of-eq (length-drop 1 s))) }

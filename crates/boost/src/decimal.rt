@@ -6,7 +6,6 @@ ghost use lib.ListN.{length};
 ghost use Rattle.rules.specs.Numerals.{nearest};
 ghost use Rattle.boost.specs.Digits.{shortMost, numberOf, Held};
 ghost use Rattle.boost.specs.Decimal.{Up, Down};
-
 use crate::digits::Digits;
 
 // The pattern nearest to the digits' number over 10^n, by rows.

@@ -9,7 +9,6 @@ ghost use Rattle.rules.specs.Analysis.{front, after, lower, lowercase};
 ghost use Rattle.rules.specs.Numerals.{infinity, isDigit, digitsOn, isMinus, afterSign, exponent, afterDigits, afterWhole, unsigned, signed, bitsOf, numeralBits};
 ghost use Rattle.boost.specs.Digits.{numberOf, Held};
 ghost use Rattle.boost.specs.Numeral.{answerOf, isPoint};
-
 use crate::digits::Digits;
 
 // A refusal by its number, or the bits of a 32-bit float.

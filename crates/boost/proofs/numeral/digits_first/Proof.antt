@@ -1,69 +1,52 @@
+-- `boost::numeral::digits_first` meets its contract. Assumes nothing.
 use Rattle.boost.proofs.Wholes.{Case, plain-bad, plain-good, plain-held, point-bad, point-good, point-held}
 use Rattle.boost.proofs.Grammar.{carry, refuses, point-within}
 use Rattle.rules.specs.Numerals.{afterDigits}
 use Rattle.boost.specs.Digits.{numberOf}
-use lib.ListN.{drop, length}
-use Prim.Native.Nat.{_+_, _-_}
-use mathlib.Core.Path.{_≡_, refl, sym, ap, _∙_, subst}
+use lib.ListN.{drop}
+use Prim.Native.Nat.{_-_}
+use mathlib.Core.Path.{sym, _∙_}
 use native.Mathlib.Omega.{arith}
 use borrow.Author.Needs.{needs}
 use Rattle.boost.proofs.numeral.digits_first.Statement.{statement}
 use Rattle.boost.proofs.numeral.digits_first.Tie as tie
-use Rattle.boost.proofs.numeral.digits_first.Reads as reads
-use Rattle.boost.proofs.numeral.digits_first.Lts as lts
-use Rattle.boost.proofs.digits.read.Reads as read-reads
-use Rattle.boost.proofs.numeral.after_digits.Reads as after-digits-reads
-use Rattle.boost.proofs.numeral.is_point.Reads as is-point-reads
 
--- src/numeral.rt:106:9
 read-requires : tie.Need-read-requires
 read-requires c κs = search needs
 
--- src/numeral.rt:108:8
 is-point-requires : tie.Need-is-point-requires
 is-point-requires c κs = search needs
 
--- src/numeral.rt:109:40
 add-read : tie.Need-add-read
 add-read c = search needs
 
--- src/numeral.rt:109:13
 read-requires-2 : tie.Need-read-requires-2
-read-requires-2 c κs = (point-within (c .before .before .before .before .args .s .now) (c .before .before .read .result .end) (sym (c .before .is-point .ensures) ∙ c .if1 .taken), c .before .before .read .ensures .small)
+read-requires-2 c κs = (omega (arith, point-within (c .before .before .before .before .args .s .now) (c .before .before .read .result .end) (sym (c .before .is-point .ensures) ∙ c .if1 .taken)), c .before .before .read .ensures .small)
 
--- src/numeral.rt:111:13
 returns : tie.Need-returns
 returns c = refuses (c .before .before .before .before .before .before .before .args .minus) (Case (c .before .before .before .before .before .before .before .args .s .now)) (point-bad (c .before .before .before .before .before .before .before .args .s .now) (c .before .before .before .before .before .read .result .value) (c .before .before .before .before .before .read .result .end) (c .before .before .before .before .before .read .ensures) (sym (c .before .before .before .before .is-point .ensures) ∙ c .before .before .before .if1 .taken) (c .before .before .read2 .result .value) (c .before .before .read2 .result .end) (c .before .before .read2 .ensures) (c .if2 .taken))
 
--- src/numeral.rt:115:22
 sub-t9 : tie.Need-sub-t9
 sub-t9 c = search needs
 
--- src/numeral.rt:115:22
 sub-t11 : tie.Need-sub-t11
 sub-t11 c = search needs
 
--- src/numeral.rt:115:21
 cast-t12 : tie.Need-cast-t12
 cast-t12 c = search needs
 
--- src/numeral.rt:118:9
 after-digits-requires : tie.Need-after-digits-requires
 after-digits-requires c κs = (point-held (c .before .before .before .before .before .before .before .before .args .s .now) (c .before .before .before .before .before .before .read .result .value) (c .before .before .before .before .before .before .read .result .end) (c .before .before .before .before .before .before .read .ensures) (sym (c .before .before .before .before .before .is-point .ensures) ∙ c .before .before .before .before .if1 .taken) (c .before .before .before .read2 .result .value) (c .before .before .before .read2 .result .end) (c .before .before .before .read2 .ensures), (c .before .before .before .before .before .before .before .before .pre, c .before .before .before .read2 .ensures .within))
 
--- src/numeral.rt:118:9
 returns-2 : tie.Need-returns-2
 returns-2 c = carry (c .before .before .before .before .before .before .before .before .before .args .minus) (Case (c .before .before .before .before .before .before .before .before .before .args .s .now)) (afterDigits (numberOf (c .before .before .before .before .before .before .before .before .before .args .s .now) (c .before .before .before .before .before .before .before .read .result .end) (c .before .before .before .before .read2 .result .end - c .before .before .before .before .before .before .before .read .result .end - 1)) (c .before .before .before .before .read2 .result .end - c .before .before .before .before .before .before .before .read .result .end - 1) (drop (c .before .before .before .before .read2 .result .end) (c .before .before .before .before .before .before .before .before .before .args .s .now))) (c .after-digits .result) (point-good (c .before .before .before .before .before .before .before .before .before .args .s .now) (c .before .before .before .before .before .before .before .read .result .value) (c .before .before .before .before .before .before .before .read .result .end) (c .before .before .before .before .before .before .before .read .ensures) (sym (c .before .before .before .before .before .before .is-point .ensures) ∙ c .before .before .before .before .before .if1 .taken) (c .before .before .before .before .read2 .result .value) (c .before .before .before .before .read2 .result .end) (c .before .before .before .before .read2 .ensures) (c .before .before .if2 .left)) (c .after-digits .ensures)
 
--- src/numeral.rt:121:9
 returns-3 : tie.Need-returns-3
 returns-3 c = refuses (c .before .before .before .before .before .args .minus) (Case (c .before .before .before .before .before .args .s .now)) (plain-bad (c .before .before .before .before .before .args .s .now) (c .before .before .before .read .result .value) (c .before .before .before .read .result .end) (c .before .before .before .read .ensures) (sym (c .before .before .is-point .ensures) ∙ c .before .if1 .left) (c .if3 .taken))
 
--- src/numeral.rt:128:5
 after-digits-requires-2 : tie.Need-after-digits-requires-2
 after-digits-requires-2 c κs = (plain-held (c .before .before .before .before .before .args .s .now) (c .before .before .before .read .result .value) (c .before .before .before .read .result .end) (c .before .before .before .read .ensures), (c .before .before .before .before .before .pre, c .before .before .before .read .ensures .within))
 
--- src/numeral.rt:102:1
 returns-4 : tie.Need-returns-4
 returns-4 c = carry (c .before .before .before .before .before .before .args .minus) (Case (c .before .before .before .before .before .before .args .s .now)) (afterDigits (numberOf (c .before .before .before .before .before .before .args .s .now) (c .before .before .before .before .read .result .end) 0) 0 (drop (c .before .before .before .before .read .result .end) (c .before .before .before .before .before .before .args .s .now))) (c .after-digits2 .result) (plain-good (c .before .before .before .before .before .before .args .s .now) (c .before .before .before .before .read .result .value) (c .before .before .before .before .read .result .end) (c .before .before .before .before .read .ensures) (sym (c .before .before .before .is-point .ensures) ∙ c .before .before .if1 .left) (c .before .if3 .left)) (c .after-digits2 .ensures)
 

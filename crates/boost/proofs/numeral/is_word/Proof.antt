@@ -1,3 +1,4 @@
+-- `boost::numeral::is_word` meets its contract. Assumes nothing.
 use Rattle.boost.proofs.Words.{other-length, Matching, match-first, match-no, match-next, match-done}
 use lib.ListN.{length}
 use Prim.Native.Nat.{_-_}
@@ -5,9 +6,6 @@ use native.Mathlib.Omega.{arith}
 use borrow.Author.Needs.{needs}
 use Rattle.boost.proofs.numeral.is_word.Statement.{statement}
 use Rattle.boost.proofs.numeral.is_word.Tie as tie
-use Rattle.boost.proofs.numeral.is_word.Reads as reads
-use Rattle.boost.proofs.numeral.is_word.Lts as lts
-use Rattle.boost.proofs.numeral.small_letter.Reads as small-letter-reads
 
 abbrev Inv-loop : tie.InvT-loop
 Inv-loop s w i₀ i = Matching s w i
@@ -15,43 +13,33 @@ Inv-loop s w i₀ i = Matching s w i
 abbrev μ-loop : tie.MeasureT-loop
 μ-loop s w i₀ i = length w - i
 
--- src/numeral.rt:148:9
 returns : tie.Need-returns Inv-loop μ-loop
 returns c = other-length (c .before .before .before .args .s .now) (c .before .before .before .args .w .now) (c .if1 .taken)
 
--- src/numeral.rt:151:5
 loop-holds : tie.Need-loop-holds Inv-loop μ-loop
 loop-holds c = match-first (c .before .before .before .args .s .now) (c .before .before .before .args .w .now) (c .if1 .left)
 
--- src/numeral.rt:152:25
 shared-slice-read-small-letter : tie.Need-shared-slice-read-small-letter Inv-loop μ-loop
 shared-slice-read-small-letter c = omega (arith, c .before .before .loop .inv .count)
 
--- src/numeral.rt:152:12
 small-letter-requires : tie.Need-small-letter-requires Inv-loop μ-loop
 small-letter-requires c κs = search needs
 
--- src/numeral.rt:152:34
 shared-slice-read-if2 : tie.Need-shared-slice-read-if2 Inv-loop μ-loop
 shared-slice-read-if2 c = omega arith
 
--- src/numeral.rt:153:13
 returns-2 : tie.Need-returns-2 Inv-loop μ-loop
 returns-2 c = match-no (c .before .before .before .before .before .before .before .before .before .args .s .now) (c .before .before .before .before .before .before .before .before .before .args .w .now) (c .before .before .before .before .before .loop .i) (c .before .before .before .before .before .loop .inv) (c .before .before .before .before .loop-test .taken) (c .before .before .small-letter .result) (c .before .before .small-letter .ensures) (c .if2 .taken)
 
--- src/numeral.rt:155:9
 add-i : tie.Need-add-i Inv-loop μ-loop
 add-i c = omega arith
 
--- src/numeral.rt:151:5
 loop-less : tie.Need-loop-less Inv-loop μ-loop
 loop-less c = omega arith
 
--- src/numeral.rt:151:5
 loop-again : tie.Need-loop-again Inv-loop μ-loop
 loop-again c = match-next (c .before .before .before .before .before .before .before .before .before .args .s .now) (c .before .before .before .before .before .before .before .before .before .args .w .now) (c .before .before .before .before .before .loop .i) (c .before .before .before .before .before .loop .inv) (c .before .before .before .before .loop-test .taken) (c .before .before .small-letter .result) (c .before .before .small-letter .ensures) (c .if2 .left)
 
--- src/numeral.rt:144:1
 returns-3 : tie.Need-returns-3 Inv-loop μ-loop
 returns-3 c = match-done (c .before .before .before .before .before .args .s .now) (c .before .before .before .before .before .args .w .now) (c .before .loop .i) (c .before .loop .inv) (c .loop-test .left)
 

@@ -1,24 +1,18 @@
+-- `boost::numeral::small_letter` meets its contract. Assumes nothing.
 use Rattle.boost.proofs.Words.{lower-low, lower-high, lower-mid}
-use native.Mathlib.Omega.{arith}
 use borrow.Author.Needs.{needs}
 use Rattle.boost.proofs.numeral.small_letter.Statement.{statement}
 use Rattle.boost.proofs.numeral.small_letter.Tie as tie
-use Rattle.boost.proofs.numeral.small_letter.Reads as reads
-use Rattle.boost.proofs.numeral.small_letter.Lts as lts
 
--- src/numeral.rt:135:9
 returns : tie.Need-returns
 returns c = lower-low (c .before .args .b) (c .if1 .taken)
 
--- src/numeral.rt:138:9
 returns-2 : tie.Need-returns-2
 returns-2 c = lower-high (c .before .before .args .b) (c .before .if1 .left) (c .if2 .taken)
 
--- src/numeral.rt:140:5
 add-result : tie.Need-add-result
 add-result c = search needs
 
--- src/numeral.rt:131:1
 returns-3 : tie.Need-returns-3
 returns-3 c = lower-mid (c .before .before .args .b) (c .before .if1 .left) (c .if2 .left)
 

@@ -1,29 +1,21 @@
+-- `boost::quick::multiple` meets its contract. Assumes nothing.
 use Rattle.boost.proofs.Once.{holds, few, power-le, product-number, product-nearest}
-use native.Mathlib.Omega.{arith}
 use borrow.Author.Needs.{needs}
 use Rattle.boost.proofs.quick.multiple.Statement.{statement}
 use Rattle.boost.proofs.quick.multiple.Tie as tie
-use Rattle.boost.proofs.quick.multiple.Reads as reads
-use Rattle.boost.proofs.quick.multiple.Lts as lts
-use Rattle.boost.proofs.quick.ten.Reads as ten-reads
 
--- src/quick.rt:35:9
 ten-requires : tie.Need-ten-requires
 ten-requires c κs = search needs
 
--- src/quick.rt:36:14
 int-to-float-p : tie.Need-int-to-float-p
 int-to-float-p c = holds (c .before .before .args .d) (few (c .before .before .args .d) (c .before .before .pre .0))
 
--- src/quick.rt:36:27
 int-to-float-p-2 : tie.Need-int-to-float-p-2
 int-to-float-p-2 c = holds (c .before .before .ten .result) (power-le (c .before .before .before .args .n) (c .before .before .ten .result) (c .before .before .before .pre .1) (c .before .before .ten .ensures))
 
--- src/quick.rt:37:5
 float-to-bits-result : tie.Need-float-to-bits-result
 float-to-bits-result c = product-number (c .before .before .before .args .d) (c .before .before .before .args .n) (c .before .before .ten .result) (c .before .before .before .pre .0) (c .before .before .before .pre .1) (c .before .before .ten .ensures)
 
--- src/quick.rt:30:1
 returns : tie.Need-returns
 returns c = product-nearest (c .before .before .before .args .d) (c .before .before .before .args .n) (c .before .before .ten .result) (c .before .before .before .pre .0) (c .before .before .before .pre .1) (c .before .before .ten .ensures)
 
