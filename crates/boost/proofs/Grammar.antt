@@ -3,27 +3,27 @@
 use mathlib.Core.Path.{_≡_, refl, sym, ap, _∙_, subst}
 use mathlib.Core.Logic.{_⊎_, inl, inr}
 use mathlib.Core.List.{List, [], _∷_}
-use mathlib.Core.Bool.{Bool, true, false, not, _&&_, _||_, cond, true≢false}
-use Prim.Native.Nat.{ℕ, zero, suc, _+_, _-_, _*_, _^_, _≤_, _<_, min}
-use native.Mathlib.Nat.{le-trans, le-of-eq, eq-zero-or-pos, zero-add, zero-lt-suc}
+use mathlib.Core.Bool.{Bool, true, false, not, _||_, cond, true≢false}
+use Prim.Native.Nat.{ℕ, suc, _+_, _-_, _*_, _^_, _≤_, _<_, min}
+use native.Mathlib.Nat.{le-of-eq, zero-add}
 use native.Mathlib.Numerals.{add-one}
 use native.Mathlib.Omega.{arith}
-use lib.ListN.{length, drop, getD, length-drop, drop-of-length-le}
+use lib.ListN.{length, drop, getD, drop-of-length-le}
 use lib.Seq.{drop-cons}
-use lib.Dec.{T, eqb, eqb→eq, not-T, leb, nleb→lt, lit≤}
+use lib.Dec.{T, eqb, eqb→eq, not-T}
 use lib.Ieee.Fits.{eq→eqb}
 use lib.Ieee.Bits.{is-true, is-false}
 use Rattle.rules.specs.Bytes.{isEmpty}
 use Rattle.rules.specs.Analysis.{front, after}
-use Rattle.rules.specs.Numerals.{Numeral, bad, infinite, notNumber, decimal, infinity, isDigit, digitsOn, isMinus, afterSign, exponent, afterDigits, afterWhole, nearest, signed, bitsOf}
+use Rattle.rules.specs.Numerals.{Numeral, bad, decimal, infinity, isDigit, digitsOn, isMinus, afterSign, exponent, afterDigits, signed, bitsOf}
 use Rattle.rules.proofs.NearestOrder.{tri}
 use Rattle.boost.specs.declared.numeral.Answer.{Answer}
 use Rattle.boost.specs.declared.numeral.Answer.the-variants.{Refused, Bits}
 use Rattle.boost.specs.Numeral.{answerOf, isPoint}
-use Rattle.boost.specs.Digits.{shortMost, Reading, numberOf, Held}
+use Rattle.boost.specs.Digits.{shortMost, Reading}
 use Rattle.boost.specs.Decimal.{Up, Down}
 use Rattle.boost.proofs.Tens.{ten-pos}
-use Rattle.boost.proofs.Scales.{nearest-within, number-whole, number-both}
+use Rattle.boost.proofs.Scales.{nearest-within}
 
 -- ---- tests
 pub eq-yes : (a b : ℕ) → a ≡ b → eqb a b ≡ true

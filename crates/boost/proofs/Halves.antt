@@ -1,8 +1,8 @@
 -- What the proofs of `past` and `bisect` cite: the test of a middle, and the range of patterns that is halved. Assumes nothing.
-use mathlib.Core.Path.{_≡_, refl, sym, ap, _∙_, subst}
-use mathlib.Core.Logic.{_⊎_, inl, inr}
+use mathlib.Core.Path.{_≡_, sym, ap, _∙_, subst}
+use mathlib.Core.Logic.{inl, inr}
 use mathlib.Core.List.{List}
-use mathlib.Core.Bool.{Bool, true, false, true≢false}
+use mathlib.Core.Bool.{true, false, true≢false}
 use Prim.Native.Nat.{ℕ, suc, _+_, _*_, _%_, _^_, _≤_, _<_}
 use native.Mathlib.Nat.{mul-comm, le-refl}
 use native.Mathlib.Numerals.{add-one}
@@ -11,7 +11,7 @@ use lib.Dec.{T, eqb, eqb→eq}
 use lib.Ieee.Fits.{eq→eqb}
 use lib.Ieee.Bits.{is-true}
 use Rattle.boost.specs.Row.{value, Times, Order, Ordered}
-use Rattle.rules.specs.Numerals.{unitsOf, Past, Nearest}
+use Rattle.rules.specs.Numerals.{unitsOf, Past}
 use Rattle.boost.specs.Bisect.{Tested, Found}
 
 -- t is twice the middle times den, and o is its order with x

@@ -1,9 +1,9 @@
 -- What the proofs of the functions on rows of limbs cite: the loops' invariants, one turn of each, and their ends. Assumes nothing.
 use mathlib.Core.Path.{_≡_, refl, sym, ap, _∙_, subst}
-use mathlib.Core.Logic.{_⊎_, inl, inr}
+use mathlib.Core.Logic.{inl, inr}
 use mathlib.Core.List.{List}
 use Prim.Native.Nat.{ℕ, zero, suc, _+_, _-_, _*_, _/_, _%_, _^_, _≤_, _<_, zero-le}
-use native.Mathlib.Nat.{le-refl, le-trans, le-of-lt, le-of-eq, le-suc, lt-of-lt-of-le, lt-of-le-of-lt, ne-of-lt, ne-of-gt, eq-or-lt-of-le, mod-lt, zero-lt-suc, mul-comm, mul-assoc, mul-left-comm, mul-one, add-mul, suc-mul, mul-le-mul-right, mul-le-mul, pow-suc, zero-mul, zero-add, add-zero}
+use native.Mathlib.Nat.{le-refl, le-trans, le-of-eq, le-suc, ne-of-lt, ne-of-gt, mod-lt, zero-lt-suc, mul-comm, mul-assoc, add-mul, suc-mul, mul-le-mul-right, pow-suc, zero-mul}
 use native.Mathlib.Numerals.{add-one}
 use native.Mathlib.Omega.{arith}
 use lib.ListN.{length, getD, set, length-set}

@@ -7,7 +7,7 @@ use native.Mathlib.Omega.{arith}
 use lib.Dec.{T, leb, ltb, eqb, not-T, eqb→eq, lt→ltb, le→leb}
 use lib.Arith.{lt→nleb}
 use lib.Pow.{pow-add, pow-pos, pow-mono}
-use lib.Ieee.{Float, nan, inf, fin, Format, binary32, binary64, prec, low, odd, hid, ones, top, ofFields, ofBits, isNan, nanBits}
+use lib.Ieee.{Float, nan, inf, fin, Format, binary32, binary64, prec, low, odd, hid, ones, top, ofFields, ofBits, isNan}
 use lib.Ieee.Bits.{cond-no, is-true, is-false, nanBits-is, nanBits-above}
 use lib.Ieee.Exact.{HasValue, odd-sign}
 use Rattle.rules.proofs.NearestPattern.{rescale}

@@ -1,14 +1,10 @@
 -- What the proofs of the float operations on patterns cite: where a NaN stands. Assumes nothing.
 use mathlib.Core.Path.{_≡_, refl, sym, ap, _∙_, subst}
 use mathlib.Core.Bool.{Bool, true, false, not}
-use mathlib.Core.List.{List, [], _∷_}
-use Prim.Native.Nat.{ℕ, suc, _+_, _*_, _%_, _≤_, _<_}
-use native.Mathlib.Numerals.{add-one}
-use lib.ListN.{length, drop, getD, drop-of-length-le}
-use lib.Seq.{drop-cons}
-use lib.Dec.{T, ltb}
+use Prim.Native.Nat.{ℕ, _*_, _%_, _≤_, _<_}
+use lib.Dec.{T}
 use lib.Arith.{le→nltb}
-use lib.Ieee.{Float, nan, inf, fin, Format, binary32, binary64, hid, ones, top, ofBits, toBits, nanBits, isNan, add, mul, div, ne, eq}
+use lib.Ieee.{Float, nan, inf, fin, Format, binary32, binary64, hid, ones, top, ofBits, toBits, nanBits, isNan, mul, div, ne, eq}
 use lib.Ieee.Fits.{fits-widens}
 use lib.Ieee.Bits.{nanBits-above, ofBits-toBits, ofBits-fits}
 use lib.Ieee.Compare.{differs-from-itself, nan-differs}

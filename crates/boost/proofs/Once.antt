@@ -3,7 +3,7 @@ use mathlib.Core.Path.{_≡_, refl, sym, ap, _∙_, subst}
 use mathlib.Core.Bool.{Bool, true, false, not, cond}
 use mathlib.Core.List.{List, [], _∷_}
 use Prim.Native.Nat.{ℕ, zero, suc, _+_, _-_, _*_, _/_, _^_, _≤_, _<_}
-use native.Mathlib.Nat.{le-trans, le-of-eq, lt-of-lt-of-le, eq-zero-or-pos, mul-one, one-mul, mul-comm, mul-assoc, mul-pos, zero-mul}
+use native.Mathlib.Nat.{mul-one, mul-comm, mul-assoc, mul-pos, zero-mul}
 use native.Mathlib.Omega.{arith}
 use lib.Dec.{T, eqb, ltb, not-T, eqb→eq, le→leb, lit≤}
 use lib.IntN.{ℤ, pos}

@@ -1,9 +1,9 @@
 -- What the proofs of `times`, `raise` and `to_middle` cite. Assumes nothing.
-use mathlib.Core.Path.{_≡_, refl, sym, ap, _∙_, subst}
-use mathlib.Core.Logic.{_⊎_, inl, inr}
+use mathlib.Core.Path.{_≡_, refl, sym, ap, _∙_}
+use mathlib.Core.Logic.{inl, inr}
 use mathlib.Core.List.{List}
-use Prim.Native.Nat.{ℕ, zero, suc, _+_, _-_, _*_, _/_, _%_, _^_, _≤_, _<_}
-use native.Mathlib.Nat.{le-trans, le-of-eq, le-of-lt, lt-of-le-of-lt, lt-of-lt-of-le, lt-irrefl, eq-zero-or-pos, zero-mul, add-zero, one-mul, mul-one, mul-assoc, mul-le-mul-right, mul-le-mul-left, mul-le-mul, mod-eq-of-lt, le-add-left}
+use Prim.Native.Nat.{ℕ, suc, _+_, _-_, _*_, _/_, _%_, _^_, _≤_, _<_}
+use native.Mathlib.Nat.{le-trans, le-of-eq, lt-of-le-of-lt, eq-zero-or-pos, zero-mul, one-mul, mul-one, mul-assoc, mul-le-mul-right, mul-le-mul-left, mul-le-mul, mod-eq-of-lt}
 use native.Mathlib.Omega.{arith}
 use lib.Pow.{pow-add, pow-mono, pow-lt, pow-pos}
 use Rattle.boost.specs.Row.{value, Row, Scaled, Times, limit}

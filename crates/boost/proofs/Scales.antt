@@ -1,21 +1,21 @@
 -- What the proofs of the functions from digits and an exponent to a pattern cite. Assumes nothing.
-use mathlib.Core.Path.{_≡_, refl, sym, ap, _∙_, subst}
-use mathlib.Core.Logic.{_⊎_, inl, inr}
-use mathlib.Core.List.{List, [], _∷_}
-use mathlib.Core.Bool.{Bool, true, false, cond}
-use Prim.Native.Nat.{ℕ, zero, suc, _+_, _-_, _*_, _^_, _≤_, _<_, min}
+use mathlib.Core.Path.{_≡_, sym, ap, _∙_, subst}
+use mathlib.Core.Logic.{inl, inr}
+use mathlib.Core.List.{List}
+use mathlib.Core.Bool.{Bool, false, cond}
+use Prim.Native.Nat.{ℕ, _+_, _-_, _*_, _^_, _≤_, _<_, min}
 use native.Mathlib.Nat.{le-trans, le-of-eq, le-of-lt, lt-of-le-of-lt, lt-of-lt-of-le, eq-zero-or-pos, one-mul, mul-one, mul-assoc, mul-le-mul-right, mul-le-mul, mul-lt-mul-of-pos-right, zero-mul, zero-lt-suc}
 use native.Mathlib.Omega.{arith}
-use lib.Dec.{T, eqb, lit<, lit≤, not-T, eqb→eq, eqb-refl}
+use lib.Dec.{T, eqb, lit<, lit≤, not-T, eqb→eq}
 use lib.ListN.{length, drop}
 use lib.Pow.{pow-add, pow-pos}
-use lib.Ieee.{binary32, toBits, round}
+use lib.Ieee.{binary32, toBits}
 use lib.Ieee.Bits.{is-true, is-false}
 use lib.Ieee.Scale.{round-same}
 use Rattle.rules.specs.Analysis.{front}
 use Rattle.rules.specs.Numerals.{infinity, isDigit, digitsOn, nearest, Nearest}
 use Rattle.rules.proofs.Nearest.{nearest-is, is-nearest, bound-infinity, bound-zero}
-use Rattle.boost.specs.Row.{value, limit}
+use Rattle.boost.specs.Row.{limit}
 use Rattle.boost.specs.Bisect.{most, Found}
 use Rattle.boost.specs.Digits.{shortMost, numberOf, Held, forty}
 use Rattle.boost.specs.Decimal.{Up, Down}

@@ -1,19 +1,18 @@
 -- What the proof of `digits_first` cites: the digits before and behind the point, and what the code holds of them. Assumes nothing.
 use mathlib.Core.Path.{_≡_, refl, sym, ap, _∙_, subst}
-use mathlib.Core.Logic.{_⊎_, inl, inr}
+use mathlib.Core.Logic.{inl, inr}
 use mathlib.Core.List.{List, [], _∷_}
 use mathlib.Core.Bool.{Bool, true, false, not, _||_, cond}
-use Prim.Native.Nat.{ℕ, suc, _+_, _-_, _≤_, _<_, min}
+use Prim.Native.Nat.{ℕ, _+_, _-_, _≤_, _<_, min}
 use native.Mathlib.Nat.{eq-zero-or-pos}
 use native.Mathlib.Omega.{arith}
 use lib.ListN.{length, drop, getD}
-use lib.Dec.{eqb}
 use Rattle.rules.specs.Bytes.{isEmpty}
 use Rattle.rules.specs.Analysis.{front, after}
 use Rattle.rules.specs.Numerals.{Numeral, bad, isDigit, digitsOn, afterDigits, afterWhole}
 use Rattle.boost.specs.Numeral.{isPoint}
 use Rattle.boost.specs.Digits.{shortMost, Reading, numberOf, Held}
-use Rattle.boost.proofs.Grammar.{cons-at, no-length, some-length, point-within, point-byte}
+use Rattle.boost.proofs.Grammar.{cons-at, no-length, some-length, point-within}
 use Rattle.boost.proofs.Scales.{number-whole, number-both}
 
 digits-none : (w : ℕ) → digitsOn w [] ≡ w

@@ -7,8 +7,7 @@ use native.Mathlib.Omega.{arith}
 use lib.Pow.{shl-lt}
 use lib.Dec.{lit<}
 use lib.Count.{leadingZeros, leading-top}
-use lib.Ieee.{Float, nan, binary32, binary64, ofFields, ofBits, toBits}
-use lib.Ieee.Exact.{HasValue}
+use lib.Ieee.{nan, binary32, binary64, ofFields, toBits}
 use Rattle.rules.proofs.NearestPattern.{pattern-high, pattern-low}
 use Rattle.rules.specs.Floats as floats
 use Rattle.boost.specs.Bits.{Widened, WidenedBits}

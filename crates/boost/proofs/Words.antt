@@ -1,24 +1,22 @@
 -- What the proofs of the functions on words and signs cite. Assumes nothing.
 use mathlib.Core.Path.{_≡_, refl, sym, ap, _∙_, subst}
-use mathlib.Core.List.{List, [], _∷_, map}
+use mathlib.Core.List.{List, [], _∷_}
 use mathlib.Core.Bool.{Bool, true, false, not, _&&_, _||_, cond}
-use Prim.Native.Nat.{ℕ, zero, suc, _+_, _-_, _^_, _≤_, _<_}
+use Prim.Native.Nat.{ℕ, suc, _+_, _-_, _≤_, _<_}
 use native.Mathlib.Nat.{le-trans, le-of-eq}
-use native.Mathlib.Numerals.{add-one}
 use native.Mathlib.Omega.{arith}
 use lib.ListN.{length, take, drop, getD, length-drop, drop-of-length-le}
 use lib.Seq.{take-all}
 use lib.Dec.{leb, eqb, le→leb, lit<}
 use lib.Arith.{lt→nleb}
 use lib.Ieee.Bits.{is-true, is-false}
-use Rattle.rules.specs.Numbers.{longNumeral, numeralMost, need, refused}
+use Rattle.rules.specs.Numbers.{longNumeral, need}
 use Rattle.rules.specs.Bytes.{ascii, same, isEmpty}
-use Rattle.rules.specs.Stored.{theNan}
 use Rattle.rules.specs.Analysis.{lower, lowercase, front, after}
-use Rattle.rules.specs.Numerals.{Numeral, bad, infinite, notNumber, infinity, isDigit, digitsOn, isMinus, afterSign, exponent, afterDigits, afterWhole, unsigned, signed, bitsOf, numeralBits}
+use Rattle.rules.specs.Numerals.{bad, infinite, notNumber, infinity, isDigit, digitsOn, isMinus, afterSign, afterDigits, afterWhole, unsigned, signed, bitsOf, numeralBits}
 use Rattle.boost.specs.declared.numeral.Answer.{Answer}
 use Rattle.boost.specs.declared.numeral.Answer.the-variants.{Refused, Bits}
-use Rattle.boost.specs.Numeral.{answerOf, isPoint}
+use Rattle.boost.specs.Numeral.{answerOf}
 use Rattle.boost.proofs.Runs.{digit-high}
 use Rattle.boost.proofs.Grammar.{eq-yes, eq-no, carry, refuses, cons-at, Sign}
 use Rattle.boost.proofs.Wholes.{Case}

@@ -1,13 +1,13 @@
 -- The pattern of `round binary32` is the nearest one over whole numbers, so the two definitions agree. Assumes nothing.
 use mathlib.Core.Path.{_≡_, refl, sym, ap, _∙_, subst}
 use mathlib.Core.Logic.{_⊎_, inl, inr}
-use mathlib.Core.Bool.{Bool, true, false, cond}
-use Prim.Native.Nat.{ℕ, zero, suc, _+_, _-_, _*_, _/_, _%_, _^_, _≤_, _<_, compare}
-use native.Mathlib.Nat.{le-refl, le-trans, le-of-eq, le-of-lt, lt-of-lt-of-le, lt-of-le-of-lt, eq-or-lt-of-le, eq-zero-or-pos, mul-one, mul-comm, mul-assoc, add-mul, suc-mul, mul-le-mul-right, mul-lt-mul-of-pos-right, mul-pos, mod-lt, div-add-mod', le-div-iff-mul-le, div-div-eq-div-mul, pow-succ'}
+use mathlib.Core.Bool.{Bool, cond}
+use Prim.Native.Nat.{ℕ, suc, _+_, _-_, _*_, _/_, _%_, _^_, _≤_, _<_, compare}
+use native.Mathlib.Nat.{le-refl, le-trans, le-of-eq, le-of-lt, lt-of-lt-of-le, eq-or-lt-of-le, eq-zero-or-pos, mul-comm, mul-assoc, add-mul, suc-mul, mul-lt-mul-of-pos-right, mul-pos, mod-lt, div-add-mod', le-div-iff-mul-le, div-div-eq-div-mul, pow-succ'}
 use native.Mathlib.Omega.{arith}
 use lib.Dec.{lit≤}
 use lib.Pow.{pow-add, pow-pos}
-use lib.Ieee.{binary32, size, nearest, units, round, toBits}
+use lib.Ieee.{binary32, size, nearest, round, toBits}
 use lib.Ieee.Digits.{size-reaches}
 use lib.Ieee.Fits.{kept-lt, nearest-le, round-is}
 use lib.Ieee.Nearest.{closest, nearest-ge}
