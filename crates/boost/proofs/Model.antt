@@ -2,11 +2,12 @@
 use mathlib.Core.Path.{_≡_, refl, sym, ap, _∙_, subst}
 use mathlib.Core.Bool.{Bool, true, false, not, cond}
 use Prim.Native.Nat.{ℕ, suc, _+_, _-_, _*_, _/_, _%_, _^_, _≤_, _<_}
-use native.Mathlib.Nat.{le-trans, le-of-eq, lt-of-lt-of-le, lt-of-not-le, lt-irrefl, mul-assoc, mul-le-mul-right, zero-mul, zero-add}
+use native.Mathlib.Nat.{le-trans, le-of-eq, lt-of-lt-of-le, lt-of-le-of-lt, lt-of-not-le, lt-irrefl, mul-assoc, mul-le-mul-right, zero-mul, zero-add}
 use native.Mathlib.Omega.{arith}
 use lib.Dec.{T, leb, ltb, eqb, not-T, eqb→eq, lt→ltb, le→leb}
 use lib.Arith.{lt→nleb}
 use lib.Pow.{pow-add, pow-pos, pow-mono}
+use lib.Count.{leadingZeros, leading-top}
 use lib.Ieee.{Float, nan, inf, fin, Format, binary32, binary64, prec, low, odd, hid, ones, top, ofFields, ofBits, isNan}
 use lib.Ieee.Bits.{cond-no, is-true, is-false, nanBits-is, nanBits-above}
 use lib.Ieee.Exact.{HasValue, odd-sign}
@@ -46,6 +47,19 @@ pow-lt-back i p h = lt-of-not-le (λ (g : p ≤ i). lt-irrefl (2 ^ i) (lt-of-lt-
 -- n's highest digit is at j, and a shift by i brings it to j + i
 pub normal-lo : (n j i : ℕ) → 2 ^ j ≤ n → 2 ^ (j + i) ≤ n * 2 ^ i
 normal-lo n j i h = le-trans (le-of-eq (pow-add 2 j i)) (mul-le-mul-right (2 ^ i) h)
+
+-- q, a number of w bits, has its highest digit at j, below p, and z leading zeros
+pub record Top (w p q z : ℕ) : Type 0 where
+  pub j : ℕ
+  pub makes : z + suc j ≡ w
+  pub few : j < p
+  pub lo : 2 ^ j ≤ q
+  pub hi : q < 2 ^ suc j
+
+pub top-of : (w p q : ℕ) → p ≤ w → 0 < q → q < 2 ^ p → Top w p q (leadingZeros w q)
+top-of w p q l h k =
+    let t = leading-top w q h (lt-of-lt-of-le k (pow-mono l)) in
+    record { j = t .0; makes = t .1; few = pow-lt-back (t .0) p (lt-of-le-of-lt (t .2) k); lo = t .2; hi = t .3 }
 
 -- ---- a pattern m with no sign, by its fields
 pub of-low : (f : Format) (s : Bool) (m : ℕ) → m < hid f → HasValue (ofFields f s (m / hid f) (m % hid f)) s (m * 2 ^ 0) (2 ^ low f)

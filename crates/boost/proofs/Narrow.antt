@@ -3,11 +3,11 @@ use mathlib.Core.Path.{_≡_, refl, sym, ap, _∙_, subst}
 use mathlib.Core.Logic.{inl, inr}
 use mathlib.Core.Bool.{Bool, true, false, cond}
 use Prim.Native.Nat.{ℕ, suc, _+_, _-_, _*_, _/_, _%_, _^_, _≤_, _<_, compare}
-use native.Mathlib.Nat.{le-trans, le-of-eq, lt-of-lt-of-le, lt-of-le-of-lt, mul-assoc, mul-le-mul-right, mul-lt-mul-of-pos-right, le-div-iff-mul-le, div-lt-iff-lt-mul, div-eq-of-lt, mod-eq-of-lt}
+use native.Mathlib.Nat.{le-trans, le-of-eq, lt-of-lt-of-le, mul-assoc, mul-le-mul-right, mul-lt-mul-of-pos-right, le-div-iff-mul-le, div-lt-iff-lt-mul, div-eq-of-lt, mod-eq-of-lt}
 use native.Mathlib.Omega.{arith}
 use lib.Dec.{lit<, lit≤}
 use lib.Pow.{pow-add, pow-pos, pow-mono, shl-lt}
-use lib.Count.{leadingZeros, leading-top}
+use lib.Count.{leadingZeros}
 use lib.Ieee.{Float, nan, binary32, binary64, size, units, nearest, round, ofFields, ofBits, toBits}
 use lib.Ieee.Digits.{size-le}
 use lib.Ieee.Fits.{nearest-le}
@@ -17,29 +17,16 @@ use Rattle.rules.specs.Floats.{rounded, narrowed}
 use Rattle.rules.proofs.NearestOrder.{near-lt}
 use Rattle.rules.proofs.NearestPattern.{size-exact, rounded-val, units-bits, units-bits-inf, round-at}
 use Rattle.boost.specs.Bits.{Narrowed, NarrowedBits}
-use Rattle.boost.proofs.Model.{moved, pow-lt-back, normal-lo, zero-val, of-low, of-high, of-nan}
+use Rattle.boost.proofs.Model.{Top, top-of, moved, normal-lo, zero-val, of-low, of-high, of-nan}
 
--- q has its highest digit at j below 53, and z leading zeros
-pub record Top (q z : ℕ) : Type 0 where
-  pub j : ℕ
-  pub makes : z + suc j ≡ 64
-  pub few : j < 53
-  pub lo : 2 ^ j ≤ q
-  pub hi : q < 2 ^ suc j
-
-pub top : (q : ℕ) → 0 < q → q < 2 ^ 53 → Top q (leadingZeros 64 q)
-top q p h =
-    let t = leading-top 64 q p (bigger q h) in
-    record { j = t .0; makes = t .1; few = pow-lt-back (t .0) 53 (lt-of-le-of-lt (t .2) h); lo = t .2; hi = t .3 }
-  where
-    bigger : (q : ℕ) → q < 2 ^ 53 → q < 2 ^ 64
-    bigger q h = omega arith
+top : (q : ℕ) → 0 < q → q < 2 ^ 53 → Top 64 53 q (leadingZeros 64 q)
+top q p h = top-of 64 53 q (lit≤ tt) p h
 
 pub zeros : (q : ℕ) → 0 < q → q < 2 ^ 53 → (11 ≤ leadingZeros 64 q) × (leadingZeros 64 q < 64)
 zeros q p h = let t = top q p h in omega arith
 
 -- moved up to 63 places
-pub digits : (q z : ℕ) → Top q z → (2 ^ 62 ≤ q * 2 ^ (z - 1)) × (q * 2 ^ (z - 1) < 2 ^ 63)
+pub digits : (q z : ℕ) → Top 64 53 q z → (2 ^ 62 ≤ q * 2 ^ (z - 1)) × (q * 2 ^ (z - 1) < 2 ^ 63)
 digits q z t = (
   subst (λ (x : ℕ). 2 ^ x ≤ q * 2 ^ (z - 1)) (at (t .j) z (t .makes) (t .few)) (normal-lo q (t .j) (z - 1) (t .lo)),
   subst (λ (x : ℕ). q * 2 ^ (z - 1) < 2 ^ x) (over (t .j) z (t .makes) (t .few)) (shl-lt (suc (t .j)) (z - 1) (t .hi)),

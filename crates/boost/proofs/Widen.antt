@@ -2,38 +2,24 @@
 use mathlib.Core.Path.{_≡_, refl, sym, ap, _∙_, subst}
 use mathlib.Core.Bool.{Bool, true, false, cond}
 use Prim.Native.Nat.{ℕ, suc, _+_, _-_, _*_, _/_, _%_, _^_, _≤_, _<_}
-use native.Mathlib.Nat.{lt-of-le-of-lt}
 use native.Mathlib.Omega.{arith}
 use lib.Pow.{shl-lt}
-use lib.Dec.{lit<}
-use lib.Count.{leadingZeros, leading-top}
+use lib.Dec.{lit<, lit≤}
+use lib.Count.{leadingZeros}
 use lib.Ieee.{nan, binary32, binary64, ofFields, toBits}
 use Rattle.rules.proofs.NearestPattern.{pattern-high, pattern-low}
 use Rattle.rules.specs.Floats as floats
 use Rattle.boost.specs.Bits.{Widened, WidenedBits}
-use Rattle.boost.proofs.Model.{moved, pow-lt-back, normal-lo, zero-val, of-low, of-high, of-nan}
+use Rattle.boost.proofs.Model.{Top, top-of, moved, normal-lo, zero-val, of-low, of-high, of-nan}
 
--- q has its highest digit at j below 24, and z leading zeros
-pub record Top (q z : ℕ) : Type 0 where
-  pub j : ℕ
-  pub makes : z + suc j ≡ 32
-  pub few : j < 24
-  pub lo : 2 ^ j ≤ q
-  pub hi : q < 2 ^ suc j
-
-pub top : (q : ℕ) → 0 < q → q < 2 ^ 24 → Top q (leadingZeros 32 q)
-top q p h =
-    let t = leading-top 32 q p (bigger q h) in
-    record { j = t .0; makes = t .1; few = pow-lt-back (t .0) 24 (lt-of-le-of-lt (t .2) h); lo = t .2; hi = t .3 }
-  where
-    bigger : (q : ℕ) → q < 2 ^ 24 → q < 2 ^ 32
-    bigger q h = omega arith
+top : (q : ℕ) → 0 < q → q < 2 ^ 24 → Top 32 24 q (leadingZeros 32 q)
+top q p h = top-of 32 24 q (lit≤ tt) p h
 
 pub zeros : (q : ℕ) → 0 < q → q < 2 ^ 24 → (8 ≤ leadingZeros 32 q) × (leadingZeros 32 q < 32)
 zeros q p h = let t = top q p h in omega arith
 
 -- the moved digits have 53 places
-digits : (q z : ℕ) → Top q z → (2 ^ 52 ≤ q * 2 ^ (z + 21)) × (q * 2 ^ (z + 21) < 2 ^ 53)
+digits : (q z : ℕ) → Top 32 24 q z → (2 ^ 52 ≤ q * 2 ^ (z + 21)) × (q * 2 ^ (z + 21) < 2 ^ 53)
 digits q z t = (
   subst (λ (x : ℕ). 2 ^ x ≤ q * 2 ^ (z + 21)) (at (t .j) z (t .makes)) (normal-lo q (t .j) (z + 21) (t .lo)),
   subst (λ (x : ℕ). q * 2 ^ (z + 21) < 2 ^ x) (ap suc (at (t .j) z (t .makes))) (subst (λ (x : ℕ). q * 2 ^ (z + 21) < 2 ^ x) (over (t .j) z) (shl-lt (suc (t .j)) (z + 21) (t .hi))),

@@ -5,9 +5,10 @@ ghost use Prim.Native.Nat.{_+_, _*_, _<_};
 ghost use Rattle.rules.specs.Numerals.{unitsOf};
 ghost use Rattle.boost.specs.Row.{value, limit, Row, Times};
 ghost use Rattle.boost.specs.Bisect.{most, Tested, Found};
+use crate::row::Limbs;
 
 // The row times twice the middle between the patterns p and p + 1.
-fn to_middle(row: &mut [u32; 18], p: u32)
+fn to_middle(row: &mut Limbs, p: u32)
     requires { ⌜ Row (now row) ⌝ }
     requires { ⌜ p < 0x7f80_0000 ⌝ }
     requires { ⌜ value (now row) * most < limit ⌝ }
@@ -22,7 +23,7 @@ fn to_middle(row: &mut [u32; 18], p: u32)
 }
 
 // Is x / den, in half units, past the middle between the patterns p and p + 1?
-fn past(x: &[u32; 18], den: &[u32; 18], p: u32) -> bool
+fn past(x: &Limbs, den: &Limbs, p: u32) -> bool
     requires { ⌜ Row (now x) ⌝ }
     requires { ⌜ Row (now den) ⌝ }
     requires { ⌜ p < 0x7f80_0000 ⌝ }
@@ -42,7 +43,7 @@ fn past(x: &[u32; 18], den: &[u32; 18], p: u32) -> bool
 }
 
 // The pattern, with no sign, nearest to x / den half units: patterns grow with the sizes they stand for, so the range of patterns is halved.
-pub fn bisect(x: &[u32; 18], den: &[u32; 18]) -> u32
+pub fn bisect(x: &Limbs, den: &Limbs) -> u32
     requires { ⌜ Row (now x) ⌝ }
     requires { ⌜ Row (now den) ⌝ }
     requires { ⌜ value (now den) * most < limit ⌝ }

@@ -5,6 +5,7 @@ ghost use Prim.Native.Nat.{_+_, _^_, _<_, _≤_, min};
 ghost use lib.ListN.{length};
 ghost use Rattle.boost.specs.Row.{value, Row};
 ghost use Rattle.boost.specs.Digits.{shortMost, Reading, Filled, Held, NumberRow};
+use crate::row::Limbs;
 
 // A run of digits: its number cut off at 2^24, and where it ends.
 pub struct Run {
@@ -55,7 +56,7 @@ pub fn read(s: &[u8], at: usize, start: u32) -> Run
 }
 
 // The digits from `at` on are read into the row, after the number that is there.
-fn fill(row: &mut [u32; 18], s: &[u8], at: usize)
+fn fill(row: &mut Limbs, s: &[u8], at: usize)
     requires { ⌜ Row (now row) ⌝ }
     requires { ⌜ at ≤ length (now s) ⌝ }
     requires { ⌜ length (now s) ≤ 40 ⌝ }
@@ -77,7 +78,7 @@ fn fill(row: &mut [u32; 18], s: &[u8], at: usize)
 }
 
 // The number of all a numeral's digits, in a row.
-pub fn number(s: &[u8], d: Digits) -> [u32; 18]
+pub fn number(s: &[u8], d: Digits) -> Limbs
     requires { ⌜ Held (now s) (d .point) (d .places) (d .value) ⌝ }
     requires { ⌜ length (now s) ≤ 40 ⌝ }
     ensures { λ r. ⌜ NumberRow (now (s .entry)) (d .point) (d .places) r ⌝ }

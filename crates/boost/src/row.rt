@@ -4,8 +4,10 @@ ghost use mathlib.Core.Path.{_≡_};
 ghost use Prim.Native.Nat.{_+_, _*_, _%_, _^_, _<_, _≤_};
 ghost use Rattle.boost.specs.Row.{value, limit, Row, Scaled, Ordered, ByLimb, Times};
 
+pub type Limbs = [u32; 18];
+
 // The row times m, plus `add`. What goes over the row's end is returned.
-pub fn scale(row: &mut [u32; 18], m: u32, add: u32) -> u32
+pub fn scale(row: &mut Limbs, m: u32, add: u32) -> u32
     requires { ⌜ Row (now row) ⌝ }
     ensures { λ r. ⌜ Scaled (now (row .entry)) (now (row .exit)) m add r ⌝ }
 {
@@ -34,7 +36,7 @@ fn low(x: u64) -> u32
 }
 
 // 0 where a is below b, 1 where they are equal, 2 where a is above b.
-pub fn order(a: &[u32; 18], b: &[u32; 18]) -> u8
+pub fn order(a: &Limbs, b: &Limbs) -> u8
     requires { ⌜ Row (now a) ⌝ }
     requires { ⌜ Row (now b) ⌝ }
     ensures { λ r. ⌜ Ordered (now (a .entry)) (now (b .entry)) r ⌝ }
@@ -62,7 +64,7 @@ fn by_limb(o: u8, x: u32, y: u32) -> u8
 }
 
 // The row times m, where that fits.
-pub fn times(row: &mut [u32; 18], m: u32)
+pub fn times(row: &mut Limbs, m: u32)
     requires { ⌜ Row (now row) ⌝ }
     requires { ⌜ value (now row) * m < limit ⌝ }
     ensures { λ _. ⌜ Times (now (row .entry)) (now (row .exit)) m ⌝ }
@@ -71,7 +73,7 @@ pub fn times(row: &mut [u32; 18], m: u32)
 }
 
 // The row times 2^k, where that fits.
-pub fn raise(row: &mut [u32; 18], k: u32)
+pub fn raise(row: &mut Limbs, k: u32)
     requires { ⌜ Row (now row) ⌝ }
     requires { ⌜ value (now row) * 2 ^ k < limit ⌝ }
     ensures { λ _. ⌜ Times (now (row .entry)) (now (row .exit)) (2 ^ k) ⌝ }
@@ -85,7 +87,7 @@ pub fn raise(row: &mut [u32; 18], k: u32)
 }
 
 // The row times 10^k, where that fits.
-pub fn tens(row: &mut [u32; 18], k: u32)
+pub fn tens(row: &mut Limbs, k: u32)
     requires { ⌜ Row (now row) ⌝ }
     requires { ⌜ value (now row) * 10 ^ k < limit ⌝ }
     ensures { λ _. ⌜ Times (now (row .entry)) (now (row .exit)) (10 ^ k) ⌝ }
@@ -98,7 +100,7 @@ pub fn tens(row: &mut [u32; 18], k: u32)
 }
 
 // The row of 1.
-pub fn one() -> [u32; 18]
+pub fn one() -> Limbs
     ensures { λ r. ⌜ Row r ⌝ }
     ensures { λ r. ⌜ value r ≡ 1 ⌝ }
 {
