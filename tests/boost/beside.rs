@@ -255,15 +255,15 @@ fn all() {
     println!("4294967296 patterns: widening, and widening and back, equal ({} s)", start.elapsed().as_secs());
 }
 
-// Nanoseconds for one call, the least of several runs.
-fn each(calls: u32, mut f: impl FnMut() -> u64) -> f64 {
+// Nanoseconds for one call: the least of many short runs, so that other work on the machine does not count.
+fn each(mut f: impl FnMut() -> u64) -> f64 {
     let mut least = f64::MAX;
-    for _ in 0..9 {
+    for _ in 0..1000 {
         let start = std::time::Instant::now();
-        for _ in 0..calls {
+        for _ in 0..200 {
             std::hint::black_box(f());
         }
-        least = least.min(start.elapsed().as_nanos() as f64 / calls as f64);
+        least = least.min(start.elapsed().as_nanos() as f64 / 200.0);
     }
     least
 }
@@ -271,9 +271,8 @@ fn each(calls: u32, mut f: impl FnMut() -> u64) -> f64 {
 fn time() {
     let long = "0.12345678901234567890123456789012345e-9";
     for t in ["0.5", "2", "1.25", "10", "0.3", "1e-7", "1.17549435e-38", "3.14159265358979", long] {
-        let calls = if t.len() > 8 { 20_000 } else { 1_000_000 };
-        let ours = each(calls, || numeral(std::hint::black_box(t.as_bytes())));
-        let theirs = each(calls, || {
+        let ours = each(|| numeral(std::hint::black_box(t.as_bytes())));
+        let theirs = each(|| {
             let x: f32 = std::hint::black_box(t).parse().unwrap();
             x.to_bits() as u64
         });
