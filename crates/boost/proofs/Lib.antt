@@ -14,3 +14,4 @@ pub mod Grammar
 pub mod Wholes
 pub mod Words
 pub mod Fills
+pub mod Medium

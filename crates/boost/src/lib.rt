@@ -7,3 +7,4 @@ pub mod numeral;
 mod quick;
 mod row;
 pub mod sums;
+mod wide;
