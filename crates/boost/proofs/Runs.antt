@@ -218,3 +218,40 @@ pub run-few : (w k : ℕ) (s : List ℕ) → w < 10 ^ k → digitsOn w (front is
 unfolding front
 run-few w k [] h = none-few w k h
 run-few w k (b ∷ s) h = run-cons w k b s h (λ w k h. run-few w k s h) (isDigit b) refl
+
+-- ---- `gather`
+pub record Gathering (s : List ℕ) (at start v i : ℕ) : Type 0 where
+  pub along : Along s at i
+  pub is : digitsOn start (front isDigit (drop at s)) ≡ digitsOn v (front isDigit (drop i s))
+  pub small : v < 10 ^ i
+
+pub gather-first : (s : List ℕ) (at start : ℕ) → at ≤ length s → start < 10 ^ at → Gathering s at start start at
+gather-first s at start h k = record { along = along-first s at h; is = refl; small = k }
+
+pub gathered : (s : List ℕ) (at start v i : ℕ) → Gathering s at start v i → Stop s i → v ≡ digitsOn start (front isDigit (drop at s))
+gathered s at start v i g z = sym (g .is ∙ number-stops s i v z)
+
+-- where a digit stands, there is room for one more
+pub gather-room : (s : List ℕ) (at start v i : ℕ) → Gathering s at start v i → at + length (front isDigit (drop at s)) ≤ 18 → i < length s → 48 ≤ getD s i 0 → getD s i 0 ≤ 57 → v < 10 ^ 17
+gather-room s at start v i g l h a b =
+    lt-of-lt-of-le (g .small) (ten-mono i 17 (go i (length (front isDigit (drop i s))) (length (front isDigit (drop (suc i) s)))
+    (le-trans (le-of-eq (sym (g .along .count))) l)
+    (ap length (ap (front isDigit) (drop-cons s i 0 h) ∙ front-cons (getD s i 0) (drop (suc i) s) true (digit-yes (getD s i 0) a b)))))
+  where
+    go : (i n m : ℕ) → i + n ≤ 18 → n ≡ suc m → i ≤ 17
+    go i n m h e = omega arith
+
+pub gather-next : (s : List ℕ) (at start v i d x : ℕ) → Gathering s at start v i → i < length s → 48 ≤ getD s i 0 → getD s i 0 ≤ 57 → d + 48 ≡ getD s i 0 → x ≡ d → Gathering s at start (v * 10 + x) (i + 1)
+gather-next s at start v i d x g h a b e f =
+    let y : isDigit (getD s i 0) ≡ true = digit-yes (getD s i 0) a b in
+    record {
+      along = along-next s at i (g .along) h y;
+      is = g .is ∙ number-next s i v h y ∙ ap (λ (n : ℕ). digitsOn (v * 10 + n) (front isDigit (drop (i + 1) s))) (sym (less d x (getD s i 0) e f));
+      small = next-small v x i (g .small) (few d x (getD s i 0) e f b);
+    }
+  where
+    few : (d x b : ℕ) → d + 48 ≡ b → x ≡ d → b ≤ 57 → x < 10
+    few d x b e f h = omega arith
+
+    less : (d x b : ℕ) → d + 48 ≡ b → x ≡ d → x ≡ b - 48
+    less d x b e f = omega arith

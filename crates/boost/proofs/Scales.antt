@@ -44,21 +44,21 @@ whole-few s = subst (λ (x : ℕ). digitsOn 0 (front isDigit s) < 10 ^ x) (go (l
     go : (n : ℕ) → 0 + n ≡ n
     go n = omega arith
 
-pub held-few : (s : List ℕ) (point places v : ℕ) → Held s point places v → length s ≤ 40 → numberOf s point places < forty
-unfolding forty
-held-few s point places v g h = elim (eq-zero-or-pos places) [
-  | inl z ↦ subst (λ (x : ℕ). x < 10 ^ 40) (sym (number-whole s point places z))
-      (lt-of-lt-of-le (whole-few s) (ten-mono (length (front isDigit s)) 40 (le (length (front isDigit s)) point places (length s) (g .whole) (g .within) h)))
-  | inr p ↦ subst (λ (x : ℕ). x < 10 ^ 40) (sym (number-both s point places p))
+pub held-digits : (s : List ℕ) (point places v : ℕ) → Held s point places v → numberOf s point places < 10 ^ (point + places)
+held-digits s point places v g = elim (eq-zero-or-pos places) [
+  | inl z ↦ subst (λ (x : ℕ). x < 10 ^ (point + places)) (sym (number-whole s point places z))
+      (lt-of-lt-of-le (whole-few s) (ten-mono (length (front isDigit s)) (point + places) (le (length (front isDigit s)) point places (g .whole))))
+  | inr p ↦ subst (λ (x : ℕ). x < 10 ^ (point + places)) (sym (number-both s point places p))
       (lt-of-lt-of-le (run-few (digitsOn 0 (front isDigit s)) point (drop (point + 1) s) (subst (λ (x : ℕ). digitsOn 0 (front isDigit s) < 10 ^ x) (sym (g .whole)) (whole-few s)))
-      (ten-mono (point + length (front isDigit (drop (point + 1) s))) 40 (sum point places (length (front isDigit (drop (point + 1) s))) (length s) (g .fraction p) (g .within) h)))
+      (le-of-eq (ap (λ (x : ℕ). 10 ^ (point + x)) (sym (g .fraction p)))))
 ]
   where
-    le : (n point places l : ℕ) → point ≡ n → point + places ≤ l → l ≤ 40 → n ≤ 40
-    le n point places l e f h = omega arith
+    le : (n point places : ℕ) → point ≡ n → n ≤ point + places
+    le n point places e = omega arith
 
-    sum : (point places n l : ℕ) → places ≡ n → point + places ≤ l → l ≤ 40 → point + n ≤ 40
-    sum point places n l e f h = omega arith
+pub held-few : (s : List ℕ) (point places v : ℕ) → Held s point places v → length s ≤ 40 → numberOf s point places < forty
+unfolding forty
+held-few s point places v g h = lt-of-lt-of-le (held-digits s point places v g) (ten-mono (point + places) 40 (le-trans (g .within) h))
 
 -- what is cut off nowhere is the number itself
 pub held-is : (s : List ℕ) (point places v : ℕ) → Held s point places v → v < shortMost → numberOf s point places ≡ v
@@ -143,13 +143,16 @@ uncut X x c e h k = omega arith
 split : (d a b c : ℕ) → a + b ≡ c → d * 10 ^ c ≡ d * 10 ^ a * 10 ^ b
 split d a b c e = ap (λ (y : ℕ). d * y) (ap (λ (y : ℕ). 10 ^ y) (sym e) ∙ pow-add 10 a b) ∙ sym (mul-assoc d (10 ^ a) (10 ^ b))
 
-pub up-below : (d x f r : ℕ) → x < f → f ≤ 40 → r ≡ nearest d (10 ^ (f - x)) → Up d x f r
+pub up-below : (d x f r : ℕ) → x ≤ f → f ≤ 40 → r ≡ nearest d (10 ^ (f - x)) → Up d x f r
 up-below d x f r l k h = record {
   is = λ X e. h ∙ nearest-same d (10 ^ (f - x)) (d * 10 ^ x) (10 ^ f) (ten-pos (f - x)) (ten-pos f) (split d x (f - x) f (go x f l))
-      ∙ ap (λ (y : ℕ). nearest (d * 10 ^ y) (10 ^ f)) (sym (uncut X x 40 e (lt-of-lt-of-le l k) (lit≤ tt)));
+      ∙ ap (λ (y : ℕ). nearest (d * 10 ^ y) (10 ^ f)) (sym (uncut X x 41 e (few x f l k) (lit≤ tt)));
 }
   where
-    go : (x f : ℕ) → x < f → x + (f - x) ≡ f
+    few : (x f : ℕ) → x ≤ f → f ≤ 40 → x < 41
+    few x f l k = omega arith
+
+    go : (x f : ℕ) → x ≤ f → x + (f - x) ≡ f
     go x f l = omega arith
 
 pub up-above : (d x f r : ℕ) → f ≤ x → f ≤ 40 → x - f < 39 → r ≡ nearest (d * 10 ^ (x - f)) 1 → Up d x f r

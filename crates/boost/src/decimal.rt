@@ -1,4 +1,5 @@
-// From a numeral's digits and exponent to the nearest pattern with no sign: the short way where both are small, else by rows.
+// From a numeral's digits and exponent to the nearest pattern with no sign: the short way where both are small, the
+// middle way where the digits are few, else by rows.
 // An exponent comes cut off at 2^24: so far out the size alone decides.
 ghost use mathlib.Core.Path.{_≡_};
 ghost use Prim.Native.Nat.{_*_, _^_, _<_, _≤_};
@@ -36,6 +37,22 @@ fn above_by_rows(s: &[u8], d: Digits, n: u32) -> u32
     crate::bisect::bisect(&x, &den)
 }
 
+// The same, by one division where the digits are few.
+fn below_by_parts(s: &[u8], d: Digits, n: u32) -> u32
+    requires { ⌜ Held (now s) (d .point) (d .places) (d .value) ⌝ }
+    requires { ⌜ length (now s) ≤ 40 ⌝ }
+    requires { ⌜ n < 86 ⌝ }
+    ensures { λ r. ⌜ r ≡ nearest (numberOf (now (s .entry)) (d .point) (d .places)) (10 ^ n) ⌝ }
+{
+    if n < 12 {
+        if d.point + (d.places as usize) < 18 {
+            return crate::wide::quotient(crate::digits::short_number(s, d), n);
+        }
+        return below_by_rows(s, d, n);
+    }
+    below_by_rows(s, d, n)
+}
+
 fn below(s: &[u8], d: Digits, n: u32) -> u32
     requires { ⌜ Held (now s) (d .point) (d .places) (d .value) ⌝ }
     requires { ⌜ length (now s) ≤ 40 ⌝ }
@@ -46,9 +63,9 @@ fn below(s: &[u8], d: Digits, n: u32) -> u32
         if d.value < 0x100_0000 {
             return crate::quick::quotient(d.value, n);
         }
-        return below_by_rows(s, d, n);
+        return below_by_parts(s, d, n);
     }
-    below_by_rows(s, d, n)
+    below_by_parts(s, d, n)
 }
 
 fn above(s: &[u8], d: Digits, n: u32) -> u32
@@ -73,7 +90,7 @@ pub fn scaled_up(s: &[u8], d: Digits, x: u32) -> u32
     ensures { λ r. ⌜ Up (numberOf (now (s .entry)) (d .point) (d .places)) x (d .places) r ⌝ }
 {
     let f = d.places;
-    if x < f {
+    if x <= f {
         return below(s, d, f - x);
     }
     if x - f < 39 {

@@ -2,9 +2,11 @@
 // A longer one has its digits read again, whole, into a row.
 ghost use mathlib.Core.Path.{_≡_};
 ghost use Prim.Native.Nat.{_+_, _^_, _<_, _≤_, min};
-ghost use lib.ListN.{length};
+ghost use Rattle.rules.specs.Analysis.{front};
+ghost use Rattle.rules.specs.Numerals.{isDigit, digitsOn};
+ghost use lib.ListN.{length, drop};
 ghost use Rattle.boost.specs.Row.{value, Row};
-ghost use Rattle.boost.specs.Digits.{shortMost, Reading, Filled, Held, NumberRow};
+ghost use Rattle.boost.specs.Digits.{shortMost, Reading, Filled, numberOf, Held, NumberRow};
 use crate::row::Limbs;
 
 // A run of digits: its number cut off at 2^24, and where it ends.
@@ -91,4 +93,41 @@ pub fn number(s: &[u8], d: Digits) -> Limbs
     let behind = d.point + 1;
     fill(&mut row, s, behind);
     row
+}
+
+// The digits from `at` on, read after the number `start`, where there are few.
+fn gather(s: &[u8], at: usize, start: u64) -> u64
+    requires { ⌜ at ≤ length (now s) ⌝ }
+    requires { ⌜ at + length (front isDigit (drop at (now s))) ≤ 18 ⌝ }
+    requires { ⌜ start < 10 ^ at ⌝ }
+    ensures { λ r. ⌜ r ≡ digitsOn start (front isDigit (drop at (now (s .entry)))) ⌝ }
+{
+    let mut v = start;
+    let mut i = at;
+    while i < s.len() {
+        let b = s[i];
+        if b < 48 {
+            return v;
+        }
+        if 57 < b {
+            return v;
+        }
+        v = v * 10 + crate::row::wide(digit(b));
+        i += 1;
+    }
+    v
+}
+
+// The number of all a numeral's digits, where there are at most 17.
+pub fn short_number(s: &[u8], d: Digits) -> u64
+    requires { ⌜ Held (now s) (d .point) (d .places) (d .value) ⌝ }
+    requires { ⌜ d .point + d .places < 18 ⌝ }
+    ensures { λ r. ⌜ r ≡ numberOf (now (s .entry)) (d .point) (d .places) ⌝ }
+{
+    let w = gather(s, 0, 0);
+    if d.places == 0 {
+        return w;
+    }
+    let behind = d.point + 1;
+    gather(s, behind, w)
 }

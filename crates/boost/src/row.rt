@@ -22,7 +22,7 @@ pub fn scale(row: &mut Limbs, m: u32, add: u32) -> u32
     low(carry)
 }
 
-fn wide(x: u32) -> u64
+pub fn wide(x: u32) -> u64
     ensures { λ r. ⌜ r ≡ x ⌝ }
     ensures { λ r. ⌜ r < 2 ^ 32 ⌝ }
 {
