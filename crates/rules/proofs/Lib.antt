@@ -20,3 +20,8 @@ pub mod Cases
 pub mod Classes
 pub mod Pieces
 pub mod Tokens
+pub mod NearestOrder
+pub mod NearestPattern
+pub mod NearestMiddle
+pub mod NearestRound
+pub mod Nearest
