@@ -15,5 +15,6 @@ pub mod Entries
 pub mod Equal
 pub mod Faults
 pub mod Sizes
+pub mod Weights
 pub mod Views
 pub mod Cases

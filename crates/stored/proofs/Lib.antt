@@ -3,3 +3,4 @@ pub mod Joining
 pub mod Laying
 pub mod Lister
 pub mod Reader
+pub mod Walking

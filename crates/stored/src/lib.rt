@@ -2,6 +2,7 @@
 pub mod big;
 pub mod bytes;
 pub mod list;
+pub mod measure;
 pub mod part;
 pub mod read;
 pub mod write;
