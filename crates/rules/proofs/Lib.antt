@@ -1,5 +1,7 @@
 pub mod Bools
+pub mod Chains
 pub mod Bigs
+pub mod Widths
 pub mod Parts
 pub mod Rows
 pub mod Tags
@@ -8,9 +10,12 @@ pub mod Refusals
 pub mod Steps
 pub mod Inverse
 pub mod Sound
+pub mod Accepted
+pub mod Entries
 pub mod Equal
 pub mod Faults
 pub mod Sizes
+pub mod Weights
 pub mod Views
 pub mod Phrases
 pub mod Choices
