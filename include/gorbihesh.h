@@ -152,7 +152,7 @@ static inline const char *gorbihesh_words(uint32_t refusal) {
     switch (refusal) {
     case GORBIHESH_DONE: return "not refused";
     case GORBIHESH_LONG_TEXT: return "the selector is longer than 1,024 characters";
-    case GORBIHESH_NOT_ASCII: return "the selector has a character that is not plain ASCII, as an accent or a curly quote";
+    case GORBIHESH_NOT_ASCII: return "the selector has a character outside plain ASCII, as an accent or a curly quote";
     case GORBIHESH_BAD_SETUP: return "the program's own setup is wrong: an operator, an analyzer or a field name";
     case GORBIHESH_OPEN_QUOTE: return "a quote \" is opened and never closed";
     case GORBIHESH_NOTHING_ESCAPED: return "nothing follows the last \\";
