@@ -12,4 +12,8 @@ pub mod Equal
 pub mod Faults
 pub mod Sizes
 pub mod Views
+pub mod Phrases
+pub mod Choices
+pub mod rewriting
+pub mod Demands
 pub mod Cases

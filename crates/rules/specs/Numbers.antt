@@ -41,10 +41,10 @@ listMost = 65536
 
 -- working room, as docs/ROOM.md states it for each call
 abbrev pub parseRoom : ℕ
-parseRoom = 16384
+parseRoom = 9216
 
 abbrev pub rewriteRoom : ℕ
-rewriteRoom = 131072
+rewriteRoom = 114687
 
 abbrev pub selectRoom : ℕ
 selectRoom = 0

@@ -169,25 +169,36 @@ queryOf none = nothing
 queryOf (clause k q none) = made (alone k q)
 queryOf (clause k q (clause j p cs)) = made (boolean 0 (inOrderBefore none (clause k q (clause j p cs))))
 
+-- the clauses of a query, the last one first, and the number of the next token
+pub data Kept : Type 0 where
+  kept : Clauses → ℕ → Kept
+
 -- a clause that analyzes to nothing is not kept, yet its conjunction alters the clause before; `more` reads on
-unfoldable pub addClause : ℕ → Conjunction → Modifier → (Clauses → ℕ → Read Found) → Clauses → Found → Read Found
+unfoldable pub addClause : ℕ → Conjunction → Modifier → (Clauses → ℕ → Read Kept) → Clauses → Found → Read Kept
 addClause o c m more cs (found nothing j) = more (touched o c cs) j
 addClause o c m more cs (found (made q) j) = more (clause (kindAfter o c m) q (touched o c cs)) j
+
+abbrev pub queryFound : Kept → Found
+queryFound (kept cs j) = found (queryOf cs) j
 
 -- a query stops before a closing bracket and at the end
 abbrev pub stopsAt : List Token → ℕ → Bool
 stopsAt ts i = isAt closeKind ts i || isAt endKind ts i
 
 -- the clauses from i on, with cs kept before them; n is above the number of unread tokens
-unfoldable pub parseQuery : Setup → List Token → ℕ → List ℕ → ℕ → Clauses → ℕ → Read Found
-parseQuery st ts zero f d cs i = refused unexpectedEnd
-parseQuery st ts (suc n) f d cs i =
+unfoldable pub parseClauses : Setup → List Token → ℕ → List ℕ → ℕ → Clauses → ℕ → Read Kept
+parseClauses st ts zero f d cs i = refused unexpectedEnd
+parseClauses st ts (suc n) f d cs i =
     let c = conjunctionAt cs ts i in
     let j = afterConjunction c i in
     let m = modifierAt ts j in
-    let one = clauseAt st ts (λ g e h. parseQuery st ts n g e none h) f d (afterModifier m j) in
-    let more = andThen one (addClause (st .operator) c m (λ ds h. parseQuery st ts n f d ds h) cs) in
-    cond (stopsAt ts i) (got (found (queryOf cs) i)) more
+    let one = clauseAt st ts (λ g e h. onRead queryFound (parseClauses st ts n g e none h)) f d (afterModifier m j) in
+    let more = andThen one (addClause (st .operator) c m (λ ds h. parseClauses st ts n f d ds h) cs) in
+    cond (stopsAt ts i) (got (kept cs i)) more
+
+-- a query reads clauses, and a clause in brackets reads a query
+abbrev pub parseQuery : Setup → List Token → ℕ → List ℕ → ℕ → ℕ → Read Found
+parseQuery st ts n f d i = onRead queryFound (parseClauses st ts n f d none i)
 
 -- ---- the text
 
@@ -199,7 +210,7 @@ unfoldable pub wholeQuery : List Token → Found → Read Query
 wholeQuery ts (found m j) = need (isAt endKind ts j) unexpectedToken (got (orMatchNone m))
 
 unfoldable pub parseTokens : Setup → List Token → Read Query
-parseTokens st ts = andThen (parseQuery st ts (suc (length ts)) (st .field) 0 none 0) (wholeQuery ts)
+parseTokens st ts = andThen (parseQuery st ts (suc (length ts)) (st .field) 0 0) (wholeQuery ts)
 
 -- 1, 2; then the whole text is lexed; then parsing
 unfoldable pub parse : Setup → List ℕ → Read Query
