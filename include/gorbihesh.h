@@ -37,7 +37,7 @@ extern "C" {
  * holds the two equal. A call whose number is 0 takes an empty room, and NULL.
  */
 #define GORBIHESH_PARSE_ROOM 9216
-#define GORBIHESH_REWRITE_ROOM 131072
+#define GORBIHESH_REWRITE_ROOM 114687
 #define GORBIHESH_SELECT_ROOM 0
 
 size_t gorbihesh_parse_room(void);
