@@ -29,16 +29,19 @@ fn main() {
     }
     texts.print();
     let mut rewritings = Tally::new("rewrite beside the original");
-    let mut apart = 0;
+    let (mut apart, mut most) = (0, 0);
     for i in 0..count {
         let mut r = generator(!seed, i);
-        match rewrite(&mut r, &mut desk) {
-            Some(answer) => rewritings.count(&answer),
+        let answer = rewrite(&mut r, &mut desk);
+        match &answer {
+            Some(Ok((_, rounds))) => most = most.max(*rounds),
+            Some(Err(_)) => {}
             None => apart += 1,
         }
+        answer.iter().for_each(|answer| rewritings.count(answer));
     }
     rewritings.print();
-    println!("  {apart} with a NaN in some round, not compared");
+    println!("  at most {most} rounds; {apart} more had a NaN in some round and are not compared");
 }
 
 /// An output that fits or is longer, and once in a while one that is short; and then 18.
@@ -139,6 +142,9 @@ fn query(r: &mut Random) -> Vec<u8> {
     if r.one_in(20) {
         return deep(r);
     }
+    if r.one_in(20) {
+        return chain(r);
+    }
     if r.one_in(50) {
         let clauses = if r.one_in(50) { 2_500 } else { 60 };
         return wide(r, clauses);
@@ -164,6 +170,22 @@ fn deep(r: &mut Random) -> Vec<u8> {
     let inner = random_queries::query(r, 3);
     let records = r.pick(&[5, 20, 60, 61, 62, 63, 64]);
     queries::stored(&random_queries::deepened(r, inner, records))
+}
+
+/// Many rounds: a level's clauses are equal only when the level inside has been merged.
+fn chain(r: &mut Random) -> Vec<u8> {
+    let word = || Tree::Term(b"f".to_vec(), b"a".to_vec());
+    let mut query = word();
+    for _ in 0..r.below(66) {
+        let kind = r.pick(&[Kind::Must, Kind::Should, Kind::Should]);
+        let beside = if r.one_in(40) {
+            random_queries::query(r, 2)
+        } else {
+            word()
+        };
+        query = Tree::Boolean(r.pick(&[0, 1]), vec![(kind, query), (kind, beside)]);
+    }
+    queries::stored(&query)
 }
 
 /// A Boolean of up to so many small clauses; with many, about as long as the rewriter takes.

@@ -59,15 +59,26 @@ fn main() {
     let mut desk = Desk::new();
     let mut selections = Tally::new("select beside the plain matcher");
     let mut rewritings = Tally::new("rewriting held to its promises");
+    let mut seen = Seen::default();
     for i in 0..count {
         let mut r = generator(seed, i);
         let case = Case::new(&mut r);
         let read = case.read();
-        selections.count(&select(&mut r, &mut desk, &case, &read));
-        rewritings.count(&rewrite(&mut desk, &case, &read));
+        selections.count(&select(&mut r, &mut desk, &case, &read, &mut seen));
+        rewritings.count(&rewrite(&mut desk, &case, &read, &mut seen));
     }
     selections.print();
+    println!("  {} records, {} chosen", seen.records, seen.chosen);
     rewritings.print();
+    println!("  {} selections by the rewritten query too", seen.rewritten);
+}
+
+/// How much was compared, so that a reader sees that both answers are common.
+#[derive(Default)]
+struct Seen {
+    records: usize,
+    chosen: usize,
+    rewritten: usize,
 }
 
 /// The rows, with an output that fits, is longer, or is short.
@@ -76,22 +87,26 @@ fn select(
     desk: &mut Desk,
     case: &Case,
     read: &Result<(Query, Vec<Record>), u32>,
+    seen: &mut Seen,
 ) -> Result<Vec<u32>, u32> {
-    let rows = read
-        .as_ref()
-        .map(|(query, records)| chosen(query, records))
-        .map_err(|e| *e);
+    let rows = match read {
+        Ok((query, records)) => Ok(chosen(query, records)),
+        Err(refusal) => Err(*refusal),
+    };
     let needed = rows.as_ref().map_or(0, |rows| 4 * rows.len());
     let short = needed > 0 && r.one_in(10);
-    let room = if short {
+    let longer = r.pick(&[0, 0, 1, 3, 4, 50]);
+    let lent = if short {
         r.below(needed)
     } else {
-        needed + r.pick(&[0, 0, 1, 3, 4, 50])
+        needed + longer
     };
     let expected = if short { Err(18) } else { rows };
-    let archive = desk.select(&case.query, &case.list, room);
+    let archive = desk.select(&case.query, &case.list, lent);
     hold("select", &archive, &expected, &case.inputs());
     if let (Ok(rows), Ok((_, records))) = (&archive, read) {
+        seen.records += records.len();
+        seen.chosen += rows.len();
         alone(r, desk, case, rows, records);
     }
     archive
@@ -104,64 +119,76 @@ fn alone(r: &mut Random, desk: &mut Desk, case: &Case, rows: &[u32], records: &[
     }
     let number = r.below(records.len());
     let is_chosen = rows.contains(&u32::try_from(number).expect("few records"));
-    let list = lists::stored(&records[number]);
-    let archive = desk.select(&case.query, &list, 4);
+    let archive = desk.select(&case.query, &lists::stored(&records[number]), 4);
     let expected = Ok(if is_chosen { vec![0] } else { vec![] });
-    hold(
-        "select, a record alone",
-        &archive,
-        &expected,
-        &case.inputs(),
-    );
+    hold("a record alone", &archive, &expected, &case.inputs());
 }
 
 fn rewrite(
     desk: &mut Desk,
     case: &Case,
     read: &Result<(Query, Vec<Record>), u32>,
+    seen: &mut Seen,
 ) -> Result<(), u32> {
-    let room = 2 * case.query.len() + 64;
-    let archive = desk.rewrite(&case.query, room);
+    let archive = desk.rewrite(&case.query, 2 * case.query.len() + 64);
     let query = queries::read(&case.query, REWRITER);
-    let refusal = (archive.as_ref().map(|_| ()), query.as_ref().map(|_| ()));
-    hold("rewrite, refusals", &refusal.0, &refusal.1, &case.inputs());
+    let refusals = (archive.as_ref().err(), query.as_ref().err());
+    hold(
+        "rewrite, refusals",
+        &refusals.0,
+        &refusals.1,
+        &case.inputs(),
+    );
     let (rewritten, rounds) = archive?;
     let query = query?;
-    promises(desk, case, &query, &rewritten, rounds);
-    if let (Ok((query, records)), true) = (read, queries::greatest_minimum(&query) <= 1) {
-        let expected = chosen(query, records);
-        let archive = desk.select(&rewritten, &case.list, 4 * expected.len());
-        hold(
-            "select with the rewritten query",
-            &archive,
-            &Ok(expected),
-            &case.inputs(),
-        );
-    }
-    Ok(())
-}
-
-/// Within selection's limits, no more rounds than the weight, no duplicates, and rewritten for good.
-fn promises(desk: &mut Desk, case: &Case, query: &Query, rewritten: &[u8], rounds: u32) {
-    let result = queries::read(rewritten, SELECTION);
+    let result = queries::read(&rewritten, SELECTION);
     hold(
-        "rewrite, the result is sound",
+        "rewrite, a sound result",
         &result.is_ok(),
         &true,
         &case.inputs(),
     );
+    let result = result?;
+    promises(desk, case, (&query, &result), &rewritten, rounds);
+    if let Ok((_, records)) = read {
+        seen.rewritten += 1;
+        same_rows(desk, case, (&query, &result), &rewritten, records);
+    }
+    Ok(())
+}
+
+/// No more rounds than the weight, no duplicates, and rewritten for good.
+fn promises(
+    desk: &mut Desk,
+    case: &Case,
+    (query, result): (&Query, &Query),
+    rewritten: &[u8],
+    rounds: u32,
+) {
     let few = (1..=queries::weight(query)).contains(&rounds);
-    hold(
-        "rewrite, rounds at most the weight",
-        &few,
-        &true,
-        &case.inputs(),
-    );
-    let twice = result.as_ref().is_ok_and(queries::has_duplicates);
+    hold("rewrite, rounds", &few, &true, &case.inputs());
+    let twice = queries::has_duplicates(result);
     hold("rewrite, duplicates", &twice, &false, &case.inputs());
     if queries::read(rewritten, REWRITER).is_ok() {
         let again = desk.rewrite(rewritten, rewritten.len());
         let expected = Ok((rewritten.to_vec(), 1));
         hold("rewrite, once more", &again, &expected, &case.inputs());
     }
+}
+
+/// What the rewritten query is true of; where no minimum exceeds 1, what the query is true of.
+fn same_rows(
+    desk: &mut Desk,
+    case: &Case,
+    (query, result): (&Query, &Query),
+    rewritten: &[u8],
+    records: &[Record],
+) {
+    let expected = chosen(result, records);
+    let archive = desk.select(rewritten, &case.list, 4 * expected.len());
+    if queries::greatest_minimum(query) <= 1 {
+        let before = chosen(query, records);
+        hold("rows, rewritten or not", &expected, &before, &case.inputs());
+    }
+    hold("select, rewritten", &archive, &Ok(expected), &case.inputs());
 }
