@@ -136,47 +136,53 @@ fn read_bound(from: &mut Reader) -> Result<Bound, u32> {
 #[must_use]
 pub fn stored(query: &Query) -> Vec<u8> {
     let mut out = Vec::new();
+    put(&mut out, tag(query), &body(query));
+    out
+}
+
+const fn tag(query: &Query) -> u8 {
+    match query {
+        Query::Term(..) => 1,
+        Query::Phrase(..) => 2,
+        Query::Boolean(..) => 3,
+        Query::Boost(..) => 4,
+        Query::ConstantScore(_) => 5,
+        Query::MatchAll => 6,
+        Query::MatchNone => 7,
+        Query::Range(Numbers::Whole, ..) => 8,
+        Query::Range(Numbers::Float, ..) => 9,
+    }
+}
+
+fn body(query: &Query) -> Vec<u8> {
     let mut body = Vec::new();
-    let tag = match query {
-        Query::Term(field, text) => {
-            put(&mut body, 0x10, field);
-            put(&mut body, 0x11, text);
-            1
-        }
-        Query::Phrase(field, words) => {
-            put(&mut body, 0x10, field);
-            words
-                .iter()
-                .for_each(|(position, text)| put_word(&mut body, *position, text));
-            2
+    if let Query::Term(field, _) | Query::Phrase(field, _) | Query::Range(_, field, ..) = query {
+        put(&mut body, 0x10, field);
+    }
+    match query {
+        Query::Term(_, text) => put(&mut body, 0x11, text),
+        Query::Phrase(_, words) => {
+            for (position, text) in words {
+                put_word(&mut body, *position, text);
+            }
         }
         Query::Boolean(minimum, clauses) => {
             put(&mut body, 0x13, &minimum.to_be_bytes());
             for (kind, inner) in clauses {
                 put(&mut body, 0x20 + *kind as u8, &stored(inner));
             }
-            3
         }
         Query::Boost(bits, inner) => {
-            body.extend(bits.to_be_bytes());
-            body.extend(stored(inner));
-            4
+            body.extend([&bits.to_be_bytes(), &stored(inner)[..]].concat())
         }
-        Query::ConstantScore(inner) => {
-            body.extend(stored(inner));
-            5
-        }
-        Query::MatchAll => 6,
-        Query::MatchNone => 7,
-        Query::Range(numbers, field, lower, upper) => {
-            put(&mut body, 0x10, field);
+        Query::ConstantScore(inner) => body.extend(stored(inner)),
+        Query::MatchAll | Query::MatchNone => {}
+        Query::Range(_, _, lower, upper) => {
             put_bound(&mut body, *lower);
             put_bound(&mut body, *upper);
-            if *numbers == Numbers::Whole { 8 } else { 9 }
         }
-    };
-    put(&mut out, tag, &body);
-    out
+    }
+    body
 }
 
 fn put_bound(out: &mut Vec<u8>, bound: Bound) {
