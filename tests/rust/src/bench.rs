@@ -1,0 +1,147 @@
+//! Times the three calls beside Rust in one run, and prints how many times as fast they are: parsing and
+//! rewriting beside the original, selection beside reading the same bytes into trees and matching them.
+//! Nothing is asserted.
+//! The archive's calls write stored bytes and clear their room; the original makes trees.
+//!
+//!     bench
+
+mod inputs;
+
+use original::answers::{Setup, ascii};
+use original::stored::decode;
+use plain::{lists, matching, queries};
+use std::hint::black_box;
+use std::time::{Duration, Instant};
+
+/// Each side runs so many times in turn, once where a call is slow; the fastest counts.
+const TURNS: usize = 5;
+const SLOW: f64 = 1e8;
+/// A run is repeated for about this long.
+const RUN: Duration = Duration::from_millis(10);
+
+fn main() {
+    println!(
+        "room: parse {}, rewrite {}, select {} bytes",
+        grouped(gorbihesh::gorbihesh_parse_room()),
+        grouped(gorbihesh::gorbihesh_rewrite_room()),
+        grouped(gorbihesh::gorbihesh_select_room()),
+    );
+    println!(
+        "{:<8} {:<50} {:>14} {:>14} {:>7}",
+        "call", "on", "archive, ns", "Rust, ns", "faster"
+    );
+    let setup = inputs::setup();
+    for (name, text) in inputs::texts() {
+        parse(&name, &setup, text.as_bytes());
+    }
+    for (name, text) in inputs::typical() {
+        let query = original::answers::parse(&setup, text.as_bytes()).expect("a selector");
+        rewrite(&name, &query);
+    }
+    for (name, query) in inputs::worst_queries() {
+        rewrite(&name, &query);
+    }
+    let list = inputs::catalogue();
+    for (name, text) in inputs::typical() {
+        let query = original::answers::parse(&setup, text.as_bytes()).expect("a selector");
+        select(&name, &query, &list);
+    }
+    for (name, query, list) in inputs::worst_selections() {
+        select(&name, &query, &list);
+    }
+}
+
+fn parse(name: &str, setup: &Setup, text: &[u8]) {
+    let mut out = vec![0; 65_535];
+    let mut room = vec![0; gorbihesh::gorbihesh_parse_room()];
+    let lent = gorbihesh::Setup {
+        operator: setup.operator,
+        analyzer: setup.analyzer,
+        field: &setup.field,
+        fields: &setup.fields,
+    };
+    let parser = setup.parser();
+    let text = black_box(text);
+    row(
+        ("parse", name),
+        || gorbihesh::parse(lent, text, &mut out, &mut room),
+        || parser.parse(ascii(text)),
+    );
+}
+
+fn rewrite(name: &str, query: &[u8]) {
+    let mut out = vec![0; 65_535];
+    let mut room = vec![0; gorbihesh::gorbihesh_rewrite_room()];
+    let tree = decode(query).expect("a stored query");
+    let query = black_box(query);
+    row(
+        ("rewrite", name),
+        || gorbihesh::rewrite(query, &mut out, &mut room),
+        || tree.rewrite(),
+    );
+}
+
+fn select(name: &str, query: &[u8], list: &[u8]) {
+    let mut rows = vec![0; 4 * list.len()];
+    let mut room = vec![0; gorbihesh::gorbihesh_select_room()];
+    let (query, list) = (black_box(query), black_box(list));
+    row(
+        ("select", name),
+        || gorbihesh::select(query, list, &mut rows, &mut room),
+        || {
+            let query = queries::read(query, queries::SELECTION).expect("a query");
+            matching::chosen(&query, &lists::read(list).expect("a list"))
+        },
+    );
+}
+
+/// One line of the table: both sides in turn.
+fn row<A, B>(
+    (call, name): (&str, &str),
+    mut archive: impl FnMut() -> A,
+    mut rust: impl FnMut() -> B,
+) {
+    let mut best = (f64::INFINITY, f64::INFINITY);
+    for _ in 0..TURNS {
+        best.0 = best.0.min(time(&mut archive));
+        best.1 = best.1.min(time(&mut rust));
+        if best.0 + best.1 > SLOW {
+            break;
+        }
+    }
+    let ratio = best.1 / best.0;
+    #[allow(clippy::cast_possible_truncation, clippy::cast_sign_loss)]
+    let whole = |ns: f64| grouped(ns.round() as usize);
+    println!(
+        "{call:<8} {name:<50} {:>14} {:>14} {ratio:>7.1}",
+        whole(best.0),
+        whole(best.1)
+    );
+}
+
+/// Nanoseconds a call, over about as many calls as fill a run.
+fn time<T>(call: &mut impl FnMut() -> T) -> f64 {
+    let start = Instant::now();
+    let mut calls = 0.0;
+    loop {
+        black_box(call());
+        calls += 1.0;
+        let spent = start.elapsed();
+        if spent >= RUN {
+            return spent.as_secs_f64() * 1e9 / calls;
+        }
+    }
+}
+
+/// Digits in threes.
+fn grouped(n: usize) -> String {
+    let digits = n.to_string();
+    let mut out = String::new();
+    for (i, digit) in digits.chars().enumerate() {
+        if i > 0 && (digits.len() - i).is_multiple_of(3) {
+            out.push(',');
+        }
+        out.push(digit);
+    }
+    out
+}

@@ -1,0 +1,207 @@
+//! The archive beside the original Rust on random inputs: parsing of texts that the grammar makes,
+//! damaged and stretched to the limits, under random setups; and rewriting of random stored queries.
+//! What document 01 decides alone (refusals 1 to 3, 15 to 21) is found by the crate `plain`.
+//!
+//!     compare_original COUNT SEED
+
+mod tally;
+mod texts;
+
+use gorbihesh::desk::Desk;
+use original::answers::{self, Setup};
+use original::limits;
+use original::random::Random as Numbers;
+use original::{random_query, random_text, stored};
+use plain::damage::damaged;
+use plain::faults::{self, Fields};
+use plain::queries::{self, Kind, Query as Tree, REWRITER};
+use plain::random::Random;
+use plain::random_queries;
+use tally::{Tally, generator, hold};
+
+fn main() {
+    let (count, seed) = tally::arguments();
+    let mut desk = Desk::new();
+    let mut texts = Tally::new("parse beside the original");
+    for i in 0..count {
+        let mut r = generator(seed, i);
+        texts.count(&parse(&mut r, &mut desk));
+    }
+    texts.print();
+    let mut rewritings = Tally::new("rewrite beside the original");
+    let (mut apart, mut most) = (0, 0);
+    for i in 0..count {
+        let mut r = generator(!seed, i);
+        let answer = rewrite(&mut r, &mut desk);
+        match &answer {
+            Some(Ok((_, rounds))) => most = most.max(*rounds),
+            Some(Err(_)) => {}
+            None => apart += 1,
+        }
+        answer.iter().for_each(|answer| rewritings.count(answer));
+    }
+    rewritings.print();
+    println!("  at most {most} rounds; {apart} more had a NaN in some round and are not compared");
+}
+
+/// An output that fits or is longer, and once in a while one that is short; and then 18.
+fn lend(r: &mut Random, answer: Result<usize, u32>) -> (usize, Option<u32>) {
+    match answer {
+        Ok(length) if r.one_in(16) => (r.below(length), Some(18)),
+        Ok(length) => (length + r.pick(&[0, 0, 0, 1, 100]), None),
+        Err(_) => (r.pick(&[0, 10, 1_000]), None),
+    }
+}
+
+fn parse(r: &mut Random, desk: &mut Desk) -> Result<Vec<u8>, u32> {
+    let (setup, text) = texts::case(r);
+    let answer = expected(&setup, &text);
+    let (out, short) = lend(r, answer.as_ref().map(Vec::len).map_err(|e| *e));
+    let answer = short.map_or(answer, Err);
+    let lent = gorbihesh::Setup {
+        operator: setup.operator,
+        analyzer: setup.analyzer,
+        field: &setup.field,
+        fields: &setup.fields,
+    };
+    let archive = desk.parse(lent, &text, out);
+    let head = [setup.operator, setup.analyzer];
+    let inputs = [
+        ("operator, analyzer", &head[..]),
+        ("field", &setup.field),
+        ("fields", &setup.fields),
+        ("text", &text),
+    ];
+    hold("parse", &archive, &answer, &inputs);
+    archive
+}
+
+/// 3, 1, 2; then the first fault; then the original's answer, which has to have the same fault where it
+/// has no limits.
+fn expected(setup: &Setup, text: &[u8]) -> Result<Vec<u8>, u32> {
+    if !limits::setup_is_sound(setup) {
+        return Err(3);
+    }
+    if text.len() > limits::TEXT {
+        return Err(1);
+    }
+    if !text.is_ascii() {
+        return Err(2);
+    }
+    let fields = Fields {
+        field: &setup.field,
+        analyzer: setup.analyzer,
+        entries: setup.entries().expect("a sound setup"),
+    };
+    match faults::first(&fields, text) {
+        Some(limit @ 15..=17) => Err(limit),
+        fault => {
+            let answer = answers::parse(setup, text);
+            let original = answer.as_ref().err().copied();
+            hold(
+                "the crate plain beside the original",
+                &fault,
+                &original,
+                &[("text", text)],
+            );
+            answer
+        }
+    }
+}
+
+/// None where a NaN is made: such a case is outside the comparison.
+fn rewrite(r: &mut Random, desk: &mut Desk) -> Option<Result<(Vec<u8>, u32), u32>> {
+    let mut query = query(r);
+    if r.one_in(6) {
+        query = damaged(r, &query);
+    }
+    let answer = match queries::read(&query, REWRITER) {
+        Err(refusal) => Err(refusal),
+        Ok(_) => {
+            let rewritten = answers::rewrite(&query);
+            if rewritten.nan {
+                return None;
+            }
+            Ok((rewritten.stored, rewritten.rounds))
+        }
+    };
+    let length = answer
+        .as_ref()
+        .map(|(bytes, _)| bytes.len())
+        .map_err(|e| *e);
+    let (out, short) = lend(r, length);
+    let answer = short.map_or(answer, Err);
+    let archive = desk.rewrite(&query, out);
+    hold("rewrite", &archive, &answer, &[("query", &query)]);
+    Some(archive)
+}
+
+/// A stored query: by random trees, or what a random text means.
+fn query(r: &mut Random) -> Vec<u8> {
+    let mut numbers = Numbers::new(r.bits());
+    if r.one_in(20) {
+        return deep(r);
+    }
+    if r.one_in(20) {
+        return chain(r);
+    }
+    if r.one_in(50) {
+        let clauses = if r.one_in(50) { 2_500 } else { 60 };
+        return wide(r, clauses);
+    }
+    if r.one_in(4) {
+        let setup = random_text::setup(&mut numbers);
+        let text = random_text::text(&mut numbers, limits::TEXT);
+        if let Ok(query) = answers::parse(&setup, &text) {
+            return query;
+        }
+    }
+    let deepest = 2 + r.below(6);
+    let made = if r.one_in(2) {
+        random_query::boolean(&mut numbers, deepest)
+    } else {
+        random_query::query(&mut numbers, deepest)
+    };
+    stored::encode(&made)
+}
+
+/// About as deep as the rewriter takes.
+fn deep(r: &mut Random) -> Vec<u8> {
+    let inner = random_queries::query(r, 3);
+    let records = r.pick(&[5, 20, 60, 61, 62, 63, 64]);
+    queries::stored(&random_queries::deepened(r, inner, records))
+}
+
+/// Many rounds: a level's clauses are equal only when the level inside has been merged.
+fn chain(r: &mut Random) -> Vec<u8> {
+    let word = || Tree::Term(b"f".to_vec(), b"a".to_vec());
+    let mut query = word();
+    for _ in 0..r.below(66) {
+        let kind = r.pick(&[Kind::Must, Kind::Should, Kind::Should]);
+        let beside = if r.one_in(40) {
+            random_queries::query(r, 2)
+        } else {
+            word()
+        };
+        query = Tree::Boolean(r.pick(&[0, 1]), vec![(kind, query), (kind, beside)]);
+    }
+    queries::stored(&query)
+}
+
+/// A Boolean of up to so many small clauses; with many, about as long as the rewriter takes.
+fn wide(r: &mut Random, clauses: usize) -> Vec<u8> {
+    let count = clauses - r.below(clauses / 3);
+    let mut inner = Vec::new();
+    for i in 0..count {
+        let few = random_queries::query(r, 2);
+        let name = b"abcdefghijklmnopqrstuvwxyz"[i % 26];
+        let term = Tree::Term(b"f".to_vec(), vec![name]);
+        let clause = if r.one_in(4) { few } else { term };
+        inner.push((
+            r.pick(&[Kind::Must, Kind::Should, Kind::Should, Kind::MustNot]),
+            clause,
+        ));
+    }
+    let minimum = r.pick(&[0, 0, 1, 2]);
+    queries::stored(&Tree::Boolean(minimum, inner))
+}
