@@ -270,7 +270,7 @@ fn each(mut f: impl FnMut() -> u64) -> f64 {
 
 fn time() {
     let long = "0.12345678901234567890123456789012345e-9";
-    for t in ["0.5", "2", "1.25", "10", "0.3", "1e-7", "1.17549435e-38", "3.14159265358979", long] {
+    for t in ["0.5", "2", "1.25", "10", "0.3", "1e-7", "0.33333333", "3.1415927", "1.17549435e-38", "3.14159265358979", long] {
         let ours = each(|| numeral(std::hint::black_box(t.as_bytes())));
         let theirs = each(|| {
             let x: f32 = std::hint::black_box(t).parse().unwrap();
