@@ -1,23 +1,17 @@
-use Rattle.rules.specs.Bytes.{ascii, some}
+-- `tokens::is_wildcard` meets its contract, by the byte. Assumes nothing.
 use borrow.Author.Tests.{ne-eqb}
-use native.Mathlib.Omega.{arith}
-use borrow.Author.Needs.{needs}
-use Rattle.lexer.proofs.tokens.is_wildcard.Statement.{statement}
+use Rattle.rules.specs.Bytes.{ascii, some}
 use Rattle.lexer.proofs.tokens.is_wildcard.Tie as tie
-use Rattle.lexer.proofs.tokens.is_wildcard.Reads as reads
-use Rattle.lexer.proofs.tokens.is_wildcard.Lts as lts
+use Rattle.lexer.proofs.tokens.is_wildcard.Statement.{statement}
 
--- src/tokens.rt:76:1
 returns : tie.Need-returns
 unfolding ascii some
 returns c = rw (c .match .keys1)
 
--- src/tokens.rt:76:1
 returns-2 : tie.Need-returns-2
 unfolding ascii some
 returns-2 c = rw (c .match .keys2)
 
--- src/tokens.rt:76:1
 returns-3 : tie.Need-returns-3
 unfolding ascii some
 returns-3 c = simp (ne-eqb _ _ (c .match .rest .1), ne-eqb _ _ (c .match .rest .0 .1))

@@ -1,21 +1,17 @@
+-- `tokens::peek` meets its contract: past the last byte stands 0. Assumes nothing.
 use mathlib.Core.Path.{sym}
-use lib.ListN.{List·getD-eq-default}
 use native.Mathlib.Omega.{arith}
+use lib.ListN.{List·getD-eq-default}
 use borrow.Author.Needs.{needs}
-use Rattle.lexer.proofs.tokens.peek.Statement.{statement}
 use Rattle.lexer.proofs.tokens.peek.Tie as tie
-use Rattle.lexer.proofs.tokens.peek.Reads as reads
-use Rattle.lexer.proofs.tokens.peek.Lts as lts
+use Rattle.lexer.proofs.tokens.peek.Statement.{statement}
 
--- src/tokens.rt:28:25
 shared-slice-read-result : tie.Need-shared-slice-read-result
 shared-slice-read-result c = search needs
 
--- src/tokens.rt:25:1
 returns : tie.Need-returns
 returns c = search needs
 
--- src/tokens.rt:25:1
 returns-2 : tie.Need-returns-2
 returns-2 c = sym (List·getD-eq-default (c .before .args .text .now) 0 (omega arith))
 
