@@ -25,6 +25,7 @@ pub mod Cases
 pub mod Classes
 pub mod Pieces
 pub mod Tokens
+pub mod Tokenizing
 pub mod NearestOrder
 pub mod NearestPattern
 pub mod NearestMiddle
