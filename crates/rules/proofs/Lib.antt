@@ -13,3 +13,8 @@ pub mod Faults
 pub mod Sizes
 pub mod Views
 pub mod Cases
+pub mod NearestOrder
+pub mod NearestPattern
+pub mod NearestMiddle
+pub mod NearestRound
+pub mod Nearest

@@ -1,0 +1,4 @@
+pub mod Bits
+pub mod Row
+pub mod Bisect
+pub mod Digits

@@ -1,0 +1,6 @@
+// Boost numerals, the conversions between 32-bit and 64-bit floats, and the sum and product of boosts.
+mod bisect;
+pub mod bits;
+mod digits;
+mod row;
+pub mod sums;
