@@ -44,6 +44,21 @@ pub and-no-r : (a : Bool) {b : Bool} → b ≡ false → a && b ≡ false
 and-no-r true h = h
 and-no-r false h = refl
 
+pub and-true : (a : Bool) → a && true ≡ a
+and-true true = refl
+and-true false = refl
+
+pub and-false : (a : Bool) → a && false ≡ false
+and-false a = and-no-r a refl
+
+pub and-same : (a b : Bool) → a && (a && b) ≡ a && b
+and-same true b = refl
+and-same false b = refl
+
+pub and-swap : (a b c : Bool) → a && (b && c) ≡ b && (a && c)
+and-swap true b c = refl
+and-swap false b c = sym (and-false b)
+
 -- four tests in a row
 pub and-four : (a b c d : Bool) → a && (b && (c && d)) ≡ true → (a ≡ true) × (b ≡ true) × (c ≡ true) × (d ≡ true)
 and-four a b c d h =
@@ -66,6 +81,22 @@ neither h k = simp (h, k)
 pub either : (a b : Bool) → a || b ≡ true → (a ≡ true) ⊎ (b ≡ true)
 either true b h = inl refl
 either false b h = inr h
+
+pub or-no-l : (a b : Bool) → a || b ≡ false → a ≡ false
+or-no-l true b h = h
+or-no-l false b h = refl
+
+pub or-no-r : (a b : Bool) → a || b ≡ false → b ≡ false
+or-no-r true b h = clash refl h
+or-no-r false b h = h
+
+pub or-same : (a b : Bool) → a || (a || b) ≡ a || b
+or-same true b = refl
+or-same false b = refl
+
+pub or-swap : (a b c : Bool) → a || (b || c) ≡ b || (a || c)
+or-swap true b c = sym (or-r b refl)
+or-swap false b c = refl
 
 -- ---- `cond`
 

@@ -12,6 +12,8 @@ pub mod Equal
 pub mod Faults
 pub mod Sizes
 pub mod Views
+pub mod Phrases
+pub mod rewriting
 pub mod Cases
 pub mod NearestOrder
 pub mod NearestPattern

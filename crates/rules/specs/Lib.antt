@@ -11,6 +11,7 @@ pub mod Setup
 pub mod Parsing
 pub mod Floats
 pub mod Rewriting
+pub mod Tidy
 pub mod Lists
 pub mod Matching
 pub mod Show

@@ -1,0 +1,8 @@
+-- The laws of rewriting: a round, all rounds, and what they come to.
+pub mod Boosts
+pub mod Walk
+pub mod Rounds
+pub mod Measures
+pub mod Bounds
+pub mod Weights
+pub mod Tidiness
