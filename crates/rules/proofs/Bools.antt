@@ -11,6 +11,11 @@ pub split : (b : Bool) → (b ≡ true) ⊎ (b ≡ false)
 split true = inl refl
 split false = inr refl
 
+-- a test that can not pass
+pub fails : (b : Bool) → (b ≡ true → ⊥) → b ≡ false
+fails true h = absurd (h refl)
+fails false h = refl
+
 -- two tests that are true alike are one
 pub alike : (a b : Bool) → (a ≡ true → b ≡ true) → (b ≡ true → a ≡ true) → a ≡ b
 alike true b h k = sym (h refl)
@@ -89,6 +94,20 @@ or-no-l false b h = refl
 pub or-no-r : (a b : Bool) → a || b ≡ false → b ≡ false
 or-no-r true b h = clash refl h
 or-no-r false b h = h
+
+pub or-false : (a : Bool) → a || false ≡ a
+or-false true = refl
+or-false false = refl
+
+pub or-assoc : (a b c : Bool) → a || (b || c) ≡ (a || b) || c
+or-assoc true b c = refl
+or-assoc false b c = refl
+
+-- a test that passes only where an earlier one does
+pub absorb : (x r y : Bool) → (y ≡ true → x ≡ true) → x || r ≡ (x || r) || y
+absorb true r y f = refl
+absorb false r true f = clash (f refl) refl
+absorb false r false f = sym (or-false r)
 
 pub or-same : (a b : Bool) → a || (a || b) ≡ a || b
 or-same true b = refl

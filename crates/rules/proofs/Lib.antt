@@ -15,7 +15,9 @@ pub mod Faults
 pub mod Sizes
 pub mod Views
 pub mod Phrases
+pub mod Choices
 pub mod rewriting
+pub mod Demands
 pub mod Cases
 pub mod NearestOrder
 pub mod NearestPattern

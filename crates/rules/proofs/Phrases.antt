@@ -3,7 +3,7 @@ use mathlib.Core.Path.{_≡_, refl, sym, ap, _∙_, subst}
 use mathlib.Core.Logic.{_↔_, _⊎_, inl, inr}
 use Prim.Native.Nat.{ℕ, suc, _+_}
 use mathlib.Core.List.{List, [], _∷_, List·Memᴰ, List·Memᴰ·head, List·Memᴰ·tail}
-use mathlib.Core.Bool.{Bool, true, false, _&&_, _||_}
+use mathlib.Core.Bool.{Bool, true, false, _&&_}
 use native.Mathlib.Omega.{arith}
 use lib.Dec.{eqb}
 use lib.IntN.{ℤ, pos, negsuc, negℤ, _+ℤ_, _-ℤ_, +ℤ-assoc, +ℤ-negℤ-cancel, -ℤ-+ℤ-cancel, pos-+ℤ-pos}
@@ -129,7 +129,7 @@ from-pos n p y e = let h : p + n ≡ y = of-pos (p + n) y (sym (pos-+ℤ-pos p n
 from-neg : (n p y : ℕ) → pos p +ℤ negsuc n ≡ pos y → p + 0 ≡ y + suc n
 from-neg n p y e =
     let h : p ≡ y + suc n =
-      of-pos p (y + suc n) (sym (-ℤ-+ℤ-cancel (pos p) (pos (suc n))) ∙ ap (λ (z : ℤ). z +ℤ pos (suc n)) e ∙ pos-+ℤ-pos y (suc n))
+    of-pos p (y + suc n) (sym (-ℤ-+ℤ-cancel (pos p) (pos (suc n))) ∙ ap (λ (z : ℤ). z +ℤ pos (suc n)) e ∙ pos-+ℤ-pos y (suc n))
     in
     omega arith
 

@@ -1,17 +1,17 @@
 -- A round raises no measure: so no query that the rewriter makes passes the limits. Sections 'Stored form' and 'One round of rewriting'.
 use mathlib.Core.Path.{_≡_, refl}
-use Prim.Native.Nat.{ℕ, _+_, _*_, _/_, _≤_, max}
-use mathlib.Core.List.{List, [], _∷_}
+use Prim.Native.Nat.{ℕ, _+_, _/_, _≤_, max}
+use mathlib.Core.List.{[]}
 use native.Mathlib.Omega.{arith}
 use lib.ListN.{length}
 use Rattle.rules.specs.Numbers.{rewriterBytes, rewriterDepth, selectionBytes, selectionDepth}
-use Rattle.rules.specs.Query.{word, Kind, must, should, mustNot, filter, Query, term, phrase, boolean, boost, constantScore, matchAll, matchNone, range, Clauses, none, clause, depth}
+use Rattle.rules.specs.Query.{Kind, must, should, mustNot, filter, Query, term, phrase, boolean, boost, constantScore, matchAll, matchNone, range, Clauses, none, clause, depth}
 use Rattle.rules.specs.Stored.{encodeWords, encode}
 use Rattle.rules.specs.Rewriting.{largest, largests, base, lone, rewriteOnce, rounds}
 use Rattle.rules.proofs.Sizes.{length-word}
 use Rattle.rules.proofs.rewriting.Walk.{Law, join, once-law}
 use Rattle.rules.proofs.rewriting.Rounds.{resultOf, afterRounds, after-law, rounds-law}
-use Rattle.rules.proofs.rewriting.Measures.{clauseCount, bulk, bulks, bulk-is, bulk-most, reach, unboosted, reaches, unboosted-reach, unboosted-base, reach-depth}
+use Rattle.rules.proofs.rewriting.Measures.{clauseCount, bulk, bulks, bulk-is, measured, reach, unboosted, reaches, unboosted-reach, unboosted-base}
 
 -- q is in no measure above p; ds in none above cs
 pub record Bounded (p q : Query) : Type 0 where
@@ -38,8 +38,8 @@ base-bounded (range n f l u) = omega arith
 
 join-bounded : (k : Kind) (q : Query) (xs cs : Clauses)
     → (bulks (join xs (clause k q cs)) ≡ 4 + bulk q + bulks (join xs cs))
-      × (reaches (join xs (clause k q cs)) ≡ max (unboosted q) (reaches (join xs cs)))
-      × (largests (join xs (clause k q cs)) ≡ max (largest q) (largests (join xs cs)))
+    × (reaches (join xs (clause k q cs)) ≡ max (unboosted q) (reaches (join xs cs)))
+    × (largests (join xs (clause k q cs)) ≡ max (largest q) (largests (join xs cs)))
 unfolding bulk reach largest
 join-bounded k q none cs = (refl, refl, refl)
 join-bounded k q (clause j p xs) cs = omega (arith, join-bounded k q xs cs)
@@ -100,10 +100,10 @@ abbrev pub roundBytes : ℕ
 roundBytes = rewriterBytes + rewriterBytes / 6
 
 length-bounded : (p q : Query) → Bounded p q → length (encode p) ≤ rewriterBytes → length (encode q) ≤ roundBytes
-length-bounded p q h l = omega (arith, bulk-is p, bulk-is q, bulk-most p)
+length-bounded p q h l = omega (arith, bulk-is p, bulk-is q, measured p)
 
 depth-bounded : (p q : Query) → Bounded p q → depth p ≤ rewriterDepth → depth q ≤ selectionDepth
-depth-bounded p q h l = omega (arith, reach-depth p, reach-depth q)
+depth-bounded p q h l = omega (arith, measured p, measured q)
 
 module _ (q : Query) where
   module _ (n : ℕ) where

@@ -1,10 +1,9 @@
 -- Measures of a query that no round raises, and what they say of its stored form's length and of its depth. Sections 'Stored form' and 'One round of rewriting'.
 use mathlib.Core.Path.{_≡_, refl}
-use Prim.Native.Nat.{ℕ, _+_, _*_, _/_, _≤_, max}
-use mathlib.Core.List.{List}
+use Prim.Native.Nat.{ℕ, _+_, _*_, _≤_, max}
 use native.Mathlib.Omega.{arith}
 use lib.ListN.{length}
-use Rattle.rules.specs.Query.{Word, Kind, Numbers, Bound, Query, term, phrase, boolean, boost, constantScore, matchAll, matchNone, range, Clauses, none, clause, depth, depths}
+use Rattle.rules.specs.Query.{Query, term, phrase, boolean, boost, constantScore, matchAll, matchNone, range, Clauses, none, clause, depth, depths}
 use Rattle.rules.specs.Stored.{encodeBound, encodeWords, encode, encodes}
 use Rattle.rules.specs.Rewriting.{base}
 use Rattle.rules.proofs.Sizes.{length-term, length-phrase, length-boolean, length-boost, length-constant-score, length-match-all, length-match-none, length-range, length-none, length-clause}
@@ -58,24 +57,6 @@ mutual
   bulks-are none = omega (arith, length-none)
   bulks-are (clause k q cs) = omega (arith, length-clause k q cs, bulk-is q, bulks-are cs)
 
--- a clause takes 6 bytes or more
-mutual
-  unfolding bulk clauseCount
-
-  pub bulk-most : (q : Query) → 3 + 7 * clauseCount q ≤ bulk q
-  bulk-most (term f t) = omega arith
-  bulk-most (phrase f ws) = omega arith
-  bulk-most (boolean m cs) = omega (arith, bulks-most cs)
-  bulk-most (boost b q) = omega (arith, bulk-most q)
-  bulk-most (constantScore q) = omega (arith, bulk-most q)
-  bulk-most matchAll = omega arith
-  bulk-most matchNone = omega arith
-  bulk-most (range n f l u) = omega arith
-
-  bulks-most : (cs : Clauses) → 7 * clauseCounts cs ≤ bulks cs
-  bulks-most none = omega arith
-  bulks-most (clause k q cs) = omega (arith, bulk-most q, bulks-most cs)
-
 -- ---- how deep a query reaches; the clauses' outer boosts do not count: `unboosted q` is `reach (base q)`
 
 unfoldable mutual
@@ -126,20 +107,20 @@ unboosted-base matchAll = refl
 unboosted-base matchNone = refl
 unboosted-base (range n f l u) = refl
 
--- the reach lies between the depth and three times the depth
+-- a clause takes 6 bytes or more, and the reach lies between the depth and three times the depth
 mutual
-  unfolding reach depth
+  unfolding bulk clauseCount reach depth
 
-  pub reach-depth : (q : Query) → (depth q ≤ reach q) × (reach q ≤ 3 * depth q)
-  reach-depth (term f t) = omega arith
-  reach-depth (phrase f ws) = omega arith
-  reach-depth (boolean m cs) = omega (arith, reaches-depths cs)
-  reach-depth (boost b q) = omega (arith, reach-depth q)
-  reach-depth (constantScore q) = omega (arith, reach-depth q)
-  reach-depth matchAll = omega arith
-  reach-depth matchNone = omega arith
-  reach-depth (range n f l u) = omega arith
+  pub measured : (q : Query) → (3 + 7 * clauseCount q ≤ bulk q) × (depth q ≤ reach q) × (reach q ≤ 3 * depth q)
+  measured (term f t) = omega arith
+  measured (phrase f ws) = omega arith
+  measured (boolean m cs) = omega (arith, all-measured cs)
+  measured (boost b q) = omega (arith, measured q)
+  measured (constantScore q) = omega (arith, measured q)
+  measured matchAll = omega arith
+  measured matchNone = omega arith
+  measured (range n f l u) = omega arith
 
-  reaches-depths : (cs : Clauses) → (depths cs ≤ 1 + reaches cs) × (reaches cs ≤ 3 * depths cs)
-  reaches-depths none = omega arith
-  reaches-depths (clause k q cs) = omega (arith, reach-depth q, reaches-depths cs, unboosted-reach q)
+  all-measured : (cs : Clauses) → (7 * clauseCounts cs ≤ bulks cs) × (depths cs ≤ 1 + reaches cs) × (reaches cs ≤ 3 * depths cs)
+  all-measured none = omega arith
+  all-measured (clause k q cs) = omega (arith, measured q, all-measured cs, unboosted-reach q)

@@ -1,19 +1,19 @@
 -- What a round returns has no two clauses that could be summed, and so has the result. Section 'One round of rewriting'.
-use mathlib.Core.Path.{_≡_, refl, sym, ap, _∙_}
+use mathlib.Core.Path.{_≡_, refl, _∙_}
 use mathlib.Core.Logic.{_⊎_, inl, inr}
-use Prim.Native.Nat.{ℕ, zero, suc, _≤_}
+use Prim.Native.Nat.{ℕ, _≤_}
 use mathlib.Core.List.{List, [], _∷_}
 use mathlib.Core.Bool.{Bool, true, false, not, _&&_, cond}
-use native.Mathlib.Omega.{arith}
 use lib.Dec.{leb, ltb}
 use lib.Ieee.{Float}
 use Rattle.rules.specs.Query.{Word, word, Kind, must, should, mustNot, filter, Query, term, phrase, boolean, boost, constantScore, matchAll, matchNone, range, Clauses, none, clause, equal}
 use Rattle.rules.specs.Floats.{one, widened, narrowed, plus, isOne}
-use Rattle.rules.specs.Rewriting.{weight, isNone, boosted, scored, phrased, scores, summable, standsFor, base, boostOf, Merged, empty, merged, put, addMerged, mergeOnto, reboosted, clausesOf, mergedBoolean, lone, loneOrMerged, shouldCount, onlyMustNot, ofLive, isDead, live, rewriteBoolean, rewriteOnce, rewriteEach, rounds, rewrite}
+use Rattle.rules.specs.Rewriting.{weight, isNone, boosted, scored, phrased, scores, summable, standsFor, base, boostOf, Merged, empty, merged, addMerged, mergeOnto, reboosted, clausesOf, mergedBoolean, lone, loneOrMerged, shouldCount, onlyMustNot, ofLive, isDead, live, rewriteBoolean, rewriteOnce, rewriteEach, rounds, rewrite}
+use Rattle.rules.specs.ByPlace.{held}
 use Rattle.rules.specs.Tidy.{Apart, Distinct, Tidy, Tidies}
 use Rattle.rules.proofs.Bools.{clash, and-l}
-use Rattle.rules.proofs.Equal.{equal-refl}
-use Rattle.rules.proofs.rewriting.Boosts.{one-one}
+use Rattle.rules.proofs.rewriting.Kinds.{stands-same}
+use Rattle.rules.proofs.rewriting.Merging.{raised, add-empty, add-by, Other, AllOther, all-other-merge}
 use Rattle.rules.proofs.rewriting.Rounds.{resultOf, result-once}
 use Rattle.rules.proofs.rewriting.Weights.{one-weight}
 
@@ -59,81 +59,39 @@ base-plain matchAll h = refl
 base-plain matchNone h = refl
 base-plain (range n f l u) h = refl
 
--- ---- kinds
-
-stands-self : (k : Kind) → standsFor k k ≡ true
-stands-self must = refl
-stands-self should = refl
-stands-self mustNot = refl
-stands-self filter = refl
-
--- what stands for a summable clause is summable
-stands-summable : (m : ℕ) (j k : Kind) → summable m k ≡ true → standsFor j k ≡ true → summable m j ≡ true
-stands-summable m must must h c = refl
-stands-summable m should must h c = clash c refl
-stands-summable m mustNot must h c = clash c refl
-stands-summable m filter must h c = clash c refl
-stands-summable m must should h c = refl
-stands-summable m should should h c = h
-stands-summable m mustNot should h c = clash c refl
-stands-summable m filter should h c = clash c refl
-stands-summable m j mustNot h c = clash h refl
-stands-summable m j filter h c = clash h refl
-
 -- ---- the merging of clauses
 
 -- a merged clause: its boost can be put back, or none will be
 abbrev Fit : ℕ → Kind → Query → Float → Type 0
-Fit m k q t = ((summable m k ≡ true) × (isBoosted q ≡ false)) ⊎ ((summable m k ≡ false) × (isBoosted (base q) ≡ false) × (t ≡ one))
+Fit m k q t = ((summable m k ≡ true) × (isBoosted q ≡ false)) ⊎ ((summable m k ≡ false) × (t ≡ one))
 
-abbrev Other : Kind → Query → Merged → Type 0
-Other k p empty = Unit {0}
-Other k p (merged j q t ms) = (k ≡ j → p ≡ q → ⊥) × Other k p ms
-
-abbrev Sorted : ℕ → Merged → Type 0
+unfoldable Sorted : ℕ → Merged → Type 0
 Sorted m empty = Unit {0}
-Sorted m (merged k q t ms) = Tidy q × Fit m k q t × (summable m k ≡ true → Other k q ms) × Sorted m ms
+Sorted m (merged k q t ms) = Tidy q × Fit m k q t × Sorted m ms
 
-module _ (f : Float → Float) (s : Float) (m : ℕ) (k : Kind) (q : Query) where
-  other-put : (j : Kind) (p : Query) → (j ≡ k → p ≡ q → ⊥) → (ms : Merged) → Other j p ms → Other j p (put f s k q ms)
-  unfolding put
-  other-put j p n empty h = (n, tt)
-  other-put j p n (merged i o t ms) h = pass (standsFor i k && equal o q) (other-put j p n ms (h .1))
-    where
-      pass : (b : Bool) → Other j p (put f s k q ms) → Other j p (cond b (merged i o (f t) ms) (merged i o t (put f s k q ms)))
-      pass true g = (h .0, h .1)
-      pass false g = (h .0, g)
+held-fit : (m : ℕ) (k : Kind) (q : Query) → Neat q → Tidy (held m k q) × Fit m k (held m k q) (cond (summable m k) (boostOf q) one)
+held-fit m k q (B, T) = go (summable m k) refl
+  where
+    go : (b : Bool) → summable m k ≡ b → Tidy (cond b (base q) q) × Fit m k (cond b (base q) q) (cond b (boostOf q) one)
+    go true e = (base-tidy q T, inl (e, B))
+    go false e = (T, inr (e, refl))
 
-  sorted-put : Tidy q → Fit m k q s → ((j : Kind) (p : Query) (t : Float) → standsFor j k ≡ true → Fit m j p t → Fit m j p (f t))
-      → (ms : Merged) → Sorted m ms → Sorted m (put f s k q ms)
-  unfolding put
-  sorted-put T fit more empty h = (T, fit, (λ x. tt), tt)
-  sorted-put T fit more (merged j p t ms) h = pass (standsFor j k && equal p q) refl (sorted-put T fit more ms (h .3))
-    where
-      apart : (standsFor j k && equal p q) ≡ false → j ≡ k → p ≡ q → ⊥
-      apart e ej ep =
-          let c : standsFor j k ≡ true = rw ej (stands-self k) in
-          let s : (standsFor j k && equal p q) ≡ true = rw (c, equal-refl p q ep) in
-          clash s e
-
-      pass : (b : Bool) → (standsFor j k && equal p q) ≡ b → Sorted m (put f s k q ms)
-          → Sorted m (cond b (merged j p (f t) ms) (merged j p t (put f s k q ms)))
-      pass true e g = (h .0, more j p t (and-l (standsFor j k) (equal p q) e) (h .1), h .2, h .3)
-      pass false e g = (h .0, h .1, (λ sj. other-put j p (apart e) ms (h .2 sj)), g)
+raised-fit : (m : ℕ) (k : Kind) (q : Query) (j : Kind) (p : Query) (t : Float) → standsFor j k ≡ true → Fit m j p t → Fit m j p (raised m k q t)
+raised-fit m k q j p t c (inl g) = inl g
+raised-fit m k q j p t c (inr g) = inr (g .0, go (summable m k) refl)
+  where
+    go : (b : Bool) → summable m k ≡ b → cond b (plus t (boostOf q)) t ≡ one
+    go true e = clash (rw (stands-same m j k c e) e) (g .0)
+    go false e = g .1
 
 module _ (m : ℕ) where
   sorted-add : (k : Kind) (q : Query) → Neat q → (ms : Merged) → Sorted m ms → Sorted m (addMerged m k q ms)
-  unfolding addMerged
-  sorted-add k q (B, T) ms h = pass (summable m k) refl
-    where
-      raise : summable m k ≡ true → (j : Kind) (p : Query) (t : Float) → standsFor j k ≡ true → Fit m j p t → Fit m j p (plus t (boostOf q))
-      raise e j p t c (inl g) = inl g
-      raise e j p t c (inr g) = clash (stands-summable m j k e c) (g .0)
-
-      pass : (b : Bool) → summable m k ≡ b
-          → Sorted m (cond b (put (λ t. plus t (boostOf q)) (boostOf q) k (base q) ms) (put (λ t. t) one k q ms))
-      pass true e = sorted-put (λ t. plus t (boostOf q)) (boostOf q) m k (base q) (base-tidy q T) (inl (e, B)) (raise e) ms h
-      pass false e = sorted-put (λ t. t) one m k q T (inr (e, B, refl)) (λ j p t c g. g) ms h
+  unfolding Sorted
+  sorted-add k q N empty h = let f = held-fit m k q N in rw add-empty (f .0, f .1, tt)
+  sorted-add k q N (merged j p t ms) h =
+      add-by m k q j p t ms (Sorted m)
+      (λ e. (h .0, raised-fit m k q j p t (and-l (standsFor j k) (equal p (held m k q)) e) (h .1), h .2))
+      (λ e. (h .0, h .1, sorted-add k q N ms (h .2)))
 
   sorted-merge : (cs : Clauses) → Neats cs → (ms : Merged) → Sorted m ms → Sorted m (mergeOnto m ms cs)
   unfolding mergeOnto Neats
@@ -159,21 +117,21 @@ module _ (m : ℕ) where
       pass false = base-plain q (g .1)
 
   clauses-apart : (k : Kind) (p : Query) → summable m k ≡ true → (ms : Merged) → Sorted m ms → Other k p ms → Apart k p (clausesOf ms)
-  unfolding clausesOf Apart
+  unfolding clausesOf Apart Sorted Other
   clauses-apart k p e empty h o = tt
   clauses-apart k p e (merged j q t ms) h o =
-      ((λ ej ep. o .0 ej (ep ∙ reboosted-base j q t (rw ej at e) (h .1))), clauses-apart k p e ms (h .3) (o .1))
+      ((λ ej ep. o .0 ej (ep ∙ reboosted-base j q t (rw ej at e) (h .1))), clauses-apart k p e ms (h .2) (o .1))
 
-  clauses-tidy : (ms : Merged) → Sorted m ms → Distinct m (clausesOf ms) × Tidies (clausesOf ms)
-  unfolding clausesOf Distinct Tidy
-  clauses-tidy empty h = (tt, tt)
-  clauses-tidy (merged k q t ms) h =
-      let g = clauses-tidy ms (h .3) in
-      (((λ e. rw (reboosted-base k q t e (h .1)) (clauses-apart k q e ms (h .3) (h .2 e))), g .0), (reboosted-tidy k q t (h .0), g .1))
+  clauses-tidy : (ms : Merged) → Sorted m ms → AllOther ms → Distinct m (clausesOf ms) × Tidies (clausesOf ms)
+  unfolding clausesOf Distinct Tidy Sorted AllOther
+  clauses-tidy empty h o = (tt, tt)
+  clauses-tidy (merged k q t ms) h o =
+      let g = clauses-tidy ms (h .2) (o .1) in
+      (((λ e. rw (reboosted-base k q t e (h .1)) (clauses-apart k q e ms (h .2) (o .0))), g .0), (reboosted-tidy k q t (h .0), g .1))
 
   merged-neat : (cs : Clauses) → Neats cs → Neat (mergedBoolean m cs)
-  unfolding mergedBoolean Tidy isBoosted base
-  merged-neat cs T = (refl, clauses-tidy (mergeOnto m empty cs) (sorted-merge cs T empty tt))
+  unfolding mergedBoolean Tidy isBoosted base Sorted AllOther
+  merged-neat cs T = (refl, clauses-tidy (mergeOnto m empty cs) (sorted-merge cs T empty tt) (all-other-merge m cs empty tt))
 
 -- ---- one round
 

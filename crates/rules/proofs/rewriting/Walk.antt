@@ -1,12 +1,12 @@
 -- One walk through a round of rewriting, for every law that is kept by each of its steps. Section 'One round of rewriting'.
 use mathlib.Core.Path.{_≡_, refl, sym, ap, _∙_}
-use Prim.Native.Nat.{ℕ, zero, suc, _≤_, _<_}
+use Prim.Native.Nat.{ℕ, _≤_, _<_}
 use mathlib.Core.List.{List, [], _∷_}
 use mathlib.Core.Bool.{Bool, true, false, not, _&&_, cond}
 use lib.Dec.{leb, ltb}
 use lib.Ieee.{Float}
 use borrow.Author.Tests.{leb-true, ltb-true, ltb-false}
-use Rattle.rules.specs.Query.{Word, word, Kind, must, should, mustNot, filter, Query, term, phrase, boolean, boost, constantScore, matchAll, matchNone, range, Clauses, none, clause, equal}
+use Rattle.rules.specs.Query.{Word, word, Kind, Query, term, phrase, boolean, boost, constantScore, matchAll, matchNone, range, Clauses, none, clause, equal}
 use Rattle.rules.specs.Floats.{one, widened, narrowed, plus, times, isOne}
 use Rattle.rules.specs.Rewriting.{isNone, boosted, scored, phrased, isNeeded, isMustNot, scores, summable, standsFor, base, boostOf, Merged, empty, merged, put, addMerged, mergeOnto, reboosted, clausesOf, mergedBoolean, lone, loneOrMerged, shouldCount, onlyMustNot, ofLive, isDead, live, rewriteBoolean, rewriteOnce, rewriteEach}
 use Rattle.rules.proofs.Bools.{clash, and-l, and-r, and-true, or-no-l, or-no-r}

@@ -1,5 +1,5 @@
 -- A round keeps a query valid, and leaves it as it is or makes it lighter: so the rounds end, and are at most the weight. Section 'One round of rewriting'.
-use mathlib.Core.Path.{_≡_, refl, sym, ap, _∙_}
+use mathlib.Core.Path.{_≡_, refl, ap, _∙_}
 use mathlib.Core.Logic.{_⊎_, inl, inr}
 use Prim.Native.Nat.{ℕ, zero, suc, _+_, _≤_, _<_}
 use mathlib.Core.Bool.{Bool, true, false, cond}
