@@ -1,2 +1,3 @@
+pub mod Delivering
 pub mod Joining
 pub mod Laying

@@ -2,3 +2,4 @@
 pub mod big;
 pub mod bytes;
 pub mod part;
+pub mod write;
