@@ -19,7 +19,7 @@ use Rattle.rules.proofs.Choices.{IsChosen, RisingFrom, exact, rising, c
 use Rattle.rules.proofs.rewriting.Rounds.{resultOf, countOf}
 use Rattle.rules.proofs.rewriting.Bounds.{within-bytes, within-depth}
 use Rattle.rules.proofs.rewriting.Weights.{valid-rewrite, few-rounds}
-use Rattle.rules.proofs.rewriting.Truth.{matches-rounds}
+use Rattle.rules.proofs.rewriting.Truth.{matches-rewrite}
 
 -- What is asked for of a stored query s that the rewriter reads as q, and a list l that is read as rs: s is rewritten in at most as many rounds as q weighs,
 -- and what is written for it selects every record that q is true of, and no other, each once, rising.
@@ -63,7 +63,7 @@ module _ (s : List ℕ) (B : Bytes s) (q : Query) (read : readForRewriting s ≡
       → selected (encode (resultOf (rewrite q))) l ≡ got (chosen q rs)
   same-choice h l rs e =
       selected-is (encode (resultOf (rewrite q))) l (resultOf (rewrite q)) rs accepted e
-      ∙ ap got (chosen-alike (resultOf (rewrite q)) q (λ es. matches-rounds es q h (weight q)) 0 rs)
+      ∙ ap got (chosen-alike (resultOf (rewrite q)) q (λ es. matches-rewrite es q h) 0 rs)
 
   pub reply-is : rewriteReply s ≡ got (rewrittenReply (rewrite q))
   unfolding rewriteReply

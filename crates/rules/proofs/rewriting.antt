@@ -10,3 +10,4 @@ pub mod Merging
 pub mod Tidiness
 pub mod Truth
 pub mod Places
+pub mod Worked

@@ -5,7 +5,7 @@ use native.Mathlib.Omega.{arith}
 use lib.ListN.{length}
 use Rattle.rules.specs.Query.{Query, term, phrase, boolean, boost, constantScore, matchAll, matchNone, range, Clauses, none, clause, depth, depths}
 use Rattle.rules.specs.Stored.{encodeBound, encodeWords, encode, encodes}
-use Rattle.rules.specs.Rewriting.{base}
+use Rattle.rules.specs.Rewriting.{weight, weights, base}
 use Rattle.rules.proofs.Sizes.{length-term, length-phrase, length-boolean, length-boost, length-constant-score, length-match-all, length-match-none, length-range, length-none, length-clause}
 
 -- ---- bytes, and one more for each clause: merging takes a clause of 6 bytes or more and adds a boost of 7
@@ -107,11 +107,13 @@ unboosted-base matchAll = refl
 unboosted-base matchNone = refl
 unboosted-base (range n f l u) = refl
 
--- a clause takes 6 bytes or more, and the reach lies between the depth and three times the depth
-mutual
-  unfolding bulk clauseCount reach depth
+-- ---- what they say
 
-  pub measured : (q : Query) → (3 + 7 * clauseCount q ≤ bulk q) × (depth q ≤ reach q) × (reach q ≤ 3 * depth q)
+-- a clause takes 6 bytes or more, and at least as many bytes as it weighs; the reach lies between the depth and three times the depth
+mutual
+  unfolding bulk clauseCount weight reach depth
+
+  pub measured : (q : Query) → (3 + 7 * clauseCount q ≤ bulk q) × (weight q + clauseCount q ≤ bulk q) × (depth q ≤ reach q) × (reach q ≤ 3 * depth q)
   measured (term f t) = omega arith
   measured (phrase f ws) = omega arith
   measured (boolean m cs) = omega (arith, all-measured cs)
@@ -121,6 +123,11 @@ mutual
   measured matchNone = omega arith
   measured (range n f l u) = omega arith
 
-  all-measured : (cs : Clauses) → (7 * clauseCounts cs ≤ bulks cs) × (depths cs ≤ 1 + reaches cs) × (reaches cs ≤ 3 * depths cs)
+  all-measured : (cs : Clauses)
+      → (7 * clauseCounts cs ≤ bulks cs) × (weights cs + clauseCounts cs ≤ bulks cs) × (depths cs ≤ 1 + reaches cs) × (reaches cs ≤ 3 * depths cs)
   all-measured none = omega arith
   all-measured (clause k q cs) = omega (arith, measured q, all-measured cs, unboosted-reach q)
+
+-- so there are at most as many rounds as bytes
+pub weight-length : (q : Query) → weight q ≤ length (encode q)
+weight-length q = omega (arith, measured q, bulk-is q)

@@ -9,7 +9,7 @@ use lib.Ieee.{Float}
 use borrow.Author.Tests.{leb-true, le-leb, lt-leb}
 use Rattle.rules.specs.Query.{Kind, must, should, mustNot, filter, Query, term, phrase, boolean, boost, constantScore, matchAll, matchNone, range, Clauses, none, clause}
 use Rattle.rules.specs.Floats.{narrowed, isOne}
-use Rattle.rules.specs.Rewriting.{largest, largests, isNone, isNeeded, isMustNot, scores, standsFor, base, reboosted, lone, shouldCount, onlyMustNot, isDead, rewriteOnce, rounds}
+use Rattle.rules.specs.Rewriting.{weight, largest, largests, isNone, isNeeded, isMustNot, scores, standsFor, base, reboosted, lone, shouldCount, onlyMustNot, isDead, rewriteOnce, rounds, rewrite}
 use Rattle.rules.specs.Lists.{Entry}
 use Rattle.rules.specs.Matching.{bit, allows, countsFor, anyNeeded, enough, matches, allAllow, shouldsTrue}
 use Rattle.rules.proofs.Bools.{clash, alike, and-false, and-same, and-swap, or-same, or-swap}
@@ -241,3 +241,6 @@ module _ (es : List Entry) where
 
     pub matches-rounds : (k : ℕ) → matches es (resultOf (rounds k q)) ≡ matches es q
     matches-rounds k = rounds-law Keeps KeepsAll truth-law q k .1 h
+
+    pub matches-rewrite : matches es (resultOf (rewrite q)) ≡ matches es q
+    matches-rewrite = matches-rounds (weight q)

@@ -17,7 +17,7 @@ use Rattle.rules.proofs.rewriting.Rounds.{resultOf, countOf, result-mor
 -- ---- the law
 
 -- b is a, or lighter
-abbrev Step : {A : Type 0} → (A → ℕ) → A → A → Type 0
+abbrev pub Step : {A : Type 0} → (A → ℕ) → A → A → Type 0
 Step w a b = (b ≡ a) ⊎ (w b < w a)
 
 step-go : {A : Type 0} (w : A → ℕ) (a b c : A) → Step w a b → Step w b c → Step w a c
@@ -66,13 +66,13 @@ lone-lighter m mustNot q = omega arith
 lone-lighter m filter q = omega arith
 
 -- of a valid query: a boost that is rounded is a boost again, and the same
-abbrev Lightens : Query → Query → Type 0
+abbrev pub Lightens : Query → Query → Type 0
 Lightens p q = Valid p → Valid q × Step weight p q
 
-abbrev LightensAll : ℕ → Clauses → Clauses → Type 0
+abbrev pub LightensAll : ℕ → Clauses → Clauses → Type 0
 LightensAll m cs ds = Valids cs → Valids ds × Step weights cs ds
 
-weight-law : Law Lightens LightensAll
+pub weight-law : Law Lightens LightensAll
 unfolding Valid ValidWords weight
 weight-law = record {
   stays = λ q v. (v, inl refl);
