@@ -8,3 +8,9 @@ pub mod Tens
 pub mod Rises
 pub mod Halves
 pub mod Runs
+pub mod Scales
+pub mod Once
+pub mod Grammar
+pub mod Wholes
+pub mod Words
+pub mod Fills

@@ -2,3 +2,5 @@ pub mod Bits
 pub mod Row
 pub mod Bisect
 pub mod Digits
+pub mod Decimal
+pub mod Numeral

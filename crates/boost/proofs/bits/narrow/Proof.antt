@@ -1,7 +1,7 @@
 -- `boost::bits::narrow` meets its contract (`proofs/Narrow.antt`). Assumes nothing.
 use native.Mathlib.Omega.{arith}
 use Prim.Native.Nat.{_^_}
-use lib.Ieee.{Float, binary32, binary64, toBits}
+use lib.Ieee.{binary64}
 use Rattle.rules.specs.Floats.{narrowed}
 use Rattle.boost.proofs.Model.{signed-neg, signed-pos}
 use Rattle.boost.proofs.Narrow.{narrowed-nan}

@@ -1,7 +1,7 @@
 -- `boost::bits::widen_finite` meets its contract (`proofs/Widen.antt`). Assumes nothing.
 use native.Mathlib.Omega.{arith}
 use borrow.Author.Needs.{needs}
-use Prim.Native.Nat.{ℕ, _<_, _≤_, _+_, _*_, _^_}
+use Prim.Native.Nat.{_<_, _≤_}
 use lib.Count.{leadingZeros}
 use Rattle.boost.proofs.Widen.{zeros, widened, widened-zero}
 use Rattle.boost.proofs.bits.widen_finite.Statement.{statement}

@@ -1,3 +1,4 @@
+-- `boost::digits::read` meets its contract. Assumes nothing.
 use Rattle.boost.proofs.Runs.{digit-low, digit-high, stop-byte, stop-end, Counting, count-first, count-next, counted}
 use lib.ListN.{length, getD}
 use Prim.Native.Nat.{_-_}
@@ -5,10 +6,6 @@ use native.Mathlib.Omega.{arith}
 use borrow.Author.Needs.{needs}
 use Rattle.boost.proofs.digits.read.Statement.{statement}
 use Rattle.boost.proofs.digits.read.Tie as tie
-use Rattle.boost.proofs.digits.read.Reads as reads
-use Rattle.boost.proofs.digits.read.Lts as lts
-use Rattle.boost.proofs.digits.cut_off.Reads as cut-off-reads
-use Rattle.boost.proofs.digits.digit.Reads as digit-reads
 
 abbrev Inv-loop : tie.InvT-loop
 Inv-loop s at start v₀ i₀ v i = Counting s at start v i
@@ -16,51 +13,39 @@ Inv-loop s at start v₀ i₀ v i = Counting s at start v i
 abbrev μ-loop : tie.MeasureT-loop
 μ-loop s at start v₀ i₀ v i = length s - i
 
--- src/digits.rt:43:5
 loop-holds : tie.Need-loop-holds Inv-loop μ-loop
 loop-holds c = count-first (c .before .args .s .now) (c .before .args .at) (c .before .args .start) (c .before .pre .0) (c .before .pre .1)
 
--- src/digits.rt:44:17
 shared-slice-read-b : tie.Need-shared-slice-read-b Inv-loop μ-loop
 shared-slice-read-b c = omega arith
 
--- src/digits.rt:46:13
 returns : tie.Need-returns Inv-loop μ-loop
 returns c = counted (c .before .before .before .before .before .args .s .now) (c .before .before .before .before .before .args .at) (c .before .before .before .before .before .args .start) (c .before .before .before .loop .v) (c .before .before .before .loop .i) (c .before .before .before .loop .inv) (stop-byte (c .before .before .before .before .before .args .s .now) (c .before .before .before .loop .i) (c .before .before .loop-test .taken) (digit-low (getD (c .before .before .before .before .before .args .s .now) (c .before .before .before .loop .i) 0) (c .if1 .taken)))
 
--- src/digits.rt:49:13
 returns-2 : tie.Need-returns-2 Inv-loop μ-loop
 returns-2 c = counted (c .before .before .before .before .before .before .args .s .now) (c .before .before .before .before .before .before .args .at) (c .before .before .before .before .before .before .args .start) (c .before .before .before .before .loop .v) (c .before .before .before .before .loop .i) (c .before .before .before .before .loop .inv) (stop-byte (c .before .before .before .before .before .before .args .s .now) (c .before .before .before .before .loop .i) (c .before .before .before .loop-test .taken) (digit-high (getD (c .before .before .before .before .before .before .args .s .now) (c .before .before .before .before .loop .i) 0) (c .if2 .taken)))
 
--- src/digits.rt:51:21
 mul-cut-off : tie.Need-mul-cut-off Inv-loop μ-loop
 mul-cut-off c = let l = c .before .before .before .before .loop .inv .small in omega arith
 
--- src/digits.rt:51:30
 digit-requires : tie.Need-digit-requires Inv-loop μ-loop
 digit-requires c κs = c .before .if1 .left
 
--- src/digits.rt:51:21
 add-cut-off : tie.Need-add-cut-off Inv-loop μ-loop
 add-cut-off c = let l = c .before .before .before .before .before .loop .inv .small in omega (arith, c .digit .ensures, c .before .if2 .left)
 
--- src/digits.rt:51:9
 cut-off-requires : tie.Need-cut-off-requires Inv-loop μ-loop
 cut-off-requires c κs = search needs
 
--- src/digits.rt:52:9
 add-i : tie.Need-add-i Inv-loop μ-loop
 add-i c = omega arith
 
--- src/digits.rt:43:5
 loop-less : tie.Need-loop-less Inv-loop μ-loop
 loop-less c = omega arith
 
--- src/digits.rt:43:5
 loop-again : tie.Need-loop-again Inv-loop μ-loop
 loop-again c = count-next (c .before .before .before .before .before .before .before .before .args .s .now) (c .before .before .before .before .before .before .before .before .args .at) (c .before .before .before .before .before .before .before .before .args .start) (c .before .before .before .before .before .before .loop .v) (c .before .before .before .before .before .before .loop .i) (c .before .digit .result) (c .cut-off .result) (c .before .before .before .before .before .before .loop .inv) (c .before .before .before .before .before .loop-test .taken) (c .before .before .before .if1 .left) (c .before .before .if2 .left) (c .before .digit .ensures) (c .cut-off .ensures)
 
--- src/digits.rt:36:1
 returns-3 : tie.Need-returns-3 Inv-loop μ-loop
 returns-3 c = counted (c .before .before .before .args .s .now) (c .before .before .before .args .at) (c .before .before .before .args .start) (c .before .loop .v) (c .before .loop .i) (c .before .loop .inv) (stop-end (c .before .before .before .args .s .now) (c .before .loop .i) (c .loop-test .left))
 

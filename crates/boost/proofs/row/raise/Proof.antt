@@ -1,6 +1,6 @@
 -- `boost::row::raise` meets its contract (`proofs/Rises.antt`). Assumes nothing.
-use mathlib.Core.Path.{_≡_, refl, sym}
-use Prim.Native.Nat.{ℕ, _^_, _%_, _*_}
+use mathlib.Core.Path.{refl}
+use Prim.Native.Nat.{_^_, _%_, _*_}
 use native.Mathlib.Nat.{le-of-eq}
 use native.Mathlib.Omega.{arith}
 use Rattle.boost.proofs.Rises.{Raising, raising-room, big-step, raising-next, last-step, raising-last}

@@ -1,9 +1,8 @@
 -- `boost::sums::product` meets its contract (`proofs/Nans.antt`). Assumes nothing.
-use mathlib.Core.Path.{_≡_, refl, sym, ap, _∙_}
-use lib.Ieee.{Float, binary32, toBits, mul, ofBits}
+use mathlib.Core.Path.{refl, sym, ap, _∙_}
+use lib.Ieee.{binary32, toBits, mul, ofBits}
 use Rattle.rules.specs.Floats.{times}
 use Rattle.boost.proofs.Nans.{no-nan, not-nan, is-nan, nan-32, product-nan-l, product-nan-r}
-use borrow.Author.Needs.{needs}
 use Rattle.boost.proofs.sums.product.Statement.{statement}
 use Rattle.boost.proofs.sums.product.Tie as tie
 

@@ -1,7 +1,7 @@
 -- `boost::sums::rounded_bits` meets its contract (`proofs/Nans.antt`). Assumes nothing.
-use mathlib.Core.Path.{_≡_, sym, ap, _∙_, subst}
+use mathlib.Core.Path.{sym, ap, _∙_, subst}
 use lib.Dec.{T}
-use lib.Ieee.{Float, binary32, binary64, toBits, fits}
+use lib.Ieee.{binary64}
 use lib.Ieee.Bits.{ofBits-toBits}
 use Rattle.rules.specs.Floats.{narrowed}
 use Rattle.boost.proofs.Nans.{not-nan, is-nan, nan-rounded}
