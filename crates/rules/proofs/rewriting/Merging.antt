@@ -1,4 +1,4 @@
--- The merging of clauses: a clause is added in one way, summable or not, and merged clauses of one kind hold different queries. Section 'One round of rewriting'.
+-- The merging of clauses: a clause is added in one way, summable or not, and merged clauses of one summable kind hold different queries. Section 'One round of rewriting'.
 use mathlib.Core.Path.{_≡_, refl}
 use Prim.Native.Nat.{ℕ}
 use mathlib.Core.Bool.{Bool, true, false, _&&_, cond}
@@ -52,15 +52,15 @@ module _ (m : ℕ) (k : Kind) (q : Query) where
         go true f g = f refl
         go false f g = g refl
 
--- ---- merged clauses of one kind hold different queries
+-- ---- merged clauses of one summable kind hold different queries
 
 unfoldable pub Other : Kind → Query → Merged → Type 0
 Other k p empty = Unit {0}
 Other k p (merged j q t ms) = (k ≡ j → p ≡ q → ⊥) × Other k p ms
 
-unfoldable pub AllOther : Merged → Type 0
-AllOther empty = Unit {0}
-AllOther (merged k q t ms) = Other k q ms × AllOther ms
+unfoldable pub AllOther : ℕ → Merged → Type 0
+AllOther m empty = Unit {0}
+AllOther m (merged k q t ms) = (summable m k ≡ true → Other k q ms) × AllOther m ms
 
 module _ (m : ℕ) (k : Kind) (q : Query) where
   other-add : (j : Kind) (p : Query) → takes m j p k q ≡ false → (ms : Merged) → Other j p ms → Other j p (addMerged m k q ms)
@@ -72,13 +72,13 @@ module _ (m : ℕ) (k : Kind) (q : Query) where
   other-add j p n (merged i o t ms) h =
       add-by m k q i o t ms (Other j p) (λ e. (h .0, h .1)) (λ e. (h .0, other-add j p n ms (h .1)))
 
-  pub all-other-add : (ms : Merged) → AllOther ms → AllOther (addMerged m k q ms)
+  pub all-other-add : (ms : Merged) → AllOther m ms → AllOther m (addMerged m k q ms)
   unfolding AllOther Other
-  all-other-add empty h = rw add-empty (tt, tt)
+  all-other-add empty h = rw add-empty ((λ s. tt), tt)
   all-other-add (merged j p t ms) h =
-      add-by m k q j p t ms AllOther (λ e. (h .0, h .1)) (λ e. (other-add j p e ms (h .0), all-other-add ms (h .1)))
+      add-by m k q j p t ms (AllOther m) (λ e. (h .0, h .1)) (λ e. ((λ s. other-add j p e ms (h .0 s)), all-other-add ms (h .1)))
 
-pub all-other-merge : (m : ℕ) (cs : Clauses) (ms : Merged) → AllOther ms → AllOther (mergeOnto m ms cs)
+pub all-other-merge : (m : ℕ) (cs : Clauses) (ms : Merged) → AllOther m ms → AllOther m (mergeOnto m ms cs)
 unfolding mergeOnto
 all-other-merge m none ms h = h
 all-other-merge m (clause k q cs) ms h = all-other-merge m cs (addMerged m k q ms) (all-other-add m k q ms h)

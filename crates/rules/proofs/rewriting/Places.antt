@@ -4,11 +4,11 @@ use Prim.Native.Nat.{ℕ}
 use mathlib.Core.Bool.{Bool, true, false, _&&_, _||_, cond}
 use lib.Ieee.{Float}
 use borrow.Author.Tests.{eqb-true, eq-eqb}
-use Rattle.rules.specs.Query.{Kind, Query, Clauses, none, clause, equal}
+use Rattle.rules.specs.Query.{Kind, Query, boolean, Clauses, none, clause, equal}
 use Rattle.rules.specs.Stored.{kindTag}
 use Rattle.rules.specs.Reading.{kindOf}
 use Rattle.rules.specs.Floats.{one, plus}
-use Rattle.rules.specs.Rewriting.{summable, standsFor, base, boostOf, Merged, empty, merged, addMerged, mergeOnto, reboosted, clausesOf}
+use Rattle.rules.specs.Rewriting.{summable, standsFor, base, boostOf, Merged, empty, merged, addMerged, mergeOnto, reboosted, clausesOf, mergedBoolean}
 use Rattle.rules.specs.ByPlace.{held, sameKind, seen, total, sumFrom, snoc, mergedByPlace}
 use Rattle.rules.proofs.Bools.{clash, fails, alike, both, and-l, and-r, or-false, or-assoc, absorb}
 use Rattle.rules.proofs.Tags.{kind-back}
@@ -78,14 +78,14 @@ module _ (m : ℕ) (k : Kind) (q : Query) where
   sums-not j h n = fails (sums j h) (λ e. let f = sums-from j h e in clash (f .2) (rw (f .0) at n))
 
   -- of merged clauses that hold different queries no second one sums it
-  sums-once : (j i : Kind) (h x : Query) → takes m j h k q ≡ true → (j ≡ i → h ≡ x → ⊥) → sums i x ≡ false
+  sums-once : (j i : Kind) (h x : Query) → takes m j h k q ≡ true → (summable m j ≡ true → j ≡ i → h ≡ x → ⊥) → sums i x ≡ false
   sums-once j i h x t n = fails (sums i x) second
     where
       second : sums i x ≡ true → ⊥
       second e =
           let f = sums-from i x e in
           let g = sums-from j h (both t (f .2)) in
-          n (g .0 ∙ sym (f .0)) (g .1 ∙ sym (f .1))
+          n (rw (g .0) (g .2)) (g .0 ∙ sym (f .0)) (g .1 ∙ sym (f .1))
 
   module _ (cs : Clauses) where
     sum-next : (j : Kind) (h : Query) (s : Float)
@@ -100,17 +100,19 @@ module _ (m : ℕ) (k : Kind) (q : Query) where
         go true e = ap (λ (b : Bool). total (cond b (plus s (boostOf q)) s) j h cs) (sums-same j h e)
         go false e = rw (sums-not j h e)
 
-    closing-other : (j : Kind) (h : Query) → takes m j h k q ≡ true → (ms : Merged) → Other j h ms → closing m (clause k q cs) ms ≡ closing m cs ms
+    closing-other : (j : Kind) (h : Query) → takes m j h k q ≡ true → (ms : Merged) → (summable m j ≡ true → Other j h ms)
+        → closing m (clause k q cs) ms ≡ closing m cs ms
     unfolding closing Other
     closing-other j h t empty o = refl
     closing-other j h t (merged i x s ms) o =
-        rw (closing-other j h t ms (o .1)) (ap (λ (u : Float). clause i (reboosted i x u) (closing m cs ms)) (sum-next i x s ∙ rw (sums-once j i h x t (o .0))))
+        rw (closing-other j h t ms (λ e. o e .1))
+        (ap (λ (u : Float). clause i (reboosted i x u) (closing m cs ms)) (sum-next i x s ∙ rw (sums-once j i h x t (λ e. o e .0))))
 
     -- a new one is kept behind the others
     abbrev kept : Clauses → Clauses
     kept X = clause k (reboosted k (held m k q) (sumFrom m k q cs)) X
 
-    step : (ms : Merged) → AllOther ms → (X : Clauses)
+    step : (ms : Merged) → AllOther m ms → (X : Clauses)
         → join (closing m cs (addMerged m k q ms)) X
         ≡ join (closing m (clause k q cs) ms) (cond (hit ms k (held m k q)) X (kept X))
     unfolding closing hit AllOther sumFrom
@@ -160,7 +162,7 @@ module _ (m : ℕ) (k : Kind) (q : Query) (i : Kind) (l : Query) where
 
 -- ---- by place
 
-by-place : (m : ℕ) (cs pre : Clauses) (ms : Merged) → AllOther ms → ((i : Kind) (l : Query) → seen m pre i l ≡ hit ms i l)
+by-place : (m : ℕ) (cs pre : Clauses) (ms : Merged) → AllOther m ms → ((i : Kind) (l : Query) → seen m pre i l ≡ hit ms i l)
     → clausesOf (mergeOnto m ms cs) ≡ join (closing m cs ms) (mergedByPlace m pre cs)
 unfolding mergeOnto mergedByPlace
 by-place m none pre ms o f = sym (join-none (closing m none ms) ∙ closing-none m ms)
@@ -173,3 +175,7 @@ by-place m (clause k q cs) pre ms o f =
 pub merged-by-place : (m : ℕ) (cs : Clauses) → clausesOf (mergeOnto m empty cs) ≡ mergedByPlace m none cs
 unfolding closing hit seen AllOther
 merged-by-place m cs = by-place m cs none empty tt (λ i l. refl)
+
+pub boolean-by-place : (m : ℕ) (cs : Clauses) → mergedBoolean m cs ≡ boolean m (mergedByPlace m none cs)
+unfolding mergedBoolean
+boolean-by-place m cs = ap (boolean m) (merged-by-place m cs)

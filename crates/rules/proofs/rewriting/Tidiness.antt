@@ -122,12 +122,12 @@ module _ (m : ℕ) where
   clauses-apart k p e (merged j q t ms) h o =
       ((λ ej ep. o .0 ej (ep ∙ reboosted-base j q t (rw ej at e) (h .1))), clauses-apart k p e ms (h .2) (o .1))
 
-  clauses-tidy : (ms : Merged) → Sorted m ms → AllOther ms → Distinct m (clausesOf ms) × Tidies (clausesOf ms)
+  clauses-tidy : (ms : Merged) → Sorted m ms → AllOther m ms → Distinct m (clausesOf ms) × Tidies (clausesOf ms)
   unfolding clausesOf Distinct Tidy Sorted AllOther
   clauses-tidy empty h o = (tt, tt)
   clauses-tidy (merged k q t ms) h o =
       let g = clauses-tidy ms (h .2) (o .1) in
-      (((λ e. rw (reboosted-base k q t e (h .1)) (clauses-apart k q e ms (h .2) (o .0))), g .0), (reboosted-tidy k q t (h .0), g .1))
+      (((λ e. rw (reboosted-base k q t e (h .1)) (clauses-apart k q e ms (h .2) (o .0 e))), g .0), (reboosted-tidy k q t (h .0), g .1))
 
   merged-neat : (cs : Clauses) → Neats cs → Neat (mergedBoolean m cs)
   unfolding mergedBoolean Tidy isBoosted base Sorted AllOther
