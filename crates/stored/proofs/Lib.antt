@@ -1,3 +1,4 @@
 pub mod Delivering
 pub mod Joining
 pub mod Laying
+pub mod Reader

@@ -2,4 +2,5 @@
 pub mod big;
 pub mod bytes;
 pub mod part;
+pub mod read;
 pub mod write;
