@@ -48,7 +48,7 @@ pub fn should_count(s: &[u8]) -> usize
 }
 
 fn counted(k: u8, n: usize) -> usize
-    requires { ⌜ n < 1000000 ⌝ }
+    requires { ⌜ n < 18446744073709551615 ⌝ }
     ensures { λ r. ⌜ ((j : Kind) → kindTag j ≡ k → r ≡ n + ifShould j) × (r ≤ n + 1) ⌝ }
 {
     if k == 0x21 { n + 1 } else { n }

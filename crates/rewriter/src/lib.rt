@@ -1,3 +1,4 @@
 // The rewriter: rounds over a stored query, all in one lent room.
-pub mod place;
 pub mod clauses;
+pub mod merge;
+pub mod place;

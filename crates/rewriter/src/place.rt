@@ -6,18 +6,19 @@ ghost use mathlib.Core.Logic.{_⊎_};
 ghost use Prim.Native.Nat.{_+_, _≤_};
 ghost use lib.ListN.{length, take, drop};
 ghost use Rattle.rules.specs.Bytes.{wholeOf, sizeOf};
-ghost use Rattle.stored.specs.Laid.{laid};
+ghost use Rattle.stored.specs.Laid.{Put};
 
-// Lays the n bytes that stand at `from` at `to`: lower down, or behind them.
-pub fn shift(room: &mut [u8], to: usize, from: usize, n: usize)
+// Lays the n bytes that stand at `from` at `to`, lower down or behind them, and gives the place behind what was laid.
+pub fn shift(room: &mut [u8], to: usize, from: usize, n: usize) -> usize
     requires { ⌜ (from + n ≤ length (now room)) × (to + n ≤ length (now room)) × ((to ≤ from) ⊎ (from + n ≤ to)) ⌝ }
-    ensures { λ _. ⌜ now (room .exit) ≡ laid (now (room .entry)) to (take n (drop from (now (room .entry)))) ⌝ }
+    ensures { λ r. ⌜ Put (now (room .entry)) to (take n (drop from (now (room .entry)))) r (now (room .exit)) ⌝ }
 {
     let mut k = 0;
     while k < n {
         room[to + k] = room[from + k];
         k += 1;
     }
+    to + n
 }
 
 // Where the part that begins at a place ends.
