@@ -1,6 +1,9 @@
 pub mod Standing
 pub mod Placed
 pub mod Forms
-pub mod Seeking
 pub mod Laid
+pub mod Seeking
 pub mod Merging
+pub mod Finishing
+pub mod Phrases
+pub mod Booleans

@@ -80,3 +80,14 @@ no-clause-at room t end cs a h = go cs (a .form)
     go (clause k q cs) e =
         let z : end - t ≡ 0 = omega arith in
         absurd (omega (arith, ap length (e ∙ ap (λ (n : ℕ). take n (drop t room)) z)))
+
+-- where the code says that the first clause ends
+module _ {room : List ℕ} {t end : ℕ} {cs : Clauses} (c : ClauseAt room t end cs) (e : ℕ) (ee : e ≡ t + 3 + sizeOf (drop t room)) where
+  pub clause-end : e ≡ t + 3 + length (encode (c .query))
+  clause-end = omega (arith, c .part .size)
+
+  pub clause-is : Is (within (t + 3) e room) (c .query)
+  clause-is = rw clause-end (c .is)
+
+  pub clause-further : (t + 3 ≤ e) × (e ≤ end)
+  clause-further = let z = clause-end in omega (arith, c .top)

@@ -1,3 +1,4 @@
 pub mod Within
 pub mod Clauses
 pub mod Merge
+pub mod Over

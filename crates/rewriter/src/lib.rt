@@ -1,4 +1,5 @@
 // The rewriter: rounds over a stored query, all in one lent room.
+pub mod place;
 pub mod clauses;
 pub mod merge;
-pub mod place;
+pub mod over;
