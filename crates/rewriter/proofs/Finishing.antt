@@ -209,11 +209,11 @@ term-put {room} {room₁} {room₂} {room₃} {to = to} {p = p} {q = q} field wd
 
 -- ---- the ways out of a boost and of a constant score
 
-pub inner-long : {a n : ℕ} {room : List ℕ} → Inner a n room → 3 ≤ n
-inner-long {a} {n} {room} I = omega (arith, length-of room a n (I .query) (I .is) (I .fits), length-encode (I .query))
+pub inner-long : {h a n : ℕ} {room : List ℕ} → Inner h a n room → 3 ≤ n
+inner-long {h} {a} {n} {room} I = omega (arith, length-of room a n (I .query) (I .is) (I .fits), length-encode (I .query))
 
-pub boost-long : {a n : ℕ} {room : List ℕ} → Inner a n room → getD room a 0 ≡ 4 → 7 ≤ n
-boost-long {a} {n} {room} I h =
+pub boost-long : {k a n : ℕ} {room : List ℕ} → Inner k a n room → getD room a 0 ≡ 4 → 7 ≤ n
+boost-long {k} {a} {n} {room} I h =
     let F = boost-form (I .query) (sym (tag-of room a n (I .query) (I .is)) ∙ h) in
     boost-inner room a n (F .0) (F .1) (subst (λ (q : Query). Is (take n (drop a room)) q) (F .2) (I .is)) (I .fits) .0
 

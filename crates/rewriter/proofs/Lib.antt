@@ -7,3 +7,6 @@ pub mod Merging
 pub mod Finishing
 pub mod Phrases
 pub mod Booleans
+pub mod Nested
+pub mod Cycling
+pub mod Settling

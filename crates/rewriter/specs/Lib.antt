@@ -2,3 +2,5 @@ pub mod Within
 pub mod Clauses
 pub mod Merge
 pub mod Over
+pub mod Once
+pub mod Rounds

@@ -7,12 +7,12 @@ use Rattle.rules.specs.Checked.{Is, Are}
 use Rattle.rules.proofs.rewriting.Measures.{bulks}
 use Rattle.rewriter.specs.Within.{within}
 
--- a query of n bytes stands at a
-pub record Inner (a n : ℕ) (room : List ℕ) : Type 0 where
+-- a query of n bytes stands at a, and h more bytes are to go before it
+pub record Inner (h a n : ℕ) (room : List ℕ) : Type 0 where
   pub query : Query
   pub is : Is (take n (drop a room)) query
   pub fits : a + n ≤ length room
-  pub small : 7 + n < 65536
+  pub small : h + n < 65536
 
 -- a phrase from `at` up to `end`, and as much space at `to`
 pub record Phrase (at end to : ℕ) (room : List ℕ) : Type 0 where

@@ -3,3 +3,5 @@ pub mod place;
 pub mod clauses;
 pub mod merge;
 pub mod over;
+pub mod once;
+pub mod rounds;

@@ -31,7 +31,7 @@ pub fn put_none(room: &mut [u8], to: usize) -> usize
 
 // Boost b of the query of n bytes at to + 7. A nested boost is one product.
 pub fn boost_over(room: &mut [u8], to: usize, n: usize, b: u32) -> usize
-    requires { ⌜ Inner (to + 7) n (now room) ⌝ }
+    requires { ⌜ Inner 7 (to + 7) n (now room) ⌝ }
     ensures { λ r. ⌜ ((q : Query) → Is (take n (drop (to + 7) (now (room .entry)))) q → Stands to (now (room .entry)) r (encode (boosted b q)) (now (room .exit))) ⌝ }
 {
     let tag = room[to + 7];
@@ -51,7 +51,7 @@ pub fn boost_over(room: &mut [u8], to: usize, n: usize, b: u32) -> usize
 
 // ConstantScore of the query of n bytes at to + 3.
 pub fn score_over(room: &mut [u8], to: usize, n: usize) -> usize
-    requires { ⌜ Inner (to + 3) n (now room) ⌝ }
+    requires { ⌜ Inner 3 (to + 3) n (now room) ⌝ }
     ensures { λ r. ⌜ ((q : Query) → Is (take n (drop (to + 3) (now (room .entry)))) q → Stands to (now (room .entry)) r (encode (scored q)) (now (room .exit))) ⌝ }
 {
     let tag = room[to + 3];
