@@ -24,8 +24,11 @@ module _ (room : List ℕ) (at end : ℕ) (f : List ℕ) (ws : List Word) (i : I
 
   pub phrase-long : (at + 6 + length f + length (encodeWords ws) ≡ end)
   phrase-long =
-      omega (arith, both-length room at end (header phraseTag (length (part fieldTag f ++ encodeWords ws))) (part fieldTag f ++ encodeWords ws) low fits body-form,
-      length-append (part fieldTag f) (encodeWords ws))
+      omega (
+        arith,
+        both-length room at end (header phraseTag (length (part fieldTag f ++ encodeWords ws))) (part fieldTag f ++ encodeWords ws) low fits body-form,
+        length-append (part fieldTag f) (encodeWords ws),
+      )
 
   body-here : within (at + 3) end room ≡ part fieldTag f ++ encodeWords ws
   body-here = second room at end (header phraseTag (length (part fieldTag f ++ encodeWords ws))) (part fieldTag f ++ encodeWords ws) low fits body-form

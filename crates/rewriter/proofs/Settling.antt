@@ -6,17 +6,17 @@ use mathlib.Core.Bool.{Bool, true, false, cond}
 use native.Mathlib.Omega.{arith}
 use native.Mathlib.Nat.{add-sub-cancel-left}
 use native.Mathlib.Numerals.{add-one}
-use lib.ListN.{length, take, drop}
+use lib.ListN.{length, take, drop, replicate}
 use lib.Dec.{leb}
 use borrow.Author.Tests.{le-leb, lt-leb}
-use Rattle.rules.specs.Numbers.{number, Read, got, refused, longAnswer, shortRoom, rewriteRoom, rewriterBytes, rewriterDepth}
+use Rattle.rules.specs.Numbers.{Refusal, number, Read, got, refused, need, onRead, andThen, longAnswer, shortRoom, rewriteRoom, rewriterBytes, rewriterDepth}
 use Rattle.rules.specs.Bytes.{Bytes, same}
 use Rattle.rules.specs.Query.{Query, equal}
 use Rattle.rules.specs.Stored.{encode, Valid}
 use Rattle.rules.specs.Checked.{Is}
 use Rattle.rules.specs.Reading.{numberOf, readForRewriting}
 use Rattle.rules.specs.Rewriting.{weight, rewriteOnce, Rewritten, rewritten, oneRoundMore, rounds, rewrite}
-use Rattle.rules.specs.Answers.{Reply, Left, zeros, leave, call, rewrittenReply, rewriteReply, rewriteLeft}
+use Rattle.rules.specs.Answers.{Reply, Left, zeros, leave, fitting, call, rewrittenReply, rewriteReply, rewriteLeft}
 use Rattle.rules.proofs.Equal.{equal-eq, equal-bytes, same-eq, same-refl}
 use Rattle.rules.proofs.Refusals.{number-got, number-not}
 use Rattle.rules.proofs.Sound.{read-sound}
@@ -124,7 +124,8 @@ module _ {n : ℕ} {room₀ room : List ℕ} {len made fuel : ℕ} (g : Settling
           let s : encode (g .now) ≡ encode r = same-eq (encode (g .now)) (encode r) (compared ∙ t) in
           let f : equal r (g .now) ≡ true =
           equal-bytes r (g .now) (valid-once (g .now) (g .is .valid)) (g .is .valid) ∙ ap (λ (l : List ℕ). same l (encode (g .now))) (sym s) ∙ same-refl (encode (g .now)) in
-          let e : rewrite q ≡ rewritten r (made + 1) = ap rewrite (is-same i (g .all .is)) ∙ g .same ∙ ap (more made) (step ∙ rw f) in
+          let st : rounds fuel (g .now) ≡ rewritten r 1 = step ∙ rw f in
+          let e : rewrite q ≡ rewritten r (made + 1) = ap rewrite (is-same i (g .all .is)) ∙ g .same ∙ ap (more made) st in
           let c = round-fits in
           record {
             long = S .long ∙ g .long;
@@ -133,22 +134,23 @@ module _ {n : ℕ} {room₀ room : List ℕ} {len made fuel : ℕ} (g : Settling
             rounds = sym (ap countOf e);
           }
 
-      pub round-next : b ≡ false → (p : ℕ) (room₂ : List ℕ) → Put room₁ 0 (take m (drop len room₁)) p room₂ → Settling n room₀ room₂ m (made + 1) (fuel - 1)
+      pub round-next : b ≡ false → (x : ℕ) (room₂ : List ℕ) → Put room₁ 0 (take m (drop len room₁)) x room₂ → Settling n room₀ room₂ m (made + 1) (fuel - 1)
       unfolding r
-      round-next t p room₂ P =
+      round-next t x room₂ P =
           let c = round-fits in
           let T = moved len m P (S .there) (omega arith) (omega arith) in
           let z : m - 0 ≡ m = omega arith in
           let o = once-bulk (g .now) in
           let l = T .long in
           let f : equal r (g .now) ≡ false = differ (equal r (g .now)) refl in
+          let st : rounds fuel (g .now) ≡ oneRoundMore (rounds (fuel - 1) r) = step ∙ rw f in
           record {
             all = g .all;
             long = T .long ∙ S .long ∙ g .long;
             now = r;
             is = record { valid = valid-once (g .now) (g .is .valid); form = sym (ap (λ (k : ℕ). take k (drop 0 room₂)) z ∙ T .there) };
             low = omega arith;
-            same = g .same ∙ ap (more made) (step ∙ rw f) ∙ more-one made (rounds (fuel - 1) r);
+            same = g .same ∙ ap (more made) st ∙ more-one made (rounds (fuel - 1) r);
             counted = omega (arith, g .counted);
             fits = omega (arith, g .fits);
             small = omega (arith, g .small);
@@ -157,9 +159,14 @@ module _ {n : ℕ} {room₀ room : List ℕ} {len made fuel : ℕ} (g : Settling
           differ : (x : Bool) → equal r (g .now) ≡ x → x ≡ false
           differ false e = refl
           differ true e =
-              sym (sym (same-refl (encode (g .now))) ∙ ap (λ (y : Query). same (encode (g .now)) (encode y)) (sym (equal-eq r (g .now) e))) ∙ compared ∙ t
+              let u : same (encode (g .now)) (encode r) ≡ true =
+              ap (λ (y : Query). same (encode (g .now)) (encode y)) (equal-eq r (g .now) e) ∙ same-refl (encode (g .now)) in
+              sym u ∙ compared ∙ t
 
 -- ---- the call
+
+pub zeroed : (room a b : List ℕ) → b ≡ replicate (length a) 0 → length a ≡ length room → b ≡ zeros room
+zeroed room a b e l = e ∙ ap (λ (n : ℕ). replicate n 0) l
 
 module _ (s out room : List ℕ) where
   pub short-room : length room < rewriteRoom → left 32 0 0 out (zeros room) ≡ rewriteLeft s out room
@@ -169,10 +176,11 @@ module _ (s out room : List ℕ) where
   module _ (h : rewriteRoom ≤ length room) where
     pub refused-left : (r : ℕ) → r ≡ numberOf (readForRewriting s) → (r ≡ 0 → ⊥) → left r 0 0 out (zeros room) ≡ rewriteLeft s out room
     unfolding rewriteLeft call rewriteReply
-    refused-left r e n =
-        let R = number-not (readForRewriting s) (λ z. n (e ∙ z)) in
-        let k : r ≡ number (R .0) = e ∙ ap numberOf (R .1) in
-        rw (k, le-leb rewriteRoom (length room) h, R .1)
+    refused-left r e n = let R = number-not (readForRewriting s) (λ z. n (e ∙ z)) in go (readForRewriting s) (R .0) (R .1) (e ∙ ap numberOf (R .1))
+      where
+        go : (o : Read Query) (x : Refusal) → o ≡ refused x → r ≡ number x
+            → left r 0 0 out (zeros room) ≡ leave (need (leb rewriteRoom (length room)) shortRoom (andThen (onRead (λ q. rewrittenReply (rewrite q)) o) (fitting (length out)))) out room
+        go o x eo er = rw (eo, er, le-leb rewriteRoom (length room) h)
 
     module _ (B : Bytes s) (r : ℕ) (e : r ≡ numberOf (readForRewriting s)) (z : r ≡ 0) where
       read : (q : Query) × (readForRewriting s ≡ got q)
@@ -194,14 +202,19 @@ module _ (s out room : List ℕ) where
       pub room-for : 0 + length s ≤ length room
       room-for = omega (arith, sizes)
 
+      pub is-there : (p : ℕ) (room₁ : List ℕ) → Put room 0 s p room₁ → Is (within 0 (length s) room₁) query
+      is-there p room₁ P =
+          let S = stands-put P (length s) refl room-for in
+          let y : length s - 0 ≡ length s = omega arith in
+          record { valid = is-query .valid; form = is-query .form ∙ sym (ap (λ (k : ℕ). take k (drop 0 room₁)) y ∙ S .there) }
+
       pub ready : (p : ℕ) (room₁ : List ℕ) → Put room 0 s p room₁ → Ready (length s) room₁
       ready p room₁ P =
           let S = stands-put P (length s) refl room-for in
-          let y : length s - 0 ≡ length s = omega arith in
           let f = sizes in
           record {
             query = query;
-            is = record { valid = is-query .valid; form = is-query .form ∙ sym (ap (λ (k : ℕ). take k (drop 0 room₁)) y ∙ S .there) };
+            is = is-there p room₁ P;
             fits = omega (arith, S .long);
             low = omega (arith, S .long);
             small = f .2;
@@ -222,7 +235,7 @@ module _ (s out room : List ℕ) where
         unfolding rewriteLeft call
         long-left l = rw (le-leb rewriteRoom (length room) h, answer) (go (rewrite query) (sym n-is))
           where
-            go : (w : Rewritten) → length (encode (resultOf w)) ≡ n → left 18 0 0 out (zeros room) ≡ leave (Rattle.rules.specs.Answers.fitting (length out) (rewrittenReply w)) out room
+            go : (w : Rewritten) → length (encode (resultOf w)) ≡ n → left 18 0 0 out (zeros room) ≡ leave (fitting (length out) (rewrittenReply w)) out room
             go (rewritten q j) e = rw (lt-leb (length (encode q)) (length out) (omega arith))
 
         pub got-left : n ≤ length out → (p : ℕ) (out′ : List ℕ) → Put out 0 (within 0 n room₂) p out′ → left 0 n k out′ (zeros room) ≡ rewriteLeft s out room
@@ -230,7 +243,7 @@ module _ (s out room : List ℕ) where
         got-left l p out′ P = rw (le-leb rewriteRoom (length room) h, answer) (go (rewrite query) (S .here) (S .rounds) (sym n-is))
           where
             go : (w : Rewritten) → within 0 n room₂ ≡ encode (resultOf w) → k ≡ countOf w → length (encode (resultOf w)) ≡ n
-                → left 0 n k out′ (zeros room) ≡ leave (Rattle.rules.specs.Answers.fitting (length out) (rewrittenReply w)) out room
+                → left 0 n k out′ (zeros room) ≡ leave (fitting (length out) (rewrittenReply w)) out room
             go (rewritten q j) e c f =
                 let o : out′ ≡ encode q ++ drop (length (encode q)) out = P .bytes ∙ ap (laid out 0) e ∙ laid-front out (encode q) in
                 rw (le-leb (length (encode q)) (length out) (omega arith), o, c, f)

@@ -1,10 +1,16 @@
 // One round, children first: what stands below `to` is read and never changed, and the result is laid at `to`.
 // Each nested query is rewritten into its own stretch, a few bytes further up, and finished there in place.
 use crate::clauses::is_needed;
-use crate::over::{boost_over, phrase_over, put_none, rewrite_boolean, score_over};
-use crate::place::{end_of, shift};
+use crate::over::boost_over;
+use crate::over::phrase_over;
+use crate::over::put_none;
+use crate::over::rewrite_boolean;
+use crate::over::score_over;
+use crate::place::end_of;
+use crate::place::shift;
 use boost::sums::is_one_bits;
-use stored::big::{big2, big4};
+use stored::big::big2;
+use stored::big::big4;
 use stored::write::put_header;
 ghost use Prim.Native.Nat.{_-_};
 ghost use Rattle.rules.specs.Query.{Query, Clauses};

@@ -1,11 +1,16 @@
 // What one round makes of a query whose inside had its own round, and stands at its place behind `to`.
 // No function here calls itself: each finishes in place what a nested call laid a few bytes further up.
-use crate::clauses::{is_single, only_must_not, should_count};
+use crate::clauses::is_single;
+use crate::clauses::only_must_not;
+use crate::clauses::should_count;
 use crate::merge::merge_clauses;
-use crate::place::{end_of, shift};
+use crate::place::end_of;
+use crate::place::shift;
 use boost::sums::product;
-use stored::big::{big4, put_big4};
-use stored::write::{put_header, put_minimum};
+use stored::big::big4;
+use stored::big::put_big4;
+use stored::write::put_header;
+use stored::write::put_minimum;
 ghost use mathlib.Core.Path.{_≡_};
 ghost use mathlib.Core.List.{List, _++_};
 ghost use Prim.Native.Nat.{ℕ, _+_, _-_, _<_, _≤_};

@@ -1,7 +1,9 @@
 // Rounds, until one changes nothing; and the call.
 use crate::once::rewrite_once;
 use crate::place::shift;
-use stored::bytes::{clear, copy, same};
+use stored::bytes::clear;
+use stored::bytes::copy;
+use stored::bytes::same;
 use stored::read::for_rewriting;
 ghost use mathlib.Core.Path.{_≡_};
 ghost use Rattle.rules.specs.Query.{Query};
@@ -30,13 +32,19 @@ pub fn rewrite_all(room: &mut [u8], n: usize) -> Rounds
         made += 1;
         let e = len + m;
         if same(&room[0..len], &room[len..e]) {
-            return Rounds { len: len, rounds: made };
+            return Rounds {
+                len: len,
+                rounds: made,
+            };
         }
         shift(room, 0, len, m);
         len = m;
         left -= 1;
     }
-    Rounds { len: len, rounds: made }
+    Rounds {
+        len: len,
+        rounds: made,
+    }
 }
 
 pub struct Rewritten {
@@ -51,21 +59,37 @@ pub fn rewrite(query: &[u8], out: &mut [u8], room: &mut [u8]) -> Rewritten
 {
     if room.len() < 114687 {
         clear(room);
-        return Rewritten { refusal: 32, len: 0, rounds: 0 };
+        return Rewritten {
+            refusal: 32,
+            len: 0,
+            rounds: 0,
+        };
     }
     let r = for_rewriting(query);
     if r != 0 {
         clear(room);
-        return Rewritten { refusal: r, len: 0, rounds: 0 };
+        return Rewritten {
+            refusal: r,
+            len: 0,
+            rounds: 0,
+        };
     }
     copy(room, 0, query);
     let a = rewrite_all(room, query.len());
     let n = a.len;
     if out.len() < n {
         clear(room);
-        return Rewritten { refusal: 18, len: 0, rounds: 0 };
+        return Rewritten {
+            refusal: 18,
+            len: 0,
+            rounds: 0,
+        };
     }
     copy(out, 0, &room[0..n]);
     clear(room);
-    Rewritten { refusal: 0, len: n, rounds: a.rounds }
+    Rewritten {
+        refusal: 0,
+        len: n,
+        rounds: a.rounds,
+    }
 }
