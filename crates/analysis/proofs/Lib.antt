@@ -4,4 +4,5 @@ pub mod Steps
 pub mod Chunks
 pub mod Walks
 pub mod Rows
+pub mod Spelling
 pub mod Only

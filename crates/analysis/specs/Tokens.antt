@@ -7,7 +7,7 @@ use lib.ListN.{length, take, drop}
 use lib.Dec.{eqb}
 use Rattle.rules.specs.Numbers.{chunkMost, whitespaceAnalyzer, simpleAnalyzer}
 use Rattle.rules.specs.Query.{word}
-use Rattle.rules.specs.Analysis.{front, classes, isGap, isLetter, lowercase, tokenTexts, placedFrom, tokenize}
+use Rattle.rules.specs.Analysis.{front, classes, isGap, isLetter, lower, lowercase, tokenTexts, placedFrom, tokenize}
 use Rattle.analysis.specs.Classes.{gapIn, letterIn}
 
 -- by the analyzer: whitespace, simple, and every other number, which counts as keyword
@@ -49,9 +49,12 @@ startFrom P s at = at + length (front (λ c. not (P c)) (drop at s))
 unfoldable pub textFrom : (ℕ → Bool) → ℕ → List ℕ → ℕ → List ℕ
 textFrom P a s at = firstOf a (front P (drop (startFrom P s at) s))
 
--- a token's text, as it is written out
+-- a token's text, and a byte of it, as they are written out
 unfoldable pub spelled : ℕ → List ℕ → List ℕ
 spelled a t = cond (eqb a simpleAnalyzer) (lowercase t) t
+
+unfoldable pub writtenByte : ℕ → ℕ → ℕ
+writtenByte a c = cond (eqb a simpleAnalyzer) (lower c) c
 
 -- the first token of s from `at` on has `len` bytes and starts at `start`; where there is none, `len` is 0
 pub record Found (a : ℕ) (s : List ℕ) (at start len : ℕ) : Type 0 where

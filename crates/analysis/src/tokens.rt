@@ -6,7 +6,7 @@ ghost use mathlib.Core.Bool.{true, false};
 ghost use lib.ListN.{length};
 ghost use Rattle.rules.specs.Numbers.{chunkMost};
 ghost use Rattle.rules.specs.Analysis.{tokenTexts};
-ghost use Rattle.analysis.specs.Tokens.{insideIn, wantedIn, Span, byAnalyzer, Found, FoundIn, Nth};
+ghost use Rattle.analysis.specs.Tokens.{insideIn, wantedIn, Span, byAnalyzer, writtenByte, Found, FoundIn, Nth};
 
 pub const WHITESPACE: u8 = 1;
 
@@ -151,4 +151,14 @@ pub fn nth_token(text: &[u8], analyzer: u8, k: usize) -> Placed
         at = t.start + t.len;
         i += 1;
     }
+}
+
+// A byte of a token as it is written out: simple lowercases.
+pub fn written(analyzer: u8, c: u8) -> u8
+    ensures { λ r. ⌜ r ≡ writtenByte analyzer c ⌝ }
+{
+    if analyzer == SIMPLE {
+        return classes::lower(c);
+    }
+    c
 }

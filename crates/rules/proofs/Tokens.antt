@@ -179,8 +179,13 @@ unfolding isText all
 text-all [] = refl
 text-all (c ∷ s) = ap (λ (b : Bool). leb c 0x7f && b) (text-all s)
 
+pub lowercase-text : (t : List ℕ) → isText t ≡ true → isText (lowercase t) ≡ true
+lowercase-text t h =
+    text-all (lowercase t) ∙ all-mapped (λ c. leb c 0x7f) (λ c. leb c 0x7f) lower lower-ascii t (sym (text-all t) ∙ h)
+
 pub tokens-text : (a : ℕ) (s : List ℕ) → isText s ≡ true → all isText (tokenTexts a s) ≡ true
 tokens-text a s h =
-    tokens-each (λ c. leb c 0x7f) isText (λ t l b p q. text-all t ∙ q)
-    (λ t l b p q. text-all (lowercase t) ∙ all-mapped (λ c. leb c 0x7f) (λ c. leb c 0x7f) lower lower-ascii t q)
-    (λ t l q. text-all t ∙ q) a s (sym (text-all s) ∙ h)
+    tokens-each (λ c. leb c 0x7f) isText (λ t l b p q. text-all t ∙ q) (λ t l b p q. lowercase-text t (text-all t ∙ q))
+    (λ t l q. text-all t ∙ q)
+    a s
+    (sym (text-all s) ∙ h)

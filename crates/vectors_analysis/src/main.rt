@@ -1,7 +1,6 @@
 // Runs the fixed list of tokens, which is tests/original/lists/tokens.txt and stands on standard input: an analyzer, a text, and for each
 // token its position, its start and its text. Each way to a token is held to it: by its number, from token to token, and by the count.
 // It writes how many texts agree, or the first line that does not.
-use analysis::classes;
 use analysis::tokens;
 ghost use mathlib.Core.Path.{_≡_};
 ghost use Prim.Native.Nat.{_+_, _≤_, _<_, min};
@@ -76,14 +75,6 @@ fn decode(hex: &[u8], out: &mut [u8]) -> usize
     n
 }
 
-// A token's byte as it is written out.
-fn written(analyzer: u8, c: u8) -> u8 {
-    if analyzer == tokens::SIMPLE {
-        return classes::lower(c);
-    }
-    c
-}
-
 // The token reads as the digits say.
 fn reads(token: &[u8], analyzer: u8, hex: &[u8]) -> bool {
     if hex.len() != token.len() + token.len() {
@@ -91,7 +82,7 @@ fn reads(token: &[u8], analyzer: u8, hex: &[u8]) -> bool {
     }
     let mut i = 0;
     while i < token.len() {
-        if written(analyzer, token[i]) != pair(hex, i) {
+        if tokens::written(analyzer, token[i]) != pair(hex, i) {
             return false;
         }
         i += 1;

@@ -41,19 +41,19 @@ element-copy-out-result : tie.Need-element-copy-out-result Inv-loop μ-loop
 element-copy-out-result c = search needs
 
 returns : tie.Need-returns Inv-loop μ-loop
-returns c = sym (c .before .before .before .before .before .before .before .before .loop .inv .1 ∙ among-yes _ _ _ _ _ _ (c .before .before .before .before .before .before .before .loop-test .taken) (omega arith) (sym (c .before .before .is-row .ensures) ∙ c .before .if2 .taken))
+returns c = sym (c .before .before .before .before .before .before .before .before .loop .inv .1 ∙ among-yes _ _ _ _ _ _ (omega arith) (omega arith) (sym (c .before .before .is-row .ensures) ∙ c .before .if2 .taken))
 
 loop-less : tie.Need-loop-less Inv-loop μ-loop
 loop-less c = omega arith
 
 loop-again : tie.Need-loop-again Inv-loop μ-loop
-loop-again c = (omega arith, c .before .before .before .before .before .before .before .loop .inv .1 ∙ among-no _ _ _ _ _ _ (c .before .before .before .before .before .before .loop-test .taken) (omega arith) (sym (c .before .is-row .ensures) ∙ c .if2 .left))
+loop-again c = (omega arith, c .before .before .before .before .before .before .before .loop .inv .1 ∙ among-no _ _ _ _ _ _ (omega arith) (omega arith) (sym (c .before .is-row .ensures) ∙ c .if2 .left))
 
 loop-less-2 : tie.Need-loop-less-2 Inv-loop μ-loop
 loop-less-2 c = omega arith
 
 loop-again-2 : tie.Need-loop-again-2 Inv-loop μ-loop
-loop-again-2 c = (omega arith, c .before .before .before .before .before .loop .inv .1 ∙ among-other _ _ _ _ _ _ (c .before .before .before .before .loop-test .taken) (λ e. c .if1 .left (omega arith)))
+loop-again-2 c = (omega arith, c .before .before .before .before .before .loop .inv .1 ∙ among-other _ _ _ _ _ _ (omega arith) (λ e. c .if1 .left (omega arith)))
 
 returns-2 : tie.Need-returns-2 Inv-loop μ-loop
 returns-2 c = let e : c .before .loop .k ≡ 0 = omega arith in sym (c .before .loop .inv .1 ∙ rw e (among-none _ _ _ _ _))

@@ -1,0 +1,35 @@
+-- How a token is written out: byte by byte, as long as it is, and ASCII where it is ASCII. Assumes nothing.
+use mathlib.Core.Path.{_≡_, refl, sym, ap, _∙_}
+use mathlib.Core.Bool.{Bool, true, false, cond}
+use mathlib.Core.List.{List, [], _∷_, map}
+use Prim.Native.Nat.{ℕ}
+use lib.Dec.{eqb}
+use lib.ListN.{length, length-map}
+use Rattle.rules.specs.Bytes.{isText}
+use Rattle.rules.specs.Analysis.{lower, lowercase}
+use Rattle.rules.proofs.Tokens.{lowercase-text}
+use Rattle.analysis.specs.Tokens.{spelled, writtenByte}
+
+as-it-is : (t : List ℕ) → t ≡ map (λ c. c) t
+as-it-is [] = refl
+as-it-is (c ∷ t) = ap (λ (u : List ℕ). c ∷ u) (as-it-is t)
+
+module _ (a : ℕ) (t : List ℕ) where
+  pub spelled-bytes : spelled a t ≡ map (writtenByte a) t
+  unfolding spelled writtenByte
+  spelled-bytes = pass (eqb a 2)
+    where
+      pass : (b : Bool) → cond b (lowercase t) t ≡ map (λ c. cond b (lower c) c) t
+      pass true = refl
+      pass false = as-it-is t
+
+  pub spelled-length : length (spelled a t) ≡ length t
+  spelled-length = ap length spelled-bytes ∙ length-map t (writtenByte a)
+
+  pub spelled-text : isText t ≡ true → isText (spelled a t) ≡ true
+  unfolding spelled
+  spelled-text h = pass (eqb a 2)
+    where
+      pass : (b : Bool) → isText (cond b (lowercase t) t) ≡ true
+      pass true = lowercase-text t h
+      pass false = h
