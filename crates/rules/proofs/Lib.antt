@@ -13,3 +13,4 @@ pub mod Faults
 pub mod Sizes
 pub mod Views
 pub mod Cases
+pub mod Tokenizing
