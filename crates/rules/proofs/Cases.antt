@@ -12,6 +12,6 @@ cases = refl
 
 pub shows : showText (ascii "or note\n+a^0.5 +a^0.5")
     ≡ ascii
-      "written\n0 - boolean 0\n1 must boost 3f000000\n2 - term note a\n1 must boost 3f000000\n2 - term note a\nrewritten 3\n0 - term note a\n"
+    "written\n0 - boolean 0\n1 must boost 3f000000\n2 - term note a\n1 must boost 3f000000\n2 - term note a\nrewritten 3\n0 - term note a\n"
 unfolding computing
 shows = refl
