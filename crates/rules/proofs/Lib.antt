@@ -1,2 +1,4 @@
 pub mod Cases
 pub mod Classes
+pub mod Pieces
+pub mod Tokens
