@@ -13,4 +13,7 @@ pub mod Faults
 pub mod Sizes
 pub mod Views
 pub mod Cases
+pub mod Classes
+pub mod Pieces
+pub mod Tokens
 pub mod Tokenizing
