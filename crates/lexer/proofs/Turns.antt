@@ -11,7 +11,8 @@ use Rattle.rules.specs.Numbers.{Refusal, number, textMost, Read, got, refused, 
 use Rattle.rules.specs.Analysis.{isSpace, classes}
 use Rattle.rules.specs.Lexing.{Token, Lexed, lexed, lex}
 use Rattle.rules.specs.Lexing as lexing
-use Rattle.rules.proofs.Tokenizing.{tokensLeft, lex-left, left-none, left-space, left-refused, left-token, token-shorter}
+use Rattle.rules.proofs.Tokenizing.{tokensLeft, lex-left, left-none, left-space, left-refused, left-token, token-shorter, lex-few, lex-standing, Standing}
+use Rattle.rules.proofs.Refusals.{got-same}
 use Rattle.analysis.specs.Classes.{spaceIn}
 use Rattle.analysis.proofs.Tables.{space-is}
 use Rattle.lexer.specs.Row.{roomLeast, entryAt, entry, tokensOf, LaidBelow, Laid}
@@ -135,3 +136,15 @@ tokens-told (refused f) room n e row = absurd (let z : _≡_ {A = ℕ} 0 1 = cc 
 pub refused-told : (o : Read (List Token)) (k : ℕ) → Refused k ≡ answerOf o → (f : Refusal) × (o ≡ refused f) × (k ≡ number f)
 refused-told (got ts) k e = absurd (let z : _≡_ {A = ℕ} 0 1 = cc in omega arith)
 refused-told (refused f) k e = (f, refl, cc)
+
+-- of the row of a text
+module _ (text room : List ℕ) (n : ℕ) (e : lex text ≡ got (tokensOf room n)) where
+  pub row-few : n ≤ length text
+  row-few = omega (arith, lex-few text e, length-tokens room n)
+
+  pub row-standing : (i : ℕ) → i < n → Standing (length text) (tokensOf room n) i
+  row-standing i h = lex-standing text e i (omega (arith, length-tokens room n))
+
+-- two rooms that meet the contract for one text hold the same tokens: the contract leaves open only what stands beside them
+pub one-row : (o : Read (List Token)) (a b : List ℕ) (n : ℕ) → Tokens n ≡ answerOf o → Row o a → Row o b → tokensOf a n ≡ tokensOf b n
+one-row o a b n e p q = got-same (sym (tokens-told o a n e p .0) ∙ tokens-told o b n e q .0)

@@ -64,7 +64,7 @@ pub fn read_quoted(text: &[u8], at: usize, room: &mut [u8]) -> Ended
         }
         let j = i + escape(c);
         if text.len() <= j {
-            return Ended::Refused(5);
+            return Ended::Refused(5); // and not 4, though the quote is open
         }
         room[at + len] = text[j];
         len += 1;

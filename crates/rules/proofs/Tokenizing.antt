@@ -7,14 +7,14 @@ use mathlib.Core.List.{List, [], _∷_}
 use mathlib.Core.Bool.{Bool, true, false, not, _&&_, _||_, cond}
 use native.Mathlib.Omega.{arith}
 use lib.ListN.{length, getD, drop, length-drop}
-use lib.Dec.{eqb}
+use lib.Dec.{leb, eqb}
 use borrow.Author.Tests.{eqb-true, eqb-false, not-true, not-false}
 use Rattle.rules.specs.Numbers.{Refusal, Read, got, refused, need, onRead, andThen, nothingEscaped}
-use Rattle.rules.specs.Bytes.{ascii, same, some}
+use Rattle.rules.specs.Bytes.{ascii, same, isText, some}
 use Rattle.rules.specs.Analysis.{isSpace, isMark, endsTerm}
 use Rattle.rules.specs.Lexing.{Token, endKind, termKind, andKind, orKind, notKind, quotedKind, Piece, piece, onText, before, isQuote, isBackslash, isBracket, isWildcard, termText, quotedText, wordKind, Lexed, lexed, wordLexed, termEnd, quotedEnd, termFrom, quotedFrom, signKind, doubled, tokenAt, tokenThen, tokensStep, tokensIn, lex}
 use Rattle.rules.specs.Parsing.{tokenOf}
-use Rattle.rules.proofs.Bools.{clash, split, neither}
+use Rattle.rules.proofs.Bools.{clash, split, and-l, and-r, both, neither}
 
 -- ---- what holds of what is read, if anything is
 
@@ -102,42 +102,51 @@ unfolding quotedText
 quoted-stop c [] h = simp h
 quoted-stop c (d ∷ s) h = simp h
 
+-- what holds at the end of a text, and of a text with one byte more, holds of every text that is read
+module _ (F : List ℕ → Read Piece) (stop : ℕ → Bool) (U : Unescaping F stop) (P : List ℕ → Piece → Type 0) (none : Holds (P []) (F []))
+    (ends : (c : ℕ) (s : List ℕ) → stop c ≡ true → Holds (P (c ∷ s)) (F (c ∷ s)))
+    (plain : (c : ℕ) (s : List ℕ) (p : Piece) → P s p → P (c ∷ s) (onText c p))
+    (escaped : (c d : ℕ) (s : List ℕ) (p : Piece) → P s p → P (c ∷ d ∷ s) (onText d p)) where
+  one-more : (c : ℕ) (s : List ℕ) → Holds (P s) (F s) → stop c ≡ false → isBackslash c ≡ false → Holds (P (c ∷ s)) (F (c ∷ s))
+  unfolding before
+  one-more c s h e b = rw (U .plain c s e b) (holds-on (P s) (P (c ∷ s)) (onText c) (plain c s) (F s) h)
+
+  two-more : (c d : ℕ) (s : List ℕ) → Holds (P s) (F s) → stop c ≡ false → isBackslash c ≡ true → Holds (P (c ∷ d ∷ s)) (F (c ∷ d ∷ s))
+  unfolding before
+  two-more c d s h e b = rw (U .escaped c d s e b) (holds-on (P s) (P (c ∷ d ∷ s)) (onText d) (escaped c d s) (F s) h)
+
+  unescaped-holds : (s : List ℕ) → Holds (P s) (F s)
+  unescaped-holds [] = none
+  unescaped-holds (c ∷ []) =
+      ⊎-elim (ends c []) (λ h. ⊎-elim (λ b. rw (U .dangling c h b) tt) (one-more c [] none h) (split (isBackslash c))) (split (stop c))
+  unescaped-holds (c ∷ d ∷ s) =
+      let one = one-more c (d ∷ s) (unescaped-holds (d ∷ s)) in
+      let two = two-more c d s (unescaped-holds s) in
+      ⊎-elim (ends c (d ∷ s)) (λ h. ⊎-elim (two h) (one h) (split (isBackslash c))) (split (stop c))
+
 -- ---- how many bytes are taken
 
 -- of m bytes, the text and what follows it leave k
 abbrev Within : ℕ → ℕ → Piece → Type 0
 Within k m (piece t r) = k + length t + length r ≤ m
 
-within-before : (c k m n : ℕ) → suc m ≤ n → (r : Read Piece) → Holds (Within k m) r → Holds (Within k n) (before c r)
-unfolding before
-within-before c k m n h r l = holds-on (Within k m) (Within k n) (onText c) more r l
-  where
-    more : (p : Piece) → Within k m p → Within k n (onText c p)
-    more (piece t r) l = omega arith
+within-plain : (k c : ℕ) (s : List ℕ) (p : Piece) → Within k (length s) p → Within k (length (c ∷ s)) (onText c p)
+within-plain k c s (piece t r) h = omega arith
+
+within-escaped : (k c d : ℕ) (s : List ℕ) (p : Piece) → Within k (length s) p → Within k (length (c ∷ d ∷ s)) (onText d p)
+within-escaped k c d s (piece t r) h = omega arith
 
 term-within : (s : List ℕ) → Holds (Within 0 (length s)) (termText s)
 unfolding termText
-term-within [] = omega arith
-term-within (c ∷ []) =
-    let W = Within 0 (length (c ∷ [])) in
-    holds-cond W (endsTerm c) _ _ (λ _. omega arith) (λ _. holds-cond W (isBackslash c) _ _ (λ _. tt) (λ _. omega arith))
-term-within (c ∷ d ∷ s) =
-    let W = Within 0 (length (c ∷ d ∷ s)) in
-    let plain = within-before c 0 (length (d ∷ s)) (length (c ∷ d ∷ s)) (omega arith) (termText (d ∷ s)) (term-within (d ∷ s)) in
-    let escaped = within-before d 0 (length s) (length (c ∷ d ∷ s)) (omega arith) (termText s) (term-within s) in
-    holds-cond W (endsTerm c) _ _ (λ _. omega arith) (λ _. holds-cond W (isBackslash c) _ _ (λ _. escaped) (λ _. plain))
+term-within =
+    unescaped-holds termText endsTerm term-unescapes (λ s. Within 0 (length s)) (omega arith) (λ c s e. rw (term-stop c s e) (omega arith))
+    (within-plain 0) (within-escaped 0)
 
 quoted-within : (s : List ℕ) → Holds (Within 1 (length s)) (quotedText s)
 unfolding quotedText
-quoted-within [] = tt
-quoted-within (c ∷ []) =
-    let W = Within 1 (length (c ∷ [])) in
-    holds-cond W (isQuote c) _ _ (λ _. omega arith) (λ _. holds-cond W (isBackslash c) _ _ (λ _. tt) (λ _. tt))
-quoted-within (c ∷ d ∷ s) =
-    let W = Within 1 (length (c ∷ d ∷ s)) in
-    let plain = within-before c 1 (length (d ∷ s)) (length (c ∷ d ∷ s)) (omega arith) (quotedText (d ∷ s)) (quoted-within (d ∷ s)) in
-    let escaped = within-before d 1 (length s) (length (c ∷ d ∷ s)) (omega arith) (quotedText s) (quoted-within s) in
-    holds-cond W (isQuote c) _ _ (λ _. omega arith) (λ _. holds-cond W (isBackslash c) _ _ (λ _. escaped) (λ _. plain))
+quoted-within =
+    unescaped-holds quotedText isQuote quoted-unescapes (λ s. Within 1 (length s)) tt (λ c s e. rw (quoted-stop c s e) (omega arith))
+    (within-plain 1) (within-escaped 1)
 
 -- a term that begins with a byte of its own takes that byte
 abbrev Some : Piece → Type 0
@@ -391,3 +400,99 @@ module _ (s : List ℕ) {ts : List Token} (e : lex s ≡ got ts) where
 
   pub lex-standing : (i : ℕ) → i < length ts → Standing (length s) ts i
   lex-standing i h = placed-at (lex-placed s e) i h
+
+-- ---- tokens of ASCII texts are ASCII
+
+text-cons : (c : ℕ) (s : List ℕ) → isText (c ∷ s) ≡ true → (leb c 0x7f ≡ true) × (isText s ≡ true)
+unfolding isText
+text-cons c s h = (and-l (leb c 0x7f) (isText s) h, and-r (leb c 0x7f) (isText s) h)
+
+text-on : (c : ℕ) (s : List ℕ) → leb c 0x7f ≡ true → isText s ≡ true → isText (c ∷ s) ≡ true
+unfolding isText
+text-on c s h k = both h k
+
+text-rest : (s : List ℕ) → isText s ≡ true → isText (drop 1 s) ≡ true
+text-rest [] h = h
+text-rest (c ∷ s) h = text-cons c s h .1
+
+-- what is read of an ASCII text is ASCII
+abbrev AsciiPiece : Piece → Type 0
+AsciiPiece (piece t r) = (isText t ≡ true) × (isText r ≡ true)
+
+abbrev Ascii : List ℕ → Piece → Type 0
+Ascii s p = isText s ≡ true → AsciiPiece p
+
+ascii-on : (c : ℕ) → leb c 0x7f ≡ true → (p : Piece) → AsciiPiece p → AsciiPiece (onText c p)
+ascii-on c h (piece t r) k = (text-on c t h (k .0), k .1)
+
+ascii-plain : (c : ℕ) (s : List ℕ) (p : Piece) → Ascii s p → Ascii (c ∷ s) (onText c p)
+ascii-plain c s p h = λ a. let b = text-cons c s a in ascii-on c (b .0) p (h (b .1))
+
+ascii-escaped : (c d : ℕ) (s : List ℕ) (p : Piece) → Ascii s p → Ascii (c ∷ d ∷ s) (onText d p)
+ascii-escaped c d s p h = λ a. ascii-plain d s p h (text-cons c (d ∷ s) a .1)
+
+term-ascii : (s : List ℕ) → Holds (Ascii s) (termText s)
+unfolding termText isText
+term-ascii =
+    unescaped-holds termText endsTerm term-unescapes Ascii (λ _. (refl, refl)) (λ c s e. rw (term-stop c s e) (λ a. (refl, a))) ascii-plain ascii-escaped
+
+quoted-ascii : (s : List ℕ) → Holds (Ascii s) (quotedText s)
+unfolding quotedText isText
+quoted-ascii =
+    unescaped-holds quotedText isQuote quoted-unescapes Ascii tt (λ c s e. rw (quoted-stop c s e) (λ a. (refl, text-cons c s a .1))) ascii-plain ascii-escaped
+
+abbrev AsciiToken : Lexed → Type 0
+AsciiToken (lexed k t r) = (isText t ≡ true) × (isText r ≡ true)
+
+ascii-word : (t r : List ℕ) → isText t ≡ true → isText r ≡ true → AsciiToken (wordLexed t r)
+unfolding isText
+ascii-word t r h k = (kept (eqb (wordKind t) termKind), k)
+  where
+    kept : (b : Bool) → isText (cond b t []) ≡ true
+    kept true = h
+    kept false = refl
+
+ascii-end : (p : Piece) → AsciiPiece p → Holds AsciiToken (termEnd p)
+unfolding termEnd
+ascii-end (piece t []) h = ascii-word t [] (h .0) (h .1)
+ascii-end (piece t (c ∷ r)) h = holds-need AsciiToken (not (isWildcard c)) _ _ (ascii-word t (c ∷ r) (h .0) (h .1))
+
+token-ascii : (c : ℕ) (s : List ℕ) → isText (c ∷ s) ≡ true → Holds AsciiToken (tokenAt c s)
+unfolding tokenAt termFrom quotedFrom isText
+token-ascii c s a =
+    let T = AsciiToken in
+    let rest = text-cons c s a .1 in
+    let less = text-rest s rest in
+    holds-cond T (not (eqb (signKind c) endKind)) _ _ (λ _. (refl, rest))
+    (λ _. holds-cond T (doubled 0x26 c s) _ _ (λ _. (refl, less))
+    (λ _. holds-cond T (doubled 0x7c c s) _ _ (λ _. (refl, less))
+    (λ _. holds-cond T (isQuote c) _ _ (λ _. holds-on (Ascii s) T quotedEnd quoted (quotedText s) (quoted-ascii s))
+    (λ _. holds-cond T (isBracket c) _ _ (λ _. tt)
+    (λ _. holds-cond T (isWildcard c) _ _ (λ _. tt)
+    (λ _. holds-then (Ascii (c ∷ s)) T termEnd (λ p h. ascii-end p (h a)) (termText (c ∷ s)) (term-ascii (c ∷ s))))))))
+  where
+    quoted : (p : Piece) → Ascii s p → AsciiToken (quotedEnd p)
+    quoted (piece t r) h = h (text-cons c s a .1)
+
+abbrev pub AsciiTokens : List Token → Type 0
+AsciiTokens ts = (i : ℕ) → isText (tokenOf ts i .text) ≡ true
+
+tokens-ascii : (n k : ℕ) (s : List ℕ) → isText s ≡ true → Holds AsciiTokens (tokensIn n k s)
+unfolding tokensIn tokensStep tokenThen isText
+tokens-ascii n zero s a = λ i. refl
+tokens-ascii n (suc k) [] a = λ i. refl
+tokens-ascii n (suc k) (c ∷ s) a =
+    holds-cond AsciiTokens (isSpace c) _ _ (λ _. tokens-ascii n k s (text-cons c s a .1))
+    (λ _. holds-then AsciiToken AsciiTokens _ (then (λ t. tokens-ascii n k t)) (tokenAt c s) (token-ascii c s a))
+  where
+    then : ((t : List ℕ) → isText t ≡ true → Holds AsciiTokens (tokensIn n k t)) → (l : Lexed) → AsciiToken l
+        → Holds AsciiTokens (tokenThen (n - length (c ∷ s)) (λ t. tokensIn n k t) l)
+    then more (lexed d t r) h = holds-on AsciiTokens AsciiTokens _ (λ ts f. first d t ts (h .0) f) (tokensIn n k r) (more r (h .1))
+      where
+        first : (d : ℕ) (t : List ℕ) (ts : List Token) → isText t ≡ true → AsciiTokens ts → AsciiTokens (record { kind = d; text = t; place = n - length (c ∷ s) } ∷ ts)
+        first d t ts h f zero = h
+        first d t ts h f (suc i) = f i
+
+pub lex-ascii : (s : List ℕ) {ts : List Token} → isText s ≡ true → lex s ≡ got ts → AsciiTokens ts
+unfolding lex
+lex-ascii s a e = holds-of AsciiTokens (lex s) (tokens-ascii (length s) (length s) s a) e
