@@ -1,8 +1,9 @@
--- What the reader's functions return, by the tests on the way. `sub` reads what stands inside, and `g` is what is said of a sound rest.
+-- Verdicts on what the reader reads, by the tests on the way. `sub` reads what stands inside, and `g` is what is said of sound bytes.
 use mathlib.Core.Path.{_≡_, refl, sym, ap, _∙_}
-use Prim.Native.Nat.{ℕ, _-_, _%_, _^_, _≤_, _<_}
+use Prim.Native.Nat.{ℕ, zero, suc, _-_, _%_, _^_, _≤_, _<_}
 use mathlib.Core.List.{List}
 use mathlib.Core.Bool.{Bool, true, false, not, _||_, cond}
+use native.Mathlib.Omega.{arith}
 use lib.ListN.{length, take, drop}
 use lib.Dec.{ltb, eqb}
 use lib.Ieee.{binary32}
@@ -15,9 +16,9 @@ use Rattle.rules.specs.Stored.{theNan, isBoost}
 use Rattle.rules.specs.Reading.{numberOf, sound, closed, emptyIn, termIn, phraseIn, isBound, rangeIn, boostIn, constantScoreIn, kindOf, added, booleanIn, bodyIn, decode, readWithin}
 use Rattle.rules.proofs.Parts.{field-is, part-is}
 use Rattle.rules.proofs.Leaves.{BoundIs, is-open, is-included, is-excluded, bound-is}
-use Rattle.rules.proofs.Refusals.{number-some}
-use Rattle.rules.proofs.Steps.{clausesOf, clauses-done, clauses-bad, clauses-next, boolean-bad, boolean-in, boost-short, boost-bad, boost-in, decode-bad, decode-deep, decode-in, read-long, read-within}
-use Rattle.stored.specs.Read.{verdict, said, isTerm, isPhrase, isRange, isLeaf, isMinimum, isClause, isRecord}
+use Rattle.rules.proofs.Refusals.{number-some, need-yes, need-no}
+use Rattle.rules.proofs.Steps.{clausesOf, clauses-done, clauses-bad, clauses-next, boolean-bad, boolean-in, decode-bad, decode-deep, decode-in, read-long, read-within}
+use Rattle.stored.specs.Read.{verdict, said, isTerm, isPhrase, isRange, isLeaf, isMinimum, isClause, isRecord, isBoosted, after}
 
 -- ---- parts that passed a test are whole
 
@@ -98,17 +99,16 @@ module _ (g : ℕ) where
     constant-verdict b = verdict-on constantScore (sub b)
 
     module _ (b : List ℕ) where
-      pub boost-is-short : length b < 4 → number malformedQuery ≡ verdict g (boostIn sub b)
-      boost-is-short h = sym (ap (verdict g) (boost-short sub b h))
+      pub boost-is-bad : isBoosted b ≡ false → verdict g (boostIn sub b) ≡ number malformedQuery
+      unfolding boostIn
+      boost-is-bad h = ap (verdict g) (need-no malformedQuery _ h)
 
-      pub boost-is-bad : isBoost (ofBig (take 4 b)) ≡ false → number malformedQuery ≡ verdict g (boostIn sub b)
-      boost-is-bad h = sym (ap (verdict g) (boost-bad sub b h))
+      pub boost-verdict : isBoosted b ≡ true → verdict g (boostIn sub b) ≡ verdict g (sub (drop 4 b))
+      unfolding boostIn
+      boost-verdict h = ap (verdict g) (need-yes malformedQuery _ h) ∙ verdict-on (boost (ofBig (take 4 b))) (sub (drop 4 b))
 
-      pub boost-verdict : 4 ≤ length b → isBoost (ofBig (take 4 b)) ≡ true → verdict g (boostIn sub b) ≡ verdict g (sub (drop 4 b))
-      boost-verdict l h = ap (verdict g) (boost-in sub b l h) ∙ verdict-on (boost (ofBig (take 4 b))) (sub (drop 4 b))
-
-      pub boolean-is-bad : isMinimum b ≡ false → number malformedQuery ≡ verdict g (booleanIn sub b)
-      boolean-is-bad h = sym (ap (verdict g) (boolean-bad sub b h))
+      pub boolean-is-bad : isMinimum b ≡ false → verdict g (booleanIn sub b) ≡ number malformedQuery
+      boolean-is-bad h = ap (verdict g) (boolean-bad sub b h)
 
       pub boolean-verdict : isMinimum b ≡ true → verdict g (booleanIn sub b) ≡ verdict g (clausesOf sub (restOf b))
       boolean-verdict h = ap (verdict g) (boolean-in sub b h) ∙ verdict-on (boolean (ofBig (bodyOf b))) (clausesOf sub (restOf b))
@@ -131,37 +131,38 @@ module _ (g : ℕ) where
     added-good s (got q) n = verdict-on (clause (kindOf (tagOf s)) q) (clausesOf sub (restOf s))
     added-good s (refused r) n = absurd (number-some r n)
 
-    module _ (s q : List ℕ) (r : ℕ) (e : isEmpty s ≡ false) (h : isClause s ≡ true) (eq : q ≡ bodyOf s) (er : r ≡ verdict 0 (sub q)) where
-      first : verdict 0 (sub (bodyOf s)) ≡ r
-      first = sym (er ∙ ap (λ (l : List ℕ). verdict 0 (sub l)) eq)
+    module _ (s : List ℕ) (e : isEmpty s ≡ false) (h : isClause s ≡ true) where
+      pub clause-fault : (verdict 0 (sub (bodyOf s)) ≡ 0 → ⊥) → verdict g (clausesOf sub s) ≡ verdict 0 (sub (bodyOf s))
+      clause-fault n = ap (verdict g) (clauses-next sub s e h) ∙ added-bad s (sub (bodyOf s)) n
 
-      pub clause-fault : (r ≡ 0 → ⊥) → verdict g (clausesOf sub s) ≡ r
-      clause-fault n = ap (verdict g) (clauses-next sub s e h) ∙ added-bad s (sub (bodyOf s)) (λ z. n (sym first ∙ z)) ∙ first
+      pub clause-good : verdict 0 (sub (bodyOf s)) ≡ 0 → verdict g (clausesOf sub s) ≡ verdict g (clausesOf sub (restOf s))
+      clause-good z = ap (verdict g) (clauses-next sub s e h) ∙ added-good s (sub (bodyOf s)) z
 
-      pub clause-good : r ≡ 0 → verdict g (clausesOf sub s) ≡ verdict g (clausesOf sub (restOf s))
-      clause-good z = ap (verdict g) (clauses-next sub s e h) ∙ added-good s (sub (bodyOf s)) (first ∙ z)
+      -- the first clause, and then the others
+      pub clause-after : verdict g (clausesOf sub s) ≡ after (verdict 0 (sub (bodyOf s))) (verdict g (clausesOf sub (restOf s)))
+      clause-after = go (verdict 0 (sub (bodyOf s))) refl
+        where
+          go : (x : ℕ) → verdict 0 (sub (bodyOf s)) ≡ x → verdict g (clausesOf sub s) ≡ after x (verdict g (clausesOf sub (restOf s)))
+          go zero z = clause-good z
+          go (suc r) z = clause-fault (λ w. let u : suc r ≡ 0 = sym z ∙ w in omega arith) ∙ z
 
-  -- ---- a record
+-- ---- a record
 
-  module _ (d : ℕ) (s : List ℕ) where
-    pub record-bad : isRecord s ≡ false → number malformedQuery ≡ verdict g (decode d s)
-    record-bad h = sym (ap (verdict g) (decode-bad d s h))
+module _ (g d : ℕ) (s : List ℕ) where
+  pub record-bad : isRecord s ≡ false → verdict g (decode d s) ≡ number malformedQuery
+  record-bad h = ap (verdict g) (decode-bad d s h)
 
-    pub record-deep : d ≡ 0 → isRecord s ≡ true → number deepQuery ≡ verdict g (decode d s)
-    record-deep z h = sym (ap (verdict g) (decode-deep d s z h))
+  pub record-deep : d ≡ 0 → isRecord s ≡ true → verdict g (decode d s) ≡ number deepQuery
+  record-deep z h = ap (verdict g) (decode-deep d s z h)
 
-    -- by the number r of its body b, where k is said of a sound body
-    pub record-in : (b : List ℕ) (k r : ℕ) → (d ≡ 0 → ⊥) → isRecord s ≡ true → b ≡ bodyOf s → k ≡ said (isEmpty (restOf s)) g
-        → r ≡ verdict k (bodyIn (decode (d - 1)) (tagOf s) b) → r ≡ verdict g (decode d s)
-    record-in b k r n h eb ek er =
-        er ∙ ap (λ (l : List ℕ). verdict k (bodyIn (decode (d - 1)) (tagOf s) l)) eb
-        ∙ ap (λ (x : ℕ). verdict x (bodyIn (decode (d - 1)) (tagOf s) (bodyOf s))) ek
-        ∙ sym (ap (verdict g) (decode-in d s n h) ∙ verdict-closed (bodyIn (decode (d - 1)) (tagOf s) (bodyOf s)) (isEmpty (restOf s)))
+  pub record-in : (d ≡ 0 → ⊥) → isRecord s ≡ true
+      → verdict g (decode d s) ≡ verdict (said (isEmpty (restOf s)) g) (bodyIn (decode (d - 1)) (tagOf s) (bodyOf s))
+  record-in n h = ap (verdict g) (decode-in d s n h) ∙ verdict-closed g (bodyIn (decode (d - 1)) (tagOf s) (bodyOf s)) (isEmpty (restOf s))
 
 -- ---- a whole query
 
 pub whole-long : (most d : ℕ) (s : List ℕ) → most < length s → number longQuery ≡ numberOf (readWithin most d s)
 whole-long most d s h = sym (ap numberOf (read-long most d s h))
 
-pub whole-in : (most d : ℕ) (s : List ℕ) (r : ℕ) → length s ≤ most → r ≡ verdict 0 (decode d s) → r ≡ numberOf (readWithin most d s)
-whole-in most d s r h e = e ∙ verdict-zero (decode d s) ∙ sym (ap numberOf (read-within most d s h))
+pub whole-in : (most d : ℕ) (s : List ℕ) (r : ℕ) → length s ≤ most → verdict 0 (decode d s) ≡ r → r ≡ numberOf (readWithin most d s)
+whole-in most d s r h e = sym e ∙ verdict-zero (decode d s) ∙ sym (ap numberOf (read-within most d s h))

@@ -1,22 +1,20 @@
 // The reader of stored queries, for both limits: 0 where the bytes are one query's stored form, else 19, 20 or 21 in reading order.
-// What nests goes down as a slice, the depth that is left, and `good`, what to say where the rest is sound: 0, or 20 where something
-// is left over behind it. So a Boost, a ConstantScore and a last clause need no stack of their own; only a clause's query does.
+// No function here calls itself: a scheduler's thread has little stack, and a query may nest 192 records.
 use super::big::big4;
 use super::bytes::is_text;
 use super::part::body;
 use super::part::is_field_part;
 use super::part::is_part;
 use super::part::rest;
+use super::part::size_of;
 use super::part::whole;
 ghost use mathlib.Core.Path.{_≡_};
-ghost use mathlib.Core.Bool.{_&&_, cond};
+ghost use Prim.Native.Nat.{_≤_, _<_};
 ghost use lib.ListN.{length};
-ghost use lib.Dec.{eqb};
-ghost use Rattle.rules.specs.Numbers.{minimumTag};
-ghost use Rattle.rules.specs.Bytes.{isEmpty, tagOf, bodyOf, restOf, wholeOf, isPart, every};
+ghost use Rattle.rules.specs.Bytes.{every};
 ghost use Rattle.rules.specs.Stored.{isBoost};
-ghost use Rattle.rules.specs.Reading.{numberOf, isWord, isBound, isKind, isQuery, booleanIn, boostIn, bodyIn, decode, readWithin, readForRewriting, readForSelection};
-ghost use Rattle.stored.specs.Read.{verdict, said, isTerm, isPhrase, isRange, isLeaf, isMinimum, isClause, isRecord};
+ghost use Rattle.rules.specs.Reading.{numberOf, isWord, isBound, readWithin, readForRewriting, readForSelection};
+ghost use Rattle.stored.specs.Read.{verdict, said, rowOf, isTerm, isPhrase, isRange, isLeaf, isMinimum, isClause, isRecord, isBoosted, OfFront, OfOpened, OfNext};
 
 // ---- what holds no query
 
@@ -164,80 +162,197 @@ pub fn is_boost(bits: u32) -> bool
     bits == 0x7fc0_0000
 }
 
-fn say(ok: bool, good: u8) -> u8
-    ensures { λ r. ⌜ r ≡ said ok good ⌝ }
+// The four bytes before the query that a Boost holds.
+fn is_boosted(b: &[u8]) -> bool
+    ensures { λ r. ⌜ r ≡ isBoosted (now (b .entry)) ⌝ }
 {
-    if ok { good } else { 20 }
+    if b.len() < 4 {
+        return false;
+    }
+    is_boost(big4(b))
 }
 
 // ---- what nests
 
-fn boolean(b: &[u8], left: usize, good: u8) -> u8
-    ensures { λ r. ⌜ r ≡ verdict good (booleanIn (decode left) (now (b .entry))) ⌝ }
-{
-    if !is_minimum(b) {
-        return 20;
-    }
-    let mut t = rest(b);
-    while t.len() > 0 {
-        if !is_clause(t) {
-            return 20;
-        }
-        let r = check(body(t), left, 0);
-        if r != 0 {
-            return r;
-        }
-        let u = rest(t);
-        t = u;
-    }
-    good
+// What stands at the front of a record: a fault, a sound record that holds no query, a row of clauses, or a query inside it.
+// The numbers say where the record ends, or from where to where what it holds stands.
+enum Front {
+    Fault(u8),
+    Leaf(usize),
+    Row(usize, usize),
+    Inner(usize, usize),
 }
 
-fn boost(b: &[u8], left: usize, good: u8) -> u8
-    ensures { λ r. ⌜ r ≡ verdict good (boostIn (decode left) (now (b .entry))) ⌝ }
+fn look(q: &[u8], left: usize) -> Front
+    ensures { λ r. ⌜ OfFront left (now (q .entry)) r ⌝ }
 {
-    if b.len() < 4 {
-        return 20;
-    }
-    if !is_boost(big4(b)) {
-        return 20;
-    }
-    check(&b[4..], left, good)
-}
-
-fn inside(tag: u8, b: &[u8], left: usize, good: u8) -> u8
-    ensures { λ r. ⌜ r ≡ verdict good (bodyIn (decode left) tag (now (b .entry))) ⌝ }
-{
-    match tag {
-        3 => boolean(b, left, good),
-        4 => boost(b, left, good),
-        5 => check(b, left, good),
-        _ => say(is_leaf(tag, b), good),
-    }
-}
-
-fn check(s: &[u8], left: usize, good: u8) -> u8
-    ensures { λ r. ⌜ r ≡ verdict good (decode left (now (s .entry))) ⌝ }
-{
-    if !is_record(s) {
-        return 20;
+    if !is_record(q) {
+        return Front::Fault(20);
     }
     if left == 0 {
-        return 21;
+        return Front::Fault(21);
     }
-    let closed = say(rest(s).len() == 0, good);
-    inside(s[0], body(s), left - 1, closed)
+    let e = 3 + size_of(q);
+    let b = body(q);
+    let tag = q[0];
+    match tag {
+        3 => {
+            if is_minimum(b) {
+                Front::Row(8, e)
+            } else {
+                Front::Fault(20)
+            }
+        }
+        4 => {
+            if is_boosted(b) {
+                Front::Inner(7, e)
+            } else {
+                Front::Fault(20)
+            }
+        }
+        5 => Front::Inner(3, e),
+        _ => {
+            if is_leaf(tag, b) {
+                Front::Leaf(e)
+            } else {
+                Front::Fault(20)
+            }
+        }
+    }
+}
+
+// The same with the Boosts and ConstantScores around it gone through, and the records that may still nest.
+enum Opened {
+    Fault(u8),
+    Leaf(usize),
+    Row(usize, usize, usize),
+}
+
+fn unwrap(s: &[u8], depth: usize) -> Opened
+    ensures { λ r. ⌜ OfOpened depth (now (s .entry)) r ⌝ }
+{
+    let mut at: usize = 0;
+    let mut end = s.len();
+    let mut left = depth;
+    loop {
+        match look(&s[at..end], left) {
+            Front::Fault(r) => return Opened::Fault(r),
+            Front::Leaf(e) => return Opened::Leaf(at + e),
+            Front::Row(a, e) => return Opened::Row(at + a, at + e, left - 1),
+            Front::Inner(a, e) => {
+                end = at + e;
+                at = at + a;
+                left = left - 1;
+            }
+        }
+    }
+}
+
+// The clause at the front of a row: a fault, past it, into the clauses that it holds, or into them for the last time,
+// where something is left over behind them: then only a fault met in them can come before that one.
+enum Next {
+    Fault(u8),
+    Past(usize),
+    Into(usize, usize, usize),
+    Last(usize, usize, usize),
+}
+
+fn step(t: &[u8], left: usize) -> Next
+    requires { ⌜ 0 < length (now t) ⌝ }
+    ensures { λ r. ⌜ OfNext left (now (t .entry)) r ⌝ }
+{
+    if !is_clause(t) {
+        return Next::Fault(20);
+    }
+    let q = body(t);
+    let n = q.len();
+    match unwrap(q, left) {
+        Opened::Fault(r) => Next::Fault(r),
+        Opened::Leaf(e) => {
+            if e == n {
+                Next::Past(3 + n)
+            } else {
+                Next::Fault(20)
+            }
+        }
+        Opened::Row(a, e, l) => {
+            if e == n {
+                Next::Into(3 + a, 3 + e, l)
+            } else {
+                Next::Last(3 + a, 3 + e, l)
+            }
+        }
+    }
+}
+
+// Reads a row of clauses. Rows inside rows are kept in two short arrays, so that the stack does not grow with the depth:
+// where an outer row goes on is where the inner one ends, and of the outer one its end and its depth are enough.
+fn rows(s: &[u8], first: usize, sound: u8) -> u8
+    requires { ⌜ (first < 192) × (length (now s) < 65536) ⌝ }
+    ensures { λ r. ⌜ r ≡ verdict sound (rowOf first (now (s .entry))) ⌝ }
+{
+    let mut ends = [0u16; 192];
+    let mut lefts = [0u8; 192];
+    let mut n: usize = 0;
+    let mut at: usize = 0;
+    let mut end = s.len();
+    let mut left = first;
+    let mut good = sound;
+    loop {
+        if at < end {
+            match step(&s[at..end], left) {
+                Next::Fault(r) => return r,
+                Next::Past(k) => {
+                    at = at + k;
+                }
+                Next::Into(a, e, l) => {
+                    ends[n] = end as u16;
+                    lefts[n] = left as u8;
+                    n = n + 1;
+                    end = at + e;
+                    at = at + a;
+                    left = l;
+                }
+                Next::Last(a, e, l) => {
+                    n = 0;
+                    good = 20;
+                    end = at + e;
+                    at = at + a;
+                    left = l;
+                }
+            }
+        } else {
+            if n == 0 {
+                return good;
+            }
+            n = n - 1;
+            end = ends[n] as usize;
+            left = lefts[n] as usize;
+        }
+    }
 }
 
 // ---- the two limits
 
+fn say(ok: bool) -> u8
+    ensures { λ r. ⌜ r ≡ said ok 0 ⌝ }
+{
+    if ok { 0 } else { 20 }
+}
+
+// For any limit on the bytes, and a limit on the depth of at most 192.
 pub fn check_query(s: &[u8], most: usize, depth: usize) -> u8
+    requires { ⌜ depth ≤ 192 ⌝ }
     ensures { λ r. ⌜ r ≡ numberOf (readWithin most depth (now (s .entry))) ⌝ }
 {
     if s.len() > most {
         return 19;
     }
-    check(s, depth, 0)
+    match unwrap(s, depth) {
+        Opened::Fault(r) => r,
+        Opened::Leaf(e) => say(e == s.len()),
+        Opened::Row(a, e, l) => rows(&s[a..e], l, say(e == s.len())),
+    }
 }
 
 pub fn for_rewriting(s: &[u8]) -> u8
