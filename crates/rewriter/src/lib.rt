@@ -1,7 +1,7 @@
 // The rewriter: rounds over a stored query, all in one lent room.
-pub mod clauses;
-pub mod merge;
-pub mod once;
-pub mod over;
-pub mod place;
+mod clauses;
+mod merge;
+mod once;
+mod over;
+mod place;
 pub mod rounds;

@@ -20,7 +20,7 @@ pub struct Rounds {
 }
 
 // The query stands in the first n bytes, and so does what is left of it. A query has at least as many bytes as rounds, so that n is enough to count down from.
-pub fn rewrite_all(room: &mut [u8], n: usize) -> Rounds
+fn rewrite_all(room: &mut [u8], n: usize) -> Rounds
     requires { ⌜ Ready n (now room) ⌝ }
     ensures { λ r. ⌜ ((q : Query) → Is (within 0 n (now (room .entry))) q → Settled (resultOf (rewrite q)) (countOf (rewrite q)) (r .len) (r .rounds) (now (room .entry)) (now (room .exit))) ⌝ }
 {

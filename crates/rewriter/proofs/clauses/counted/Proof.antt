@@ -1,20 +1,16 @@
-use Rattle.rewriter.proofs.Forms as forms
+-- `rewriter::clauses::counted` meets its contract.
 use native.Mathlib.Omega.{arith}
 use borrow.Author.Needs.{needs}
+use Rattle.rewriter.proofs.Forms as forms
 use Rattle.rewriter.proofs.clauses.counted.Statement.{statement}
 use Rattle.rewriter.proofs.clauses.counted.Tie as tie
-use Rattle.rewriter.proofs.clauses.counted.Reads as reads
-use Rattle.rewriter.proofs.clauses.counted.Lts as lts
 
--- src/clauses.rt:54:20
 add-result : tie.Need-add-result
 add-result c = search needs
 
--- src/clauses.rt:50:1
 returns : tie.Need-returns
 returns c = (λ j e. omega (arith, forms.counts j _ e (c .if1 .taken)), omega arith)
 
--- src/clauses.rt:50:1
 returns-2 : tie.Need-returns-2
 returns-2 c = (λ j e. omega (arith, forms.counts-not j _ e (c .if1 .left)), omega arith)
 

@@ -1,16 +1,11 @@
+-- `rewriter::clauses::is_needed` meets its contract.
 use Rattle.rewriter.proofs.Forms as forms
-use native.Mathlib.Omega.{arith}
-use borrow.Author.Needs.{needs}
 use Rattle.rewriter.proofs.clauses.is_needed.Statement.{statement}
 use Rattle.rewriter.proofs.clauses.is_needed.Tie as tie
-use Rattle.rewriter.proofs.clauses.is_needed.Reads as reads
-use Rattle.rewriter.proofs.clauses.is_needed.Lts as lts
 
--- src/clauses.rt:13:1
 returns : tie.Need-returns
 returns c = λ j e. forms.needed-must j _ e (c .if1 .taken)
 
--- src/clauses.rt:13:1
 returns-2 : tie.Need-returns-2
 returns-2 c = λ j e. forms.needed j _ e (c .if1 .left)
 

@@ -1,14 +1,11 @@
-use Rattle.rewriter.proofs.Seeking as seeking
-use Rattle.rules.proofs.Parts as parts
-use lib.ListN.{length}
+-- `rewriter::clauses::only_must_not` meets its contract.
 use mathlib.Core.Path.{refl, ap}
 use native.Mathlib.Omega.{arith}
-use borrow.Author.Needs.{needs}
+use lib.ListN.{length}
+use Rattle.rules.proofs.Parts as parts
+use Rattle.rewriter.proofs.Seeking as seeking
 use Rattle.rewriter.proofs.clauses.only_must_not.Statement.{statement}
 use Rattle.rewriter.proofs.clauses.only_must_not.Tie as tie
-use Rattle.rewriter.proofs.clauses.only_must_not.Reads as reads
-use Rattle.rewriter.proofs.clauses.only_must_not.Lts as lts
-use Rattle.stored.proofs.part.rest.Reads as rest-reads
 
 abbrev Inv-loop : tie.InvT-loop
 Inv-loop s t₀ t = seeking.Negative s t
@@ -16,31 +13,24 @@ Inv-loop s t₀ t = seeking.Negative s t
 abbrev μ-loop : tie.MeasureT-loop
 μ-loop s t₀ t = length t
 
--- src/clauses.rt:25:5
 loop-holds : tie.Need-loop-holds Inv-loop μ-loop
 loop-holds c = record { all = c .before .pre; left = c .before .pre; same = refl }
 
--- src/clauses.rt:26:12
 shared-slice-read-if1 : tie.Need-shared-slice-read-if1 Inv-loop μ-loop
 shared-slice-read-if1 c = omega arith
 
--- src/clauses.rt:27:13
 returns : tie.Need-returns Inv-loop μ-loop
 returns c = seeking.negative-no (c .before .before .before .loop .inv) (c .before .before .loop-test .taken) (c .if1 .taken)
 
--- src/clauses.rt:29:13
 rest-requires : tie.Need-rest-requires Inv-loop μ-loop
 rest-requires c κs = seeking.negative-front (c .before .before .before .loop .inv) (c .before .before .loop-test .taken) .whole
 
--- src/clauses.rt:25:5
 loop-less : tie.Need-loop-less Inv-loop μ-loop
 loop-less c = let l = ap length (c .rest .ensures) in omega (arith, parts.rest-shorter (c .before .before .before .before .loop .t .now) (c .before .before .before .loop-test .taken))
 
--- src/clauses.rt:25:5
 loop-again : tie.Need-loop-again Inv-loop μ-loop
 loop-again c = seeking.negative-next (c .before .before .before .before .loop .inv) (c .before .before .before .loop-test .taken) (c .before .if1 .left) _ (c .rest .ensures)
 
--- src/clauses.rt:20:1
 returns-2 : tie.Need-returns-2 Inv-loop μ-loop
 returns-2 c = seeking.negative-end (c .before .loop .inv) (c .loop-test .left)
 

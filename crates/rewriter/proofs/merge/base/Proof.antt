@@ -1,35 +1,27 @@
-use Rattle.rewriter.proofs.Forms as forms
-use Rattle.rules.proofs.Parts as parts
-use denote.Ref.{now}
-use mathlib.Core.Path.{ap}
+-- `rewriter::merge::base` meets its contract.
 use native.Mathlib.Omega.{arith}
+use denote.Ref.{now}
 use borrow.Author.Needs.{needs}
+use Rattle.rules.proofs.Parts as parts
+use Rattle.rewriter.proofs.Forms as forms
 use Rattle.rewriter.proofs.merge.base.Statement.{statement}
 use Rattle.rewriter.proofs.merge.base.Tie as tie
-use Rattle.rewriter.proofs.merge.base.Reads as reads
-use Rattle.rewriter.proofs.merge.base.Lts as lts
 
--- src/merge.rt:62:8
 shared-slice-read-if1 : tie.Need-shared-slice-read-if1
 shared-slice-read-if1 c = omega (arith, forms.long-of (c .before .pre .is))
 
--- src/merge.rt:63:16
 sub-result : tie.Need-sub-result
 sub-result c = omega (arith, forms.is-boost _ _ (c .before .before .pre .is) (c .if1 .taken) .seven)
 
--- src/merge.rt:63:16
 part-result-start : tie.Need-part-result-start
 part-result-start c = omega (arith, forms.is-boost _ _ (c .before .before .pre .is) (c .if1 .taken) .seven)
 
--- src/merge.rt:63:16
 part-result-end : tie.Need-part-result-end
 part-result-end c = search needs
 
--- src/merge.rt:63:9
 returns : tie.Need-returns
 returns c = λ x i. rw (parts.cut-from 7 (now (c .before .before .before .args .q))) (forms.is-boost _ x i (c .before .if1 .taken) .inner)
 
--- src/merge.rt:58:1
 returns-2 : tie.Need-returns-2
 returns-2 c = λ x i. forms.no-boost _ x i (c .if1 .left) .0
 

@@ -1,45 +1,35 @@
-use Rattle.rewriter.proofs.Forms as forms
-use lib.ListN.{length-drop}
-use Rattle.rules.proofs.Parts as parts
+-- `rewriter::merge::boost_of` meets its contract.
 use mathlib.Core.List.{List}
+use mathlib.Core.Path.{ap, _∙_}
+use native.Mathlib.Omega.{arith}
+use lib.ListN.{length-drop, take}
+use denote.Ref.{now}
+use borrow.Author.Needs.{needs}
+use Rattle.rules.proofs.Parts as parts
 use Rattle.rules.specs.Floats.{widened}
 use Rattle.rules.specs.Bytes.{ofBig}
-use denote.Ref.{now}
-use lib.ListN.{length, take}
-use mathlib.Core.Path.{ap, sym, _∙_}
-use native.Mathlib.Omega.{arith}
-use borrow.Author.Needs.{needs}
+use Rattle.rewriter.proofs.Forms as forms
 use Rattle.rewriter.proofs.merge.boost_of.Statement.{statement}
 use Rattle.rewriter.proofs.merge.boost_of.Tie as tie
-use Rattle.rewriter.proofs.merge.boost_of.Reads as reads
-use Rattle.rewriter.proofs.merge.boost_of.Lts as lts
-use Rattle.stored.proofs.big.big4.Reads as big4-reads
 
--- src/merge.rt:72:8
 shared-slice-read-if1 : tie.Need-shared-slice-read-if1
 shared-slice-read-if1 c = omega (arith, forms.long-of (c .before .before .pre .is))
 
--- src/merge.rt:73:21
 sub-big4 : tie.Need-sub-big4
 sub-big4 c = omega (arith, forms.is-boost _ _ (c .before .before .before .pre .is) (c .if1 .taken) .seven)
 
--- src/merge.rt:73:21
 part-big4-start : tie.Need-part-big4-start
 part-big4-start c = omega (arith, forms.is-boost _ _ (c .before .before .before .pre .is) (c .if1 .taken) .seven)
 
--- src/merge.rt:73:21
 part-big4-end : tie.Need-part-big4-end
 part-big4-end c = search needs
 
--- src/merge.rt:73:9
 big4-requires : tie.Need-big4-requires
 big4-requires c κs = rw (parts.cut-from 3 (now (c .before .before .before .before .args .q)), length-drop) (omega (arith, forms.is-boost _ _ (c .before .before .before .before .pre .is) (c .before .if1 .taken) .seven))
 
--- src/merge.rt:73:9
 returns : tie.Need-returns
 returns c = λ x i. ap widened (c .big4 .ensures) ∙ ap (λ (l : List _). widened (ofBig (take 4 l))) (parts.cut-from 3 (now (c .before .before .before .before .before .args .q))) ∙ forms.is-boost _ x i (c .before .before .if1 .taken) .bits
 
--- src/merge.rt:68:1
 returns-2 : tie.Need-returns-2
 returns-2 c = λ x i. forms.no-boost _ x i (c .if1 .left) .1
 

@@ -1,31 +1,23 @@
-use Rattle.rewriter.proofs.Laid as laid
-use mathlib.Core.Logic.{inl, inr}
+-- `rewriter::merge::put_clause` meets its contract.
+use mathlib.Core.Logic.{inr}
 use native.Mathlib.Omega.{arith}
 use borrow.Author.Needs.{needs}
+use Rattle.rewriter.proofs.Laid as laid
 use Rattle.rewriter.proofs.merge.put_clause.Statement.{statement}
 use Rattle.rewriter.proofs.merge.put_clause.Tie as tie
-use Rattle.rewriter.proofs.merge.put_clause.Reads as reads
-use Rattle.rewriter.proofs.merge.put_clause.Lts as lts
-use Rattle.rewriter.proofs.place.shift.Reads as shift-reads
-use Rattle.stored.proofs.write.put_header.Reads as put-header-reads
 
--- src/merge.rt:157:13
 sub-n : tie.Need-sub-n
 sub-n c = search needs
 
--- src/merge.rt:158:9
 put-header-requires : tie.Need-put-header-requires
 put-header-requires c κs = search needs
 
--- src/merge.rt:159:5
 shift-requires : tie.Need-shift-requires
 shift-requires c κs = (omega (arith, c .before .before .before .put-header .kept .0, c .before .before .before .before .before .before .pre), omega (arith, c .before .before .before .put-header .ensures .place, c .before .before .before .put-header .kept .0, c .before .before .before .before .before .before .pre), inr (omega (arith, c .before .before .before .put-header .ensures .place, c .before .before .before .before .before .before .pre)))
 
--- src/merge.rt:153:1
 same-length : tie.Need-same-length
 same-length c = search needs
 
--- src/merge.rt:153:1
 returns : tie.Need-returns
 returns c = laid.clause-put _ _ _ (c .before .before .before .before .before .before .before .before .before .pre .0) (c .before .before .before .before .before .before .before .before .before .pre .1) (c .before .before .before .before .before .before .before .before .before .pre .2) (c .before .before .before .before .before .before .put-header .ensures) (c .before .before .shift .ensures)
 

@@ -1,20 +1,14 @@
+-- `rewriter::merge::stands_for` meets its contract.
 use Rattle.rewriter.proofs.Forms as forms
-use native.Mathlib.Omega.{arith}
-use borrow.Author.Needs.{needs}
 use Rattle.rewriter.proofs.merge.stands_for.Statement.{statement}
 use Rattle.rewriter.proofs.merge.stands_for.Tie as tie
-use Rattle.rewriter.proofs.merge.stands_for.Reads as reads
-use Rattle.rewriter.proofs.merge.stands_for.Lts as lts
 
--- src/merge.rt:45:1
 returns : tie.Need-returns
 returns c = λ i l ei el. forms.stands-equal i l _ _ ei el (c .if1 .taken)
 
--- src/merge.rt:45:1
 returns-2 : tie.Need-returns-2
 returns-2 c = λ i l ei el. forms.stands-filter i l _ _ ei el (c .if2 .taken) (c .before .if1 .left)
 
--- src/merge.rt:45:1
 returns-3 : tie.Need-returns-3
 returns-3 c = λ i l ei el. forms.stands-other i l _ _ ei el (c .before .if1 .left) (c .if2 .left)
 

@@ -1,20 +1,14 @@
+-- `rewriter::merge::summable` meets its contract.
 use Rattle.rewriter.proofs.Forms as forms
-use native.Mathlib.Omega.{arith}
-use borrow.Author.Needs.{needs}
 use Rattle.rewriter.proofs.merge.summable.Statement.{statement}
 use Rattle.rewriter.proofs.merge.summable.Tie as tie
-use Rattle.rewriter.proofs.merge.summable.Reads as reads
-use Rattle.rewriter.proofs.merge.summable.Lts as lts
 
--- src/merge.rt:33:1
 returns : tie.Need-returns
 returns c = λ j e. forms.summable-must _ j _ e (c .if1 .taken)
 
--- src/merge.rt:33:1
 returns-2 : tie.Need-returns-2
 returns-2 c = λ j e. forms.summable-should _ j _ e (c .if2 .taken)
 
--- src/merge.rt:33:1
 returns-3 : tie.Need-returns-3
 returns-3 c = λ j e. forms.summable-not _ j _ e (c .before .if1 .left) (c .if2 .left)
 

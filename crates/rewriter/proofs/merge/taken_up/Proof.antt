@@ -1,41 +1,28 @@
-use Rattle.rewriter.proofs.Seeking as seeking
+-- `rewriter::merge::taken_up` meets its contract.
 use mathlib.Core.Path.{refl}
-use native.Mathlib.Omega.{arith}
 use borrow.Author.Needs.{needs}
+use Rattle.rewriter.proofs.Seeking as seeking
 use Rattle.rewriter.proofs.merge.taken_up.Statement.{statement}
 use Rattle.rewriter.proofs.merge.taken_up.Tie as tie
-use Rattle.rewriter.proofs.merge.taken_up.Reads as reads
-use Rattle.rewriter.proofs.merge.taken_up.Lts as lts
-use Rattle.boost.proofs.sums.add.Reads as add-reads
-use Rattle.rewriter.proofs.merge.base.Reads as base-reads
-use Rattle.rewriter.proofs.merge.boost_of.Reads as boost-of-reads
-use Rattle.stored.proofs.bytes.same.Reads as same-reads
 
--- src/merge.rt:114:17
 base-requires : tie.Need-base-requires
 base-requires c κs = c .before .before .before .before .pre
 
--- src/merge.rt:114:12
 same-requires : tie.Need-same-requires
 same-requires c κs = search needs
 
--- src/merge.rt:115:73
 boost-of-requires : tie.Need-boost-of-requires
 boost-of-requires c κs = c .before .before .before .before .before .before .before .pre
 
--- src/merge.rt:115:62
 add-requires : tie.Need-add-requires
 add-requires c κs = search needs
 
--- src/merge.rt:115:13
 returns : tie.Need-returns
 returns c = record { base = refl; kind = refl; sum = seeking.sums-alike _ _ _ _ _ (c .before .before .before .before .before .if1 .taken) _ (c .before .before .before .before .base .ensures) _ (c .before .before .before .same .ensures) (c .before .before .if2 .taken) _ (c .before .boost-of .ensures) _ (c .add .ensures) }
 
--- src/merge.rt:109:1
 returns-2 : tie.Need-returns-2
 returns-2 c = record { base = refl; kind = refl; sum = seeking.sums-other _ _ _ _ _ _ (c .before .before .base .ensures) _ (c .before .same .ensures) (c .if2 .left) }
 
--- src/merge.rt:109:1
 returns-3 : tie.Need-returns-3
 returns-3 c = record { base = refl; kind = refl; sum = seeking.sums-unlike _ _ _ _ _ (c .if1 .left) }
 

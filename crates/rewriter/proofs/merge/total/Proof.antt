@@ -1,17 +1,12 @@
-use Rattle.rewriter.proofs.Seeking as seeking
-use Rattle.rewriter.proofs.Forms as forms
-use Rattle.rules.proofs.Parts as parts
-use lib.ListN.{length}
+-- `rewriter::merge::total` meets its contract.
 use mathlib.Core.Path.{refl, ap}
 use native.Mathlib.Omega.{arith}
-use borrow.Author.Needs.{needs}
+use lib.ListN.{length}
+use Rattle.rules.proofs.Parts as parts
+use Rattle.rewriter.proofs.Seeking as seeking
+use Rattle.rewriter.proofs.Forms as forms
 use Rattle.rewriter.proofs.merge.total.Statement.{statement}
 use Rattle.rewriter.proofs.merge.total.Tie as tie
-use Rattle.rewriter.proofs.merge.total.Reads as reads
-use Rattle.rewriter.proofs.merge.total.Lts as lts
-use Rattle.rewriter.proofs.merge.taken_up.Reads as taken-up-reads
-use Rattle.stored.proofs.part.body.Reads as body-reads
-use Rattle.stored.proofs.part.rest.Reads as rest-reads
 
 abbrev Inv-loop : tie.InvT-loop
 Inv-loop clauses h t₀ m₀ t m = seeking.Summing clauses (m₀ .base) (m₀ .kind) (m₀ .sum) h t (m .base) (m .kind) (m .sum)
@@ -19,35 +14,27 @@ Inv-loop clauses h t₀ m₀ t m = seeking.Summing clauses (m₀ .base) (m₀ .k
 abbrev μ-loop : tie.MeasureT-loop
 μ-loop clauses h t₀ m₀ t m = length t
 
--- src/merge.rt:128:5
 loop-holds : tie.Need-loop-holds Inv-loop μ-loop
 loop-holds c = record { all = c .before .before .pre; left = c .before .before .pre; base = refl; kind = refl; sum = λ l q e i. refl }
 
--- src/merge.rt:129:29
 shared-slice-read-taken-up : tie.Need-shared-slice-read-taken-up Inv-loop μ-loop
 shared-slice-read-taken-up c = omega arith
 
--- src/merge.rt:129:35
 body-requires : tie.Need-body-requires Inv-loop μ-loop
 body-requires c κs = seeking.sum-front (c .before .before .loop .inv) (c .before .loop-test .taken) .whole
 
--- src/merge.rt:129:13
 taken-up-requires : tie.Need-taken-up-requires Inv-loop μ-loop
 taken-up-requires c κs = record { query = seeking.sum-front (c .before .before .before .loop .inv) (c .before .before .loop-test .taken) .query; is = rw (c .body .ensures) (forms.front-is (seeking.sum-front (c .before .before .before .loop .inv) (c .before .before .loop-test .taken))) }
 
--- src/merge.rt:131:13
 rest-requires : tie.Need-rest-requires Inv-loop μ-loop
 rest-requires c κs = seeking.sum-front (c .before .before .before .before .loop .inv) (c .before .before .before .loop-test .taken) .whole
 
--- src/merge.rt:128:5
 loop-less : tie.Need-loop-less Inv-loop μ-loop
 loop-less c = let l = ap length (c .rest .ensures) in omega (arith, parts.rest-shorter (c .before .before .before .before .before .loop .t .now) (c .before .before .before .before .loop-test .taken))
 
--- src/merge.rt:128:5
 loop-again : tie.Need-loop-again Inv-loop μ-loop
 loop-again c = seeking.sum-next (c .before .before .before .before .before .loop .inv) (c .before .before .before .before .loop-test .taken) _ (c .rest .ensures) _ _ _ (rw (c .before .before .body .ensures) at (c .before .taken-up .ensures))
 
--- src/merge.rt:122:1
 returns : tie.Need-returns Inv-loop μ-loop
 returns c = seeking.sum-end (c .before .loop .inv) (c .loop-test .left)
 

@@ -1,133 +1,98 @@
-use Rattle.rewriter.specs.Within.{within}
+-- `rewriter::over::rewrite_boolean` meets its contract.
+use mathlib.Core.Path.{sym, _∙_, subst}
+use mathlib.Core.Logic.{inl, inr}
 use Prim.Native.Nat.{_+_}
+use native.Mathlib.Omega.{arith}
 use denote.Ref.{now}
-use Rattle.rewriter.proofs.Booleans as booleans
+use borrow.Author.Needs.{needs}
 use Rattle.rules.specs.Checked.{Are}
 use Rattle.rules.specs.Query.{Clauses}
-use mathlib.Core.Path.{sym, ap, _∙_, subst}
-use mathlib.Core.Logic.{inl, inr}
-use native.Mathlib.Omega.{arith}
-use borrow.Author.Needs.{needs}
+use Rattle.rewriter.specs.Within.{within}
+use Rattle.rewriter.proofs.Booleans as booleans
 use Rattle.rewriter.proofs.over.rewrite_boolean.Statement.{statement}
 use Rattle.rewriter.proofs.over.rewrite_boolean.Tie as tie
-use Rattle.rewriter.proofs.over.rewrite_boolean.Reads as reads
-use Rattle.rewriter.proofs.over.rewrite_boolean.Lts as lts
-use Rattle.rewriter.proofs.clauses.is_single.Reads as is-single-reads
-use Rattle.rewriter.proofs.clauses.only_must_not.Reads as only-must-not-reads
-use Rattle.rewriter.proofs.clauses.should_count.Reads as should-count-reads
-use Rattle.rewriter.proofs.over.put_lone.Reads as put-lone-reads
-use Rattle.rewriter.proofs.over.put_merged_boolean.Reads as put-merged-boolean-reads
-use Rattle.rewriter.proofs.over.put_none.Reads as put-none-reads
 
--- src/over.rt:144:16
 add-from : tie.Need-add-from
 add-from c = omega (arith, c .before .pre .low, booleans.live-inside (c .before .pre), c .before .good .0)
 
--- src/over.rt:145:22
 sub-only-must-not : tie.Need-sub-only-must-not
 sub-only-must-not c = c .before .pre .low
 
--- src/over.rt:145:22
 part-only-must-not-start : tie.Need-part-only-must-not-start
 part-only-must-not-start c = c .before .before .pre .low
 
--- src/over.rt:145:22
 part-only-must-not-end : tie.Need-part-only-must-not-end
 part-only-must-not-end c = booleans.live-inside (c .before .before .pre)
 
--- src/over.rt:145:8
 only-must-not-requires : tie.Need-only-must-not-requires
 only-must-not-requires c κs = record { clauses = c .before .before .before .pre .clauses; are = c .before .before .before .pre .are }
 
--- src/over.rt:146:9
 put-none-requires : tie.Need-put-none-requires
 put-none-requires c κs = omega (arith, c .before .before .before .before .before .before .pre .low, booleans.live-inside (c .before .before .before .before .before .before .pre))
 
--- src/over.rt:146:9
 same-length : tie.Need-same-length
 same-length c = search needs
 
--- src/over.rt:146:9
 returns : tie.Need-returns
 returns c = λ cs a. rw (booleans.of-negative (c .before .before .before .before .before .before .before .before .before .args .least) cs (sym (c .before .before .before .before .before .only-must-not .ensures cs a) ∙ c .before .before .before .before .if1 .taken)) (c .before .before .put-none .ensures)
 
--- src/over.rt:148:21
 sub-should-count : tie.Need-sub-should-count
 sub-should-count c = c .before .before .before .before .before .pre .low
 
--- src/over.rt:148:21
 part-should-count-start : tie.Need-part-should-count-start
 part-should-count-start c = c .before .before .before .before .before .before .pre .low
 
--- src/over.rt:148:21
 part-should-count-end : tie.Need-part-should-count-end
 part-should-count-end c = booleans.live-inside (c .before .before .before .before .before .before .pre)
 
--- src/over.rt:148:8
 should-count-requires : tie.Need-should-count-requires
 should-count-requires c κs = record { clauses = c .before .before .before .before .before .before .before .pre .clauses; are = c .before .before .before .before .before .before .before .pre .are }
 
--- src/over.rt:149:9
 put-none-requires-2 : tie.Need-put-none-requires-2
 put-none-requires-2 c κs = omega (arith, c .before .before .before .before .before .before .before .before .before .before .pre .low, booleans.live-inside (c .before .before .before .before .before .before .before .before .before .before .pre))
 
--- src/over.rt:149:9
 same-length-2 : tie.Need-same-length-2
 same-length-2 c = search needs
 
--- src/over.rt:149:9
 returns-2 : tie.Need-returns-2
 returns-2 c = λ cs a. rw (booleans.of-few (c .before .before .before .before .before .before .before .before .before .before .before .before .before .args .least) cs (sym (c .before .before .before .before .before .before .before .before .before .only-must-not .ensures cs a) ∙ c .before .before .before .before .before .before .before .before .if1 .left) (omega (arith, c .before .before .before .before .before .should-count .ensures .0 cs a, c .before .before .before .before .if2 .taken))) (c .before .before .put-none2 .ensures)
 
--- src/over.rt:152:9
 put-merged-boolean-requires : tie.Need-put-merged-boolean-requires
 put-merged-boolean-requires c κs = c .before .before .before .before .before .before .before .before .before .before .before .pre
 
--- src/over.rt:152:9
 same-length-3 : tie.Need-same-length-3
 same-length-3 c = search needs
 
--- src/over.rt:152:9
 returns-3 : tie.Need-returns-3
 returns-3 c = λ cs a. rw (booleans.of-merged (c .before .before .before .before .before .before .before .before .before .before .before .before .before .before .args .least) cs (sym (c .before .before .before .before .before .before .before .before .before .before .only-must-not .ensures cs a) ∙ c .before .before .before .before .before .before .before .before .before .if1 .left) (omega (arith, c .before .before .before .before .before .before .should-count .ensures .0 cs a, c .before .before .before .before .before .if2 .left)) (inl (c .before .before .before .before .if3 .taken))) (c .before .before .put-merged-boolean .ensures cs a)
 
--- src/over.rt:154:18
 sub-is-single : tie.Need-sub-is-single
 sub-is-single c = c .before .before .before .before .before .before .before .before .before .before .pre .low
 
--- src/over.rt:154:18
 part-is-single-start : tie.Need-part-is-single-start
 part-is-single-start c = c .before .before .before .before .before .before .before .before .before .before .before .pre .low
 
--- src/over.rt:154:18
 part-is-single-end : tie.Need-part-is-single-end
 part-is-single-end c = booleans.live-inside (c .before .before .before .before .before .before .before .before .before .before .before .pre)
 
--- src/over.rt:154:8
 is-single-requires : tie.Need-is-single-requires
 is-single-requires c κs = record { clauses = c .before .before .before .before .before .before .before .before .before .before .before .before .pre .clauses; are = c .before .before .before .before .before .before .before .before .before .before .before .before .pre .are }
 
--- src/over.rt:155:9
 put-lone-requires : tie.Need-put-lone-requires
 put-lone-requires c κs = let s = booleans.single (c .before .before .before .before .before .before .before .before .before .before .before .before .before .before .before .pre .clauses) (sym (c .before .before .is-single .ensures _ (c .before .before .before .before .before .before .before .before .before .before .before .before .before .before .before .pre .are)) ∙ c .before .if4 .taken) in booleans.lone-of (c .before .before .before .before .before .before .before .before .before .before .before .before .before .before .before .pre) (s .0) (s .1) (s .2)
 
--- src/over.rt:155:9
 same-length-4 : tie.Need-same-length-4
 same-length-4 c = search needs
 
--- src/over.rt:155:9
 returns-4 : tie.Need-returns-4
 returns-4 c = λ cs a. let s = booleans.single cs (sym (c .before .before .before .before .before .is-single .ensures cs a) ∙ c .before .before .before .before .if4 .taken) in rw (booleans.of-lone (c .before .before .before .before .before .before .before .before .before .before .before .before .before .before .before .before .before .before .args .least) cs (sym (c .before .before .before .before .before .before .before .before .before .before .before .before .before .before .only-must-not .ensures cs a) ∙ c .before .before .before .before .before .before .before .before .before .before .before .before .before .if1 .left) (omega (arith, c .before .before .before .before .before .before .before .before .before .before .should-count .ensures .0 cs a, c .before .before .before .before .before .before .before .before .before .if2 .left)) (omega (arith, c .before .before .before .before .before .before .before .before .if3 .left)) (s .0) (s .1) (s .2)) (c .before .before .put-lone .ensures (s .0) (s .1) (subst (λ (ds : Clauses). Are (within (c .before .before .before .before .before .before .before .before .before .before .before .before .before .before .before .before .before .before .args .to + 8) (c .before .before .before .before .before .before .before .before .before .before .before .before .before .before .before .before .before .before .args .end) (now (c .before .before .before .before .before .before .before .before .before .before .before .before .before .before .before .before .before .before .args .room))) ds) (s .2) a))
 
--- src/over.rt:157:5
 put-merged-boolean-requires-2 : tie.Need-put-merged-boolean-requires-2
 put-merged-boolean-requires-2 c κs = c .before .before .before .before .before .before .before .before .before .before .before .before .before .before .before .pre
 
--- src/over.rt:140:1
 same-length-5 : tie.Need-same-length-5
 same-length-5 c = search needs
 
--- src/over.rt:140:1
 returns-5 : tie.Need-returns-5
 returns-5 c = λ cs a. rw (booleans.of-merged (c .before .before .before .before .before .before .before .before .before .before .before .before .before .before .before .before .before .before .args .least) cs (sym (c .before .before .before .before .before .before .before .before .before .before .before .before .before .before .only-must-not .ensures cs a) ∙ c .before .before .before .before .before .before .before .before .before .before .before .before .before .if1 .left) (omega (arith, c .before .before .before .before .before .before .before .before .before .before .should-count .ensures .0 cs a, c .before .before .before .before .before .before .before .before .before .if2 .left)) (inr (sym (c .before .before .before .before .before .is-single .ensures cs a) ∙ c .before .before .before .before .if4 .left))) (c .before .before .put-merged-boolean2 .ensures cs a)
 
