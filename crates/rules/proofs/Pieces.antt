@@ -40,11 +40,11 @@ module _ (P : ℕ → Bool) where
   unfolding after
   after-no c s h = rw h
 
-  front-nil : front P [] ≡ []
+  pub front-nil : front P [] ≡ []
   unfolding front
   front-nil = refl
 
-  after-nil : after P [] ≡ []
+  pub after-nil : after P [] ≡ []
   unfolding after
   after-nil = refl
 
