@@ -1,2 +1,4 @@
 pub mod Tables
 pub mod Spans
+pub mod Steps
+pub mod Chunks

@@ -6,7 +6,7 @@ use mathlib.Core.Bool.{Bool, true, false, not, cond}
 use lib.ListN.{length, take, drop}
 use lib.Dec.{eqb}
 use Rattle.rules.specs.Numbers.{chunkMost, whitespaceAnalyzer, simpleAnalyzer}
-use Rattle.rules.specs.Analysis.{front, isGap, isLetter, lowercase, tokenTexts}
+use Rattle.rules.specs.Analysis.{front, classes, isGap, isLetter, lowercase, tokenTexts}
 use Rattle.analysis.specs.Classes.{gapIn, letterIn}
 
 -- by the analyzer: whitespace, simple, and every other number, which counts as keyword
@@ -31,3 +31,39 @@ wantedIn t a b c = asWanted b (insideIn t a c)
 -- where the bytes that P is true of end, from a place on and up to an end
 unfoldable pub spanFrom : (ℕ → Bool) → List ℕ → ℕ → ℕ → ℕ
 spanFrom P s at end = at + length (front P (take (end - at) (drop at s)))
+
+pub record Span (P : ℕ → Bool) (s : List ℕ) (from end r : ℕ) : Type 0 where
+  pub is : r ≡ spanFrom P s from end
+  pub low : from ≤ r
+  pub high : r ≤ end
+
+-- of a run, what is one token
+unfoldable pub firstOf : ℕ → List ℕ → List ℕ
+firstOf a r = byAnalyzer a (take chunkMost r) (take chunkMost r) r
+
+-- the first token from a place on, where P is true of the bytes that a token has: its start and its text
+unfoldable pub startFrom : (ℕ → Bool) → List ℕ → ℕ → ℕ
+startFrom P s at = at + length (front (λ c. not (P c)) (drop at s))
+
+unfoldable pub textFrom : (ℕ → Bool) → ℕ → List ℕ → ℕ → List ℕ
+textFrom P a s at = firstOf a (front P (drop (startFrom P s at) s))
+
+-- a token's text, as it is written out
+unfoldable pub spelled : ℕ → List ℕ → List ℕ
+spelled a t = cond (eqb a simpleAnalyzer) (lowercase t) t
+
+-- the first token of s from `at` on has `len` bytes and starts at `start`; where there is none, `len` is 0
+pub record Found (a : ℕ) (s : List ℕ) (at start len : ℕ) : Type 0 where
+  -- these two leave no other answer
+  pub place : start ≡ startFrom (inside a) s at
+  pub size : len ≡ length (textFrom (inside a) a s at)
+  pub onward : at ≤ start
+  pub within : len ≤ length s - start
+  pub none : len ≡ 0 → tokenTexts a (drop at s) ≡ []
+  pub one : 0 < len → tokenTexts a (drop at s) ≡ spelled a (take len (drop start s)) ∷ tokenTexts a (drop (start + len) s)
+
+-- the same by a table of classes
+pub record FoundIn (t : List ℕ) (a : ℕ) (s : List ℕ) (at start len : ℕ) : Type 0 where
+  pub place : start ≡ startFrom (insideIn t a) s at
+  pub size : len ≡ length (textFrom (insideIn t a) a s at)
+  pub found : t ≡ classes → Found a s at start len

@@ -30,7 +30,7 @@ is-inside-requires c κs = search needs
 
 -- src/tokens.rt:35:13
 returns : tie.Need-returns Inv-loop μ-loop
-returns c = sym (c .before .before .before .before .loop .inv .2 ∙ stops _ _ _ _ _ _ (c .before .before .before .loop-test .taken) (c .before .before .before .before .before .before .pre .1) _ (c .before .is-inside .ensures) (c .if1 .taken))
+returns c = record { is = sym (c .before .before .before .before .loop .inv .2 ∙ stops _ _ _ _ _ _ (c .before .before .before .loop-test .taken) (c .before .before .before .before .before .before .pre .1) _ (c .before .is-inside .ensures) (c .if1 .taken)); low = omega arith; high = omega arith }
 
 -- src/tokens.rt:37:9
 add-i : tie.Need-add-i Inv-loop μ-loop
@@ -46,7 +46,7 @@ loop-again c = (omega arith, omega arith, c .before .before .before .before .loo
 
 -- src/tokens.rt:28:1
 returns-2 : tie.Need-returns-2 Inv-loop μ-loop
-returns-2 c = let e : c .before .loop .i ≡ c .before .before .before .args .end = omega arith in sym (c .before .loop .inv .2 ∙ rw e (span-end _ _ _))
+returns-2 c = let e : c .before .loop .i ≡ c .before .before .before .args .end = omega arith in record { is = sym (c .before .loop .inv .2 ∙ rw e (span-end _ _ _)); low = omega arith; high = omega arith }
 
 pub span-spec : {M : Type 1} → statement M
 span-spec =
