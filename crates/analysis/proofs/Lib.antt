@@ -2,3 +2,4 @@ pub mod Tables
 pub mod Spans
 pub mod Steps
 pub mod Chunks
+pub mod Walks

@@ -21,7 +21,7 @@ use Rattle.analysis.proofs.Tables.{letter-is, gap-is}
 
 module _ (P : ℕ → Bool) where
   -- what stands from the first token on
-  rest-is : (s : List ℕ) (at : ℕ) → after (outside P) (drop at s) ≡ drop (startFrom P s at) s
+  pub rest-is : (s : List ℕ) (at : ℕ) → after (outside P) (drop at s) ≡ drop (startFrom P s at) s
   unfolding startFrom
   rest-is s at = after-is (outside P) (drop at s) ∙ drop-drop (length (front (outside P) (drop at s))) at s
 

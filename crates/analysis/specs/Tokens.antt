@@ -1,12 +1,13 @@
 -- Tokens one at a time: which bytes a token has, where the first from a place on starts, how long it is, how it is spelled.
 use mathlib.Core.Path.{_≡_}
-use Prim.Native.Nat.{ℕ, _+_, _-_, _≤_, _<_}
+use Prim.Native.Nat.{ℕ, zero, suc, _+_, _-_, _≤_, _<_}
 use mathlib.Core.List.{List, [], _∷_}
 use mathlib.Core.Bool.{Bool, true, false, not, cond}
 use lib.ListN.{length, take, drop}
 use lib.Dec.{eqb}
 use Rattle.rules.specs.Numbers.{chunkMost, whitespaceAnalyzer, simpleAnalyzer}
-use Rattle.rules.specs.Analysis.{front, classes, isGap, isLetter, lowercase, tokenTexts}
+use Rattle.rules.specs.Query.{word}
+use Rattle.rules.specs.Analysis.{front, classes, isGap, isLetter, lowercase, tokenTexts, placedFrom, tokenize}
 use Rattle.analysis.specs.Classes.{gapIn, letterIn}
 
 -- by the analyzer: whitespace, simple, and every other number, which counts as keyword
@@ -67,3 +68,18 @@ pub record FoundIn (t : List ℕ) (a : ℕ) (s : List ℕ) (at start len : ℕ) 
   pub place : start ≡ startFrom (insideIn t a) s at
   pub size : len ≡ length (textFrom (insideIn t a) a s at)
   pub found : t ≡ classes → Found a s at start len
+
+-- ---- the k-th token
+
+-- from where on the k-th token is the first, of those from `at` on
+unfoldable pub beforeToken : ℕ → List ℕ → ℕ → ℕ → ℕ
+beforeToken a s zero at = at
+beforeToken a s (suc k) at = beforeToken a s k (startFrom (inside a) s at + length (textFrom (inside a) a s at))
+
+pub record Nth (a : ℕ) (s : List ℕ) (k start len position : ℕ) : Type 0 where
+  -- these three leave no other answer
+  pub place : start ≡ startFrom (inside a) s (beforeToken a s k 0)
+  pub size : len ≡ length (textFrom (inside a) a s (beforeToken a s k 0))
+  pub counted : position ≡ k
+  pub none : len ≡ 0 → drop k (tokenize a s) ≡ []
+  pub one : 0 < len → drop k (tokenize a s) ≡ word position (spelled a (take len (drop start s))) ∷ placedFrom (suc k) (tokenTexts a (drop (start + len) s))

@@ -4,7 +4,8 @@ ghost use mathlib.Core.Path.{_≡_};
 ghost use Prim.Native.Nat.{_≤_, _+_, _-_, min};
 ghost use mathlib.Core.Bool.{true, false};
 ghost use lib.ListN.{length};
-ghost use Rattle.analysis.specs.Tokens.{insideIn, wantedIn, Span, byAnalyzer, Found, FoundIn};
+ghost use Rattle.rules.specs.Analysis.{tokenTexts};
+ghost use Rattle.analysis.specs.Tokens.{insideIn, wantedIn, Span, byAnalyzer, Found, FoundIn, Nth};
 
 pub const WHITESPACE: u8 = 1;
 
@@ -16,6 +17,13 @@ pub const KEYWORD: u8 = 3;
 pub struct Token {
     pub start: usize,
     pub len: usize,
+}
+
+// A token with its position among the tokens of its text.
+pub struct Placed {
+    pub start: usize,
+    pub len: usize,
+    pub position: usize,
 }
 
 // A token has this byte.
@@ -91,4 +99,48 @@ pub fn next_token(text: &[u8], analyzer: u8, at: usize) -> Token
     ensures { λ r. ⌜ Found analyzer (now (text .entry)) at (r .start) (r .len) ⌝ }
 {
     next_token_in(&classes::table(), text, analyzer, at)
+}
+
+pub fn token_count(text: &[u8], analyzer: u8) -> usize
+    ensures { λ r. ⌜ r ≡ length (tokenTexts analyzer (now (text .entry))) ⌝ }
+{
+    let table = classes::table();
+    let mut n: usize = 0;
+    let mut at: usize = 0;
+    loop {
+        let t = next_token_in(&table, text, analyzer, at);
+        if t.len == 0 {
+            return n;
+        }
+        at = t.start + t.len;
+        n += 1;
+    }
+}
+
+// The k-th token, counted from 0; its `len` is 0 where there is none.
+pub fn nth_token(text: &[u8], analyzer: u8, k: usize) -> Placed
+    ensures { λ r. ⌜ Nth analyzer (now (text .entry)) k (r .start) (r .len) (r .position) ⌝ }
+{
+    let table = classes::table();
+    let mut at: usize = 0;
+    let mut i: usize = 0;
+    loop {
+        let t = next_token_in(&table, text, analyzer, at);
+        if t.len == 0 {
+            return Placed {
+                start: t.start,
+                len: 0,
+                position: k,
+            };
+        }
+        if i == k {
+            return Placed {
+                start: t.start,
+                len: t.len,
+                position: k,
+            };
+        }
+        at = t.start + t.len;
+        i += 1;
+    }
 }

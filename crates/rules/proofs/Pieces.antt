@@ -74,6 +74,9 @@ module _ (P : ℕ → Bool) where
       by-test (P x) (λ h. after-begins s (sym (after-yes x s h) ∙ e))
       (λ h. let k : x ∷ s ≡ c ∷ u = sym (after-no x s h) ∙ e in let j : x ≡ c = cc in rw (← j) h)
 
+  pub front-of-after : (s : List ℕ) → front P (after P s) ≡ []
+  front-of-after s = by-list (after P s) (λ e. rw e front-nil) (λ c u e. rw e (front-no c u (after-begins s e)))
+
   -- a part of the front, and what stands behind that part
   front-more : {k : ℕ} (c : ℕ) (s : List ℕ) → suc k ≤ length (front P (c ∷ s)) → (P c ≡ true) × (k ≤ length (front P s))
   front-more c s h =
