@@ -15,3 +15,6 @@ pub mod Faults
 pub mod Sizes
 pub mod Views
 pub mod Cases
+pub mod Classes
+pub mod Pieces
+pub mod Tokens

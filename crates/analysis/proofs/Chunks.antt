@@ -1,0 +1,61 @@
+-- What the two spans of the code find: the first token's start, and where its chunk ends. Assumes nothing.
+use mathlib.Core.Path.{_≡_, refl, sym, ap, _∙_}
+use mathlib.Core.Bool.{Bool, true, false, cond, true≢false}
+use mathlib.Core.List.{List, []}
+use Prim.Native.Nat.{ℕ, _+_, _-_, _≤_, min}
+use native.Mathlib.Omega.{arith}
+use lib.Dec.{eqb}
+use lib.ListN.{length, take, drop, length-take, length-drop, drop-of-length-le}
+use lib.Seq.{take-all}
+use Rattle.rules.specs.Numbers.{chunkMost}
+use Rattle.rules.specs.Analysis.{front}
+use Rattle.rules.proofs.Pieces.{outside, front-nil, front-most, front-take}
+use Rattle.analysis.specs.Tokens.{byAnalyzer, insideIn, wantedIn, spanFrom, firstOf, startFrom, textFrom, FoundIn}
+use Rattle.analysis.proofs.Steps.{text-most, whole-start, whole-text, every-inside-in, found-in}
+
+-- ---- analyzers that take a text whole, by the code's test
+
+whole-not : (a : ℕ) → byAnalyzer a false false true ≡ true → (a ≡ 1 → ⊥) × (a ≡ 2 → ⊥)
+whole-not a h =
+    (λ e. true≢false (sym h ∙ ap (λ (b : ℕ). byAnalyzer b false false true) e), λ e. true≢false (sym h ∙ ap (λ (b : ℕ). byAnalyzer b false false true) e))
+
+cut-first : (a : ℕ) (r : List ℕ) → byAnalyzer a false false true ≡ false → firstOf a r ≡ take chunkMost r
+unfolding firstOf
+cut-first a r = pass (eqb a 1) (eqb a 2)
+  where
+    pass : (b c : Bool) → cond b false (cond c false true) ≡ false → cond b (take chunkMost r) (cond c (take chunkMost r) r) ≡ take chunkMost r
+    pass true c h = refl
+    pass false true h = refl
+    pass false false h = absurd (true≢false h)
+
+module _ (t : List ℕ) (a : ℕ) (s : List ℕ) (at : ℕ) where
+  -- past the end
+  past-start : length s ≤ at → startFrom (insideIn t a) s at ≡ at
+  unfolding startFrom
+  past-start h =
+      let d : drop at s ≡ [] = drop-of-length-le s {i = at} h in
+      rw (d, front-nil (outside (insideIn t a))) (omega arith)
+
+  pub past : length s ≤ at → FoundIn t a s at at 0
+  past h = let p = past-start h in found-in t a s at at 0 (sym p) (omega (arith, text-most (insideIn t a) a s at))
+
+  pub whole : byAnalyzer a false false true ≡ true → FoundIn t a s at at (length s - at)
+  whole h =
+      let n = whole-not a h in
+      let q = every-inside-in t a (n .0) (n .1) in
+      found-in t a s at at (length s - at) (sym (whole-start (insideIn t a) q s at)) (rw (whole-text (insideIn t a) q s at a (n .0) (n .1), length-drop))
+
+  pub skipped : spanFrom (wantedIn t a false) s at (length s) ≡ startFrom (insideIn t a) s at
+  unfolding spanFrom wantedIn startFrom
+  skipped = rw (take-all (length s - at) (drop at s) (rw length-drop (omega arith)))
+
+  pub chunk : (start end : ℕ) → start ≡ startFrom (insideIn t a) s at → end ≡ start + min 255 (length s - start) →
+      byAnalyzer a false false true ≡ false → FoundIn t a s at start (spanFrom (wantedIn t a true) s start end - start)
+  unfolding spanFrom wantedIn textFrom
+  chunk start end p e w =
+      let x = drop start s in
+      let f = front (insideIn t a) x in
+      let m : length (take (end - start) f) ≡ length (take chunkMost f) =
+      rw (length-take, length-take chunkMost f) (omega (arith, front-most (insideIn t a) x, length-drop start s)) in
+      found-in t a s at start (spanFrom (wantedIn t a true) s start end - start) p
+      (rw (← p, cut-first a f w, front-take (insideIn t a) (end - start) x, m) (omega arith))

@@ -1,0 +1,5 @@
+pub mod Tables
+pub mod Spans
+pub mod Steps
+pub mod Chunks
+pub mod Walks

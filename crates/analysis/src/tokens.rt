@@ -1,0 +1,146 @@
+// Tokens of a text, one after the other and without a copy: a token is a part of the text, lowercased where it is written out.
+use crate::classes;
+ghost use mathlib.Core.Path.{_≡_};
+ghost use Prim.Native.Nat.{_≤_, _+_, _-_, min};
+ghost use mathlib.Core.Bool.{true, false};
+ghost use lib.ListN.{length};
+ghost use Rattle.rules.specs.Analysis.{tokenTexts};
+ghost use Rattle.analysis.specs.Tokens.{insideIn, wantedIn, Span, byAnalyzer, Found, FoundIn, Nth};
+
+pub const WHITESPACE: u8 = 1;
+
+pub const SIMPLE: u8 = 2;
+
+pub const KEYWORD: u8 = 3;
+
+// A part of a text: where it starts and how many bytes it has, 0 where there is no token.
+pub struct Token {
+    pub start: usize,
+    pub len: usize,
+}
+
+// A token with its position among the tokens of its text.
+pub struct Placed {
+    pub start: usize,
+    pub len: usize,
+    pub position: usize,
+}
+
+// A token has this byte.
+fn is_inside(table: &[u8; 128], analyzer: u8, c: u8) -> bool
+    ensures { λ r. ⌜ r ≡ insideIn (now (table .entry)) analyzer c ⌝ }
+{
+    if analyzer == WHITESPACE {
+        return !classes::is_gap_in(table, c);
+    }
+    if analyzer == SIMPLE {
+        return classes::is_letter_in(table, c);
+    }
+    true
+}
+
+// The first place from `from` on, before `end`, where bytes of a token stop (`want`) or begin; `end` where there is none.
+fn span(table: &[u8; 128], text: &[u8], analyzer: u8, from: usize, end: usize, want: bool) -> usize
+    requires { ⌜ (from ≤ end) × (end ≤ length (now text)) ⌝ }
+    ensures { λ r. ⌜ Span (wantedIn (now (table .entry)) analyzer want) (now (text .entry)) from end r ⌝ }
+{
+    let mut i = from;
+    while i < end {
+        if is_inside(table, analyzer, text[i]) != want {
+            return i;
+        }
+        i += 1;
+    }
+    end
+}
+
+// The analyzer takes a text as one token.
+fn is_whole(analyzer: u8) -> bool
+    ensures { λ r. ⌜ r ≡ byAnalyzer analyzer false false true ⌝ }
+{
+    if analyzer == WHITESPACE {
+        return false;
+    }
+    analyzer != SIMPLE
+}
+
+// Where a chunk that starts at `start` ends at the latest.
+fn chunk_end(start: usize, end: usize) -> usize
+    requires { ⌜ start ≤ end ⌝ }
+    ensures { λ r. ⌜ r ≡ start + min 255 (end - start) ⌝ }
+{
+    if end - start <= 255 { end } else { start + 255 }
+}
+
+// The first token from `at` on, by a table of classes that the caller made once.
+pub fn next_token_in(table: &[u8; 128], text: &[u8], analyzer: u8, at: usize) -> Token
+    ensures { λ r. ⌜ FoundIn (now (table .entry)) analyzer (now (text .entry)) at (r .start) (r .len) ⌝ }
+{
+    let n = text.len();
+    if n <= at {
+        return Token { start: at, len: 0 };
+    }
+    if is_whole(analyzer) {
+        return Token {
+            start: at,
+            len: n - at,
+        };
+    }
+    let start = span(table, text, analyzer, at, n, false);
+    let end = span(table, text, analyzer, start, chunk_end(start, n), true);
+    Token {
+        start,
+        len: end - start,
+    }
+}
+
+// The first token from `at` on. Whoever asks often lends a table to `next_token_in`.
+pub fn next_token(text: &[u8], analyzer: u8, at: usize) -> Token
+    ensures { λ r. ⌜ Found analyzer (now (text .entry)) at (r .start) (r .len) ⌝ }
+{
+    next_token_in(&classes::table(), text, analyzer, at)
+}
+
+pub fn token_count(text: &[u8], analyzer: u8) -> usize
+    ensures { λ r. ⌜ r ≡ length (tokenTexts analyzer (now (text .entry))) ⌝ }
+{
+    let table = classes::table();
+    let mut n: usize = 0;
+    let mut at: usize = 0;
+    loop {
+        let t = next_token_in(&table, text, analyzer, at);
+        if t.len == 0 {
+            return n;
+        }
+        at = t.start + t.len;
+        n += 1;
+    }
+}
+
+// The k-th token, counted from 0; its `len` is 0 where there is none.
+pub fn nth_token(text: &[u8], analyzer: u8, k: usize) -> Placed
+    ensures { λ r. ⌜ Nth analyzer (now (text .entry)) k (r .start) (r .len) (r .position) ⌝ }
+{
+    let table = classes::table();
+    let mut at: usize = 0;
+    let mut i: usize = 0;
+    loop {
+        let t = next_token_in(&table, text, analyzer, at);
+        if t.len == 0 {
+            return Placed {
+                start: t.start,
+                len: 0,
+                position: k,
+            };
+        }
+        if i == k {
+            return Placed {
+                start: t.start,
+                len: t.len,
+                position: k,
+            };
+        }
+        at = t.start + t.len;
+        i += 1;
+    }
+}
