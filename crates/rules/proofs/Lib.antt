@@ -18,3 +18,4 @@ pub mod Cases
 pub mod Classes
 pub mod Pieces
 pub mod Tokens
+pub mod Tokenizing

@@ -1,0 +1,393 @@
+-- What lexing gives: tokens of the known kinds, in the order of their places, each text within the bytes that its token takes, and one
+-- answer whatever the fuel, once it suffices. Section 'Lexing and parsing'.
+use mathlib.Core.Path.{_≡_, refl, sym, ap, subst, _∙_}
+use mathlib.Core.Logic.{_⊎_, inl, inr, ⊎-elim}
+use Prim.Native.Nat.{ℕ, zero, suc, _+_, _-_, _≤_, _<_}
+use mathlib.Core.List.{List, [], _∷_}
+use mathlib.Core.Bool.{Bool, true, false, not, _&&_, _||_, cond}
+use native.Mathlib.Omega.{arith}
+use lib.ListN.{length, getD, drop, length-drop}
+use lib.Dec.{eqb}
+use borrow.Author.Tests.{eqb-true, eqb-false, not-true, not-false}
+use Rattle.rules.specs.Numbers.{Refusal, Read, got, refused, need, onRead, andThen, nothingEscaped}
+use Rattle.rules.specs.Bytes.{ascii, same, some}
+use Rattle.rules.specs.Analysis.{isSpace, isMark, endsTerm}
+use Rattle.rules.specs.Lexing.{Token, endKind, termKind, andKind, orKind, notKind, quotedKind, Piece, piece, onText, before, isQuote, isBackslash, isBracket, isWildcard, termText, quotedText, wordKind, Lexed, lexed, wordLexed, termEnd, quotedEnd, termFrom, quotedFrom, signKind, doubled, tokenAt, tokenThen, tokensStep, tokensIn, lex}
+use Rattle.rules.specs.Parsing.{tokenOf}
+use Rattle.rules.proofs.Bools.{clash, split, neither}
+
+-- ---- what holds of what is read, if anything is
+
+abbrev pub Holds : {A : Type 0} → (A → Type 0) → Read A → Type 0
+Holds P (got a) = P a
+Holds P (refused f) = Unit {0}
+
+module _ {A : Type 0} (P : A → Type 0) where
+  pub holds-of : {a : A} (r : Read A) → Holds P r → r ≡ got a → P a
+  holds-of r h e = subst (Holds P) e h
+
+  holds-cond : (b : Bool) (x y : Read A) → (b ≡ true → Holds P x) → (b ≡ false → Holds P y) → Holds P (cond b x y)
+  holds-cond true x y h k = h refl
+  holds-cond false x y h k = k refl
+
+  holds-need : (b : Bool) (f : Refusal) (x : Read A) → Holds P x → Holds P (need b f x)
+  holds-need true f x h = h
+  holds-need false f x h = tt
+
+  holds-both : (Q : A → Type 0) (r : Read A) → Holds P r → Holds Q r → Holds (λ a. P a × Q a) r
+  holds-both Q (got a) h k = (h, k)
+  holds-both Q (refused f) h k = tt
+
+  holds-each : (Q : A → Type 0) → ((a : A) → P a → Q a) → (r : Read A) → Holds P r → Holds Q r
+  holds-each Q k (got a) h = k a h
+  holds-each Q k (refused f) h = tt
+
+  module _ {B : Type 0} (Q : B → Type 0) where
+    holds-on : (g : A → B) → ((a : A) → P a → Q (g a)) → (r : Read A) → Holds P r → Holds Q (onRead g r)
+    holds-on g k (got a) h = k a h
+    holds-on g k (refused f) h = tt
+
+    holds-then : (g : A → Read B) → ((a : A) → P a → Holds Q (g a)) → (r : Read A) → Holds P r → Holds Q (andThen r g)
+    holds-then g k (got a) h = k a h
+    holds-then g k (refused f) h = tt
+
+-- ---- a text that is unescaped
+
+-- how a term and a quote go on: `stop` tells the byte that ends the text
+pub record Unescaping (F : List ℕ → Read Piece) (stop : ℕ → Bool) : Type 0 where
+  pub plain : (c : ℕ) (s : List ℕ) → stop c ≡ false → isBackslash c ≡ false → F (c ∷ s) ≡ before c (F s)
+  pub escaped : (c d : ℕ) (s : List ℕ) → stop c ≡ false → isBackslash c ≡ true → F (c ∷ d ∷ s) ≡ before d (F s)
+  pub dangling : (c : ℕ) → stop c ≡ false → isBackslash c ≡ true → F (c ∷ []) ≡ refused nothingEscaped
+
+term-plain : (c : ℕ) (s : List ℕ) → endsTerm c ≡ false → isBackslash c ≡ false → termText (c ∷ s) ≡ before c (termText s)
+unfolding termText before
+term-plain c [] h k = simp (h, k)
+term-plain c (d ∷ s) h k = simp (h, k)
+
+term-escaped : (c d : ℕ) (s : List ℕ) → endsTerm c ≡ false → isBackslash c ≡ true → termText (c ∷ d ∷ s) ≡ before d (termText s)
+unfolding termText before
+term-escaped c d s h k = simp (h, k)
+
+term-dangling : (c : ℕ) → endsTerm c ≡ false → isBackslash c ≡ true → termText (c ∷ []) ≡ refused nothingEscaped
+unfolding termText
+term-dangling c h k = simp (h, k)
+
+pub term-unescapes : Unescaping termText endsTerm
+term-unescapes = record { plain = term-plain; escaped = term-escaped; dangling = term-dangling }
+
+quoted-plain : (c : ℕ) (s : List ℕ) → isQuote c ≡ false → isBackslash c ≡ false → quotedText (c ∷ s) ≡ before c (quotedText s)
+unfolding quotedText before
+quoted-plain c [] h k = simp (h, k)
+quoted-plain c (d ∷ s) h k = simp (h, k)
+
+quoted-escaped : (c d : ℕ) (s : List ℕ) → isQuote c ≡ false → isBackslash c ≡ true → quotedText (c ∷ d ∷ s) ≡ before d (quotedText s)
+unfolding quotedText before
+quoted-escaped c d s h k = simp (h, k)
+
+quoted-dangling : (c : ℕ) → isQuote c ≡ false → isBackslash c ≡ true → quotedText (c ∷ []) ≡ refused nothingEscaped
+unfolding quotedText
+quoted-dangling c h k = simp (h, k)
+
+pub quoted-unescapes : Unescaping quotedText isQuote
+quoted-unescapes = record { plain = quoted-plain; escaped = quoted-escaped; dangling = quoted-dangling }
+
+-- where it ends
+pub term-stop : (c : ℕ) (s : List ℕ) → endsTerm c ≡ true → termText (c ∷ s) ≡ got (piece [] (c ∷ s))
+unfolding termText
+term-stop c [] h = simp h
+term-stop c (d ∷ s) h = simp h
+
+pub quoted-stop : (c : ℕ) (s : List ℕ) → isQuote c ≡ true → quotedText (c ∷ s) ≡ got (piece [] s)
+unfolding quotedText
+quoted-stop c [] h = simp h
+quoted-stop c (d ∷ s) h = simp h
+
+-- ---- how many bytes are taken
+
+-- of m bytes, the text and what follows it leave k
+abbrev Within : ℕ → ℕ → Piece → Type 0
+Within k m (piece t r) = k + length t + length r ≤ m
+
+within-before : (c k m n : ℕ) → suc m ≤ n → (r : Read Piece) → Holds (Within k m) r → Holds (Within k n) (before c r)
+unfolding before
+within-before c k m n h r l = holds-on (Within k m) (Within k n) (onText c) more r l
+  where
+    more : (p : Piece) → Within k m p → Within k n (onText c p)
+    more (piece t r) l = omega arith
+
+term-within : (s : List ℕ) → Holds (Within 0 (length s)) (termText s)
+unfolding termText
+term-within [] = omega arith
+term-within (c ∷ []) =
+    let W = Within 0 (length (c ∷ [])) in
+    holds-cond W (endsTerm c) _ _ (λ _. omega arith) (λ _. holds-cond W (isBackslash c) _ _ (λ _. tt) (λ _. omega arith))
+term-within (c ∷ d ∷ s) =
+    let W = Within 0 (length (c ∷ d ∷ s)) in
+    let plain = within-before c 0 (length (d ∷ s)) (length (c ∷ d ∷ s)) (omega arith) (termText (d ∷ s)) (term-within (d ∷ s)) in
+    let escaped = within-before d 0 (length s) (length (c ∷ d ∷ s)) (omega arith) (termText s) (term-within s) in
+    holds-cond W (endsTerm c) _ _ (λ _. omega arith) (λ _. holds-cond W (isBackslash c) _ _ (λ _. escaped) (λ _. plain))
+
+quoted-within : (s : List ℕ) → Holds (Within 1 (length s)) (quotedText s)
+unfolding quotedText
+quoted-within [] = tt
+quoted-within (c ∷ []) =
+    let W = Within 1 (length (c ∷ [])) in
+    holds-cond W (isQuote c) _ _ (λ _. omega arith) (λ _. holds-cond W (isBackslash c) _ _ (λ _. tt) (λ _. tt))
+quoted-within (c ∷ d ∷ s) =
+    let W = Within 1 (length (c ∷ d ∷ s)) in
+    let plain = within-before c 1 (length (d ∷ s)) (length (c ∷ d ∷ s)) (omega arith) (quotedText (d ∷ s)) (quoted-within (d ∷ s)) in
+    let escaped = within-before d 1 (length s) (length (c ∷ d ∷ s)) (omega arith) (quotedText s) (quoted-within s) in
+    holds-cond W (isQuote c) _ _ (λ _. omega arith) (λ _. holds-cond W (isBackslash c) _ _ (λ _. escaped) (λ _. plain))
+
+-- a term that begins with a byte of its own takes that byte
+abbrev Some : Piece → Type 0
+Some (piece t r) = 1 ≤ length t
+
+some-before : (c : ℕ) (r : Read Piece) → Holds Some (before c r)
+unfolding before
+some-before c (got (piece t r)) = omega arith
+some-before c (refused f) = tt
+
+term-some : (c : ℕ) (s : List ℕ) → endsTerm c ≡ false → Holds Some (termText (c ∷ s))
+unfolding termText
+term-some c [] h = rw h (holds-cond Some (isBackslash c) _ _ (λ _. tt) (λ _. omega arith))
+term-some c (d ∷ s) h = rw h (holds-cond Some (isBackslash c) _ _ (λ _. some-before d (termText s)) (λ _. some-before c (termText (d ∷ s))))
+
+-- ---- a token
+
+sign-most : (c : ℕ) → signKind c ≤ 12
+unfolding signKind
+sign-most c =
+    most (eqb c 0x2b) _ _ (omega arith) (most (eqb c 0x2d) _ _ (omega arith) (most (eqb c 0x21) _ _ (omega arith) (most (eqb c 0x28) _ _ (omega arith)
+    (most (eqb c 0x29) _ _ (omega arith) (most (eqb c 0x3a) _ _ (omega arith) (most (eqb c 0x5e) _ _ (omega arith) (most (eqb c 0x7e) _ _ (omega arith) (omega arith))))))))
+  where
+    most : (b : Bool) (x y : ℕ) → x ≤ 12 → y ≤ 12 → cond b x y ≤ 12
+    most true x y h k = h
+    most false x y h k = k
+
+-- a byte that makes no token of its own is none of those that do
+not-sign : (c x : ℕ) → eqb (signKind x) endKind ≡ false → eqb (signKind c) endKind ≡ true → eqb c x ≡ false
+not-sign c x h k = ⊎-elim (λ e. clash k (ap (λ (y : ℕ). eqb (signKind y) endKind) (eqb-true c x e) ∙ h)) (λ e. e) (split (eqb c x))
+
+-- a byte that begins a term does not end one
+pub begins-term : (c : ℕ) → isSpace c ≡ false → eqb (signKind c) endKind ≡ true → isQuote c ≡ false → isBracket c ≡ false → isWildcard c ≡ false
+    → endsTerm c ≡ false
+unfolding ascii some signKind
+begins-term c space sign quote bracket wildcard =
+    neither space (neither (no 0x21 refl) (neither (no 0x28 refl) (neither (no 0x29 refl) (neither (no 0x3a refl) (neither (no 0x5e refl)
+    (neither quote (neither (no 0x7e refl) (of-four (eqb c 0x5b) (eqb c 0x5d) (eqb c 0x7b) (eqb c 0x7d) bracket wildcard))))))))
+  where
+    no : (x : ℕ) → eqb (signKind x) endKind ≡ false → eqb c x ≡ false
+    no x h = not-sign c x h sign
+
+    of-four : {e : Bool} (a b c d : Bool) → a || (b || (c || (d || false))) ≡ false → e ≡ false → a || (b || (c || (d || e))) ≡ false
+    of-four a b c d h k = rw (k, h)
+
+-- ---- how many bytes a token takes
+
+-- of the m bytes that follow its first one; and its kind is one of the twelve
+abbrev Used : ℕ → Lexed → Type 0
+Used m (lexed k t r) = (length r ≤ m) × (length t + length r ≤ suc m) × (1 ≤ k) × (k ≤ 12)
+
+word-kinds : (t : List ℕ) → (1 ≤ wordKind t) × (wordKind t ≤ 12)
+unfolding wordKind
+word-kinds t = kinds (same t (ascii "AND")) (same t (ascii "OR")) (same t (ascii "NOT"))
+  where
+    kinds : (a b c : Bool) → (1 ≤ cond a andKind (cond b orKind (cond c notKind termKind))) × (cond a andKind (cond b orKind (cond c notKind termKind)) ≤ 12)
+    kinds true b c = omega arith
+    kinds false true c = omega arith
+    kinds false false true = omega arith
+    kinds false false false = omega arith
+
+word-used : (m : ℕ) (t r : List ℕ) → 1 ≤ length t → length t + length r ≤ suc m → Used m (wordLexed t r)
+word-used m t r h k =
+    let kinds = word-kinds t in
+    (omega arith, kept (eqb (wordKind t) termKind), kinds .0, kinds .1)
+  where
+    kept : (b : Bool) → length (cond b t []) + length r ≤ suc m
+    kept true = k
+    kept false = omega arith
+
+term-used : (c : ℕ) (s : List ℕ) → endsTerm c ≡ false → Holds (Used (length s)) (termFrom (c ∷ s))
+unfolding termFrom termEnd
+term-used c s h =
+    let W = Within 0 (length (c ∷ s)) in
+    holds-then (λ p. W p × Some p) (Used (length s)) termEnd used (termText (c ∷ s))
+    (holds-both W Some (termText (c ∷ s)) (term-within (c ∷ s)) (term-some c s h))
+  where
+    used : (p : Piece) → Within 0 (length (c ∷ s)) p × Some p → Holds (Used (length s)) (termEnd p)
+    used (piece t []) k = word-used (length s) t [] (k .1) (omega arith)
+    used (piece t (d ∷ r)) k =
+        holds-need (Used (length s)) (not (isWildcard d)) _ _ (word-used (length s) t (d ∷ r) (k .1) (omega arith))
+
+quoted-used : (s : List ℕ) → Holds (Used (length s)) (quotedFrom s)
+unfolding quotedFrom
+quoted-used s = holds-on (Within 1 (length s)) (Used (length s)) quotedEnd used (quotedText s) (quoted-within s)
+  where
+    used : (p : Piece) → Within 1 (length s) p → Used (length s) (quotedEnd p)
+    used (piece t r) h = omega arith
+
+token-used : (c : ℕ) (s : List ℕ) → isSpace c ≡ false → Holds (Used (length s)) (tokenAt c s)
+unfolding tokenAt
+token-used c s space =
+    let U = Used (length s) in
+    let few : length (drop 1 s) ≤ length s = simp length-drop (omega arith) in
+    holds-cond U (not (eqb (signKind c) endKind)) _ _ (λ h. sign (eqb-false (signKind c) endKind (not-true _ h)))
+    (λ h. holds-cond U (doubled 0x26 c s) _ _ (λ _. (few, omega arith, omega arith, omega arith))
+    (λ _. holds-cond U (doubled 0x7c c s) _ _ (λ _. (few, omega arith, omega arith, omega arith))
+    (λ _. holds-cond U (isQuote c) _ _ (λ _. quoted-used s)
+    (λ q. holds-cond U (isBracket c) _ _ (λ _. tt)
+    (λ b. holds-cond U (isWildcard c) _ _ (λ _. tt)
+    (λ w. term-used c s (begins-term c space (not-false _ h) q b w)))))))
+  where
+    sign : (signKind c ≡ endKind → ⊥) → Used (length s) (lexed (signKind c) [] s)
+    sign n = (omega arith, omega arith, omega arith, sign-most c)
+
+-- what follows a token is shorter than what begins with it
+pub token-shorter : (c : ℕ) (s : List ℕ) {k : ℕ} {t r : List ℕ} → isSpace c ≡ false → tokenAt c s ≡ got (lexed k t r) → length r ≤ length s
+token-shorter c s h e = holds-of (Used (length s)) (tokenAt c s) (token-used c s h) e .0
+
+-- ---- the answer does not depend on the fuel, once there is as much as there are bytes
+
+module _ (n : ℕ) where
+  then-same : (f g : List ℕ → Read (List Token)) (p m : ℕ) → ((s : List ℕ) → length s ≤ m → f s ≡ g s) → (r : Read Lexed) → Holds (Used m) r
+      → andThen r (tokenThen p f) ≡ andThen r (tokenThen p g)
+  unfolding tokenThen
+  then-same f g p m e (got (lexed k t s)) h = ap (onRead (λ ts. record { kind = k; text = t; place = p } ∷ ts)) (e s (h .0))
+  then-same f g p m e (refused x) h = refl
+
+  step-same : (f g : List ℕ → Read (List Token)) (c : ℕ) (s : List ℕ) → ((t : List ℕ) → length t ≤ length s → f t ≡ g t)
+      → tokensStep n f (c ∷ s) ≡ tokensStep n g (c ∷ s)
+  unfolding tokensStep
+  step-same f g c s e = ⊎-elim space word (split (isSpace c))
+    where
+      space : isSpace c ≡ true → tokensStep n f (c ∷ s) ≡ tokensStep n g (c ∷ s)
+      space h = rw h (e s (omega arith))
+
+      word : isSpace c ≡ false → tokensStep n f (c ∷ s) ≡ tokensStep n g (c ∷ s)
+      word h = rw h (then-same f g (n - length (c ∷ s)) (length s) e (tokenAt c s) (token-used c s h))
+
+  pub tokens-enough : (k m : ℕ) (s : List ℕ) → length s ≤ k → length s ≤ m → tokensIn n k s ≡ tokensIn n m s
+  unfolding tokensIn tokensStep
+  tokens-enough zero zero s h l = refl
+  tokens-enough zero (suc m) [] h l = refl
+  tokens-enough (suc k) zero [] h l = refl
+  tokens-enough zero (suc m) (c ∷ s) h l = absurd (omega arith)
+  tokens-enough (suc k) zero (c ∷ s) h l = absurd (omega arith)
+  tokens-enough (suc k) (suc m) [] h l = refl
+  tokens-enough (suc k) (suc m) (c ∷ s) h l = step-same (λ t. tokensIn n k t) (λ t. tokensIn n m t) c s (λ t i. tokens-enough k m t (omega arith) (omega arith))
+
+-- ---- a token at a time
+
+-- the tokens in s, with which a text of n bytes ends
+abbrev pub tokensLeft : ℕ → List ℕ → Read (List Token)
+tokensLeft n s = tokensIn n (length s) s
+
+pub lex-left : (s : List ℕ) → lex s ≡ tokensLeft (length s) s
+unfolding lex
+lex-left s = refl
+
+module _ (n : ℕ) where
+  pub left-none : tokensLeft n [] ≡ got []
+  unfolding tokensIn
+  left-none = refl
+
+  module _ (c : ℕ) (s : List ℕ) where
+    pub left-space : isSpace c ≡ true → tokensLeft n (c ∷ s) ≡ tokensLeft n s
+    unfolding tokensIn tokensStep
+    left-space h = rw h
+
+    pub left-refused : {f : Refusal} → isSpace c ≡ false → tokenAt c s ≡ refused f → tokensLeft n (c ∷ s) ≡ refused f
+    unfolding tokensIn tokensStep
+    left-refused h e = simp (h, e)
+
+    pub left-token : {k : ℕ} {t r : List ℕ} → isSpace c ≡ false → tokenAt c s ≡ got (lexed k t r)
+        → tokensLeft n (c ∷ s) ≡ onRead (λ ts. record { kind = k; text = t; place = n - length (c ∷ s) } ∷ ts) (tokensLeft n r)
+    unfolding tokensIn tokensStep tokenThen
+    left-token {k} {t} {r} h e = simp (h, e) (ap (onRead _) (tokens-enough n (length s) (length r) r (token-shorter c s h e) (omega arith)))
+
+-- ---- where tokens stand
+
+-- tokens of a text of n bytes, in the order of their places, from p on; each takes a byte at least, and as many as its text has
+pub data Placed (n : ℕ) : ℕ → List Token → Type 0 where
+  none : (p : ℕ) → p ≤ n → Placed n p []
+  one : (p q : ℕ) (t : Token) {ts : List Token} → p ≤ t .place → t .place < q → t .place + length (t .text) ≤ q → 1 ≤ t .kind → t .kind ≤ 12
+      → Placed n q ts → Placed n p (t ∷ ts)
+
+sooner : {n p : ℕ} (q : ℕ) {ts : List Token} → q ≤ p → Placed n p ts → Placed n q ts
+sooner q h (none p l) = none q (omega arith)
+sooner q h (one p r t l m k a b more) = one q r t (omega arith) m k a b more
+
+placed-token : (n m : ℕ) (more : List ℕ → Read (List Token)) → suc m ≤ n → ((s : List ℕ) → length s ≤ m → Holds (Placed n (n - length s)) (more s))
+    → (l : Lexed) → Used m l → Holds (Placed n (n - suc m)) (tokenThen (n - suc m) more l)
+unfolding tokenThen
+placed-token n m more h f (lexed k t r) u =
+    let p = n - suc m in
+    holds-on (Placed n (n - length r)) (Placed n p) (λ ts. record { kind = k; text = t; place = p } ∷ ts)
+    (λ ts placed. one p (n - length r) (record { kind = k; text = t; place = p }) (omega arith) (omega arith) (omega arith) (u .2) (u .3) placed) (more r) (f r (u .0))
+
+placed-in : (n k : ℕ) (s : List ℕ) → length s ≤ n → Holds (Placed n (n - length s)) (tokensIn n k s)
+unfolding tokensIn tokensStep
+placed-in n zero s h = none (n - length s) (omega arith)
+placed-in n (suc k) [] h = none (n - length {A = ℕ} []) (omega arith)
+placed-in n (suc k) (c ∷ s) h =
+    let p = n - length (c ∷ s) in
+    let P = Placed n p in
+    let more : List ℕ → Read (List Token) = λ t. tokensIn n k t in
+    holds-cond P (isSpace c) _ _
+    (λ _. holds-each (Placed n (n - length s)) P (λ ts. sooner p (omega arith)) (tokensIn n k s) (placed-in n k s (omega arith)))
+    (λ w. holds-then (Used (length s)) P _ (placed-token n (length s) more h (λ t l. placed-in n k t (omega arith))) (tokenAt c s) (token-used c s w))
+
+-- the tokens of a text
+pub lex-placed : (s : List ℕ) {ts : List Token} → lex s ≡ got ts → Placed (length s) 0 ts
+unfolding lex
+lex-placed s e = sooner 0 (omega arith) (holds-of (Placed (length s) (length s - length s)) (lex s) (placed-in (length s) (length s) s (omega arith)) e)
+
+-- the place of the token at i, and the text's length n past the last
+abbrev pub placeOf : ℕ → List Token → ℕ → ℕ
+placeOf n ts i = getD ts i (record { kind = endKind; text = []; place = n }) .place
+
+-- what is known of the token at i: it ends before the next begins, its text is no longer than that, and its kind is one of the twelve
+pub record Standing (n : ℕ) (ts : List Token) (i : ℕ) : Type 0 where
+  pub before-next : tokenOf ts i .place < placeOf n ts (suc i)
+  pub text-within : tokenOf ts i .place + length (tokenOf ts i .text) ≤ placeOf n ts (suc i)
+  pub within : placeOf n ts (suc i) ≤ n
+  pub kind-least : 1 ≤ tokenOf ts i .kind
+  pub kind-most : tokenOf ts i .kind ≤ 12
+
+module _ {n : ℕ} where
+  pub placed-few : {p : ℕ} {ts : List Token} → Placed n p ts → p + length ts ≤ n
+  placed-few (none p h) = omega arith
+  placed-few (one p q t l m k a b more) = omega (arith, placed-few more)
+
+  pub placed-first : {p : ℕ} {ts : List Token} → Placed n p ts → p ≤ placeOf n ts 0
+  placed-first (none p h) = h
+  placed-first (one p q t l m k a b more) = l
+
+  placed-end : {p : ℕ} {ts : List Token} → Placed n p ts → (i : ℕ) → placeOf n ts i ≤ n
+  placed-end (none p h) i = omega arith
+  placed-end (one p q t l m k a b more) zero = omega (arith, placed-few more)
+  placed-end (one p q t l m k a b more) (suc i) = placed-end more i
+
+  pub placed-at : {p : ℕ} {ts : List Token} → Placed n p ts → (i : ℕ) → i < length ts → Standing n ts i
+  placed-at (none p h) i l = absurd (omega arith)
+  placed-at (one p q t l m k a b more) zero h =
+      let f = placed-first more in
+      record { before-next = omega arith; text-within = omega arith; within = placed-end more 0; kind-least = a; kind-most = b }
+  placed-at (one p q t l m k a b more) (suc i) h =
+      let s = placed-at more i (omega arith) in
+      record {
+        before-next = s .before-next;
+        text-within = s .text-within;
+        within = s .within;
+        kind-least = s .kind-least;
+        kind-most = s .kind-most;
+      }
+
+-- of a text
+module _ (s : List ℕ) {ts : List Token} (e : lex s ≡ got ts) where
+  pub lex-few : length ts ≤ length s
+  lex-few = omega (arith, placed-few (lex-placed s e))
+
+  pub lex-standing : (i : ℕ) → i < length ts → Standing (length s) ts i
+  lex-standing i h = placed-at (lex-placed s e) i h
