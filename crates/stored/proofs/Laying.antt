@@ -167,13 +167,20 @@ laid-inside out a n k s h fits =
 
 -- ---- writers one after the other
 
--- a part is its header and its body
-pub part-of : (t : ℕ) (b : List ℕ) → header t (length b) ++ b ≡ part t b
-part-of t b = refl
+-- s and t behind it, laid by two writers
+pub put-then : {out out₁ out₂ : List ℕ} {at p q : ℕ} {s t : List ℕ} → Put out at s p out₁ → Put out₁ p t q out₂
+    → at + length s + length t ≤ length out → Put out at (s ++ t) q out₂
+put-then {out} {at = at} {p = p} {s = s} {t = t} P Q fits = record {
+  place = Q .place ∙ omega (arith, P .place, length-append s t);
+  bytes = Q .bytes ∙ ap (λ (l : List ℕ). laid l p t) (P .bytes) ∙ ap (λ (k : ℕ). laid (laid out at s) k t) (P .place) ∙ laid-more out at s t fits;
+}
 
-module _ {out out₁ out₂ : List ℕ} {at p q : ℕ} {s t : List ℕ} where
-  pub put-then : Put out at s p out₁ → Put out₁ p t q out₂ → at + length s + length t ≤ length out → Put out at (s ++ t) q out₂
-  put-then P Q fits = record {
-    place = Q .place ∙ omega (arith, P .place, length-append s t);
-    bytes = Q .bytes ∙ ap (λ (l : List ℕ). laid l p t) (P .bytes) ∙ ap (λ (k : ℕ). laid (laid out at s) k t) (P .place) ∙ laid-more out at s t fits;
-  }
+-- a header and the body that it states
+pub put-body : {out out₁ out₂ : List ℕ} {at n p q t : ℕ} {b : List ℕ} → Put out at (header t n) p out₁ → Put out₁ p b q out₂
+    → n ≡ length b → at + 3 + length b ≤ length out → Put out at (part t b) q out₂
+put-body P Q e fits = rw e at (put-then P Q fits)
+
+-- a stretch that was lent from a to e, and came back as ys, which is s
+pub put-lent : (out ys : List ℕ) {s : List ℕ} (a e : ℕ) → ys ≡ s → a ≤ e → e ≤ length out → length ys ≡ e - a
+    → Put out a s e (take a out ++ (ys ++ drop (e - a) (drop a out)))
+put-lent out ys a e f h k l = rw (← f) (record { place = omega arith; bytes = lent out ys a e h k l })

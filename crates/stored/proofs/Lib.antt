@@ -1,2 +1,5 @@
+pub mod Delivering
 pub mod Joining
 pub mod Laying
+pub mod Lister
+pub mod Reader

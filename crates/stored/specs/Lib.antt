@@ -1,1 +1,4 @@
 pub mod Laid
+pub mod List
+pub mod Read
+pub mod Write

@@ -1,4 +1,7 @@
 // The stored form of queries and of catalogue lists: what code reads and writes of it, proved equal to the definitions of `rules`.
 pub mod big;
 pub mod bytes;
+pub mod list;
 pub mod part;
+pub mod read;
+pub mod write;
