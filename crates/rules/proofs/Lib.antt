@@ -21,3 +21,8 @@ pub mod Classes
 pub mod Pieces
 pub mod Tokens
 pub mod Tokenizing
+pub mod NearestOrder
+pub mod NearestPattern
+pub mod NearestMiddle
+pub mod NearestRound
+pub mod Nearest

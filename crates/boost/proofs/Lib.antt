@@ -1,0 +1,16 @@
+pub mod Model
+pub mod Widen
+pub mod Shift
+pub mod Narrow
+pub mod Nans
+pub mod Limbs
+pub mod Tens
+pub mod Rises
+pub mod Halves
+pub mod Runs
+pub mod Scales
+pub mod Once
+pub mod Grammar
+pub mod Wholes
+pub mod Words
+pub mod Fills

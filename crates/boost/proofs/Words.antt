@@ -1,0 +1,187 @@
+-- What the proofs of the functions on words and signs cite. Assumes nothing.
+use mathlib.Core.Path.{_≡_, refl, sym, ap, _∙_, subst}
+use mathlib.Core.List.{List, [], _∷_}
+use mathlib.Core.Bool.{Bool, true, false, not, _&&_, _||_, cond}
+use Prim.Native.Nat.{ℕ, suc, _+_, _-_, _≤_, _<_}
+use native.Mathlib.Nat.{le-trans, le-of-eq}
+use native.Mathlib.Omega.{arith}
+use lib.ListN.{length, take, drop, getD, length-drop, drop-of-length-le}
+use lib.Seq.{take-all}
+use lib.Dec.{leb, eqb, le→leb, lit<}
+use lib.Arith.{lt→nleb}
+use lib.Ieee.Bits.{is-true, is-false}
+use Rattle.rules.specs.Numbers.{longNumeral, need}
+use Rattle.rules.specs.Bytes.{ascii, same, isEmpty}
+use Rattle.rules.specs.Analysis.{lower, lowercase, front, after}
+use Rattle.rules.specs.Numerals.{bad, infinite, notNumber, infinity, isDigit, digitsOn, isMinus, afterSign, afterDigits, afterWhole, unsigned, signed, bitsOf, numeralBits}
+use Rattle.boost.specs.declared.numeral.Answer.{Answer}
+use Rattle.boost.specs.declared.numeral.Answer.the-variants.{Refused, Bits}
+use Rattle.boost.specs.Numeral.{answerOf}
+use Rattle.boost.proofs.Runs.{digit-high}
+use Rattle.boost.proofs.Grammar.{eq-yes, eq-no, carry, refuses, cons-at, Sign}
+use Rattle.boost.proofs.Wholes.{Case}
+
+-- ---- `small_letter`
+by-two : (b : ℕ) (x y : Bool) → leb 65 b ≡ x → leb b 90 ≡ y → lower b ≡ cond (x && y) (b + 32) b
+by-two b x y p q = ap (λ (z : Bool). cond (z && leb b 90) (b + 32) b) p ∙ ap (λ (z : Bool). cond (x && z) (b + 32) b) q
+
+pub lower-low : (b : ℕ) → b < 65 → b ≡ lower b
+lower-low b h = sym (by-two b false (leb b 90) (is-false (leb 65 b) (lt→nleb 65 b h)) refl)
+
+pub lower-high : (b : ℕ) → 65 ≤ b → 90 < b → b ≡ lower b
+lower-high b g h = sym (by-two b true false (is-true (leb 65 b) (le→leb 65 b g)) (is-false (leb b 90) (lt→nleb b 90 h)))
+
+pub lower-mid : (b : ℕ) → 65 ≤ b → b ≤ 90 → b + 32 ≡ lower b
+lower-mid b g h = sym (by-two b true true (is-true (leb 65 b) (le→leb 65 b g)) (is-true (leb b 90) (le→leb b 90 h)))
+
+-- ---- `is_word`
+same-length : (l w : List ℕ) → (length l ≡ length w → ⊥) → same (lowercase l) w ≡ false
+unfolding same
+same-length [] [] n = absurd (n refl)
+same-length [] (b ∷ w) n = refl
+same-length (a ∷ l) [] n = refl
+same-length (a ∷ l) (b ∷ w) n = ap (λ (x : Bool). eqb (lower a) b && x) (same-length l w (λ e. n (ap suc e))) ∙ no (eqb (lower a) b)
+  where
+    no : (x : Bool) → (x && false) ≡ false
+    no true = refl
+    no false = refl
+
+same-cons : (a b : ℕ) (l w : List ℕ) (x : Bool) → eqb (lower a) b ≡ x → same (lowercase (a ∷ l)) (b ∷ w) ≡ (x && same (lowercase l) w)
+unfolding same
+same-cons a b l w x e = ap (λ (y : Bool). y && same (lowercase l) w) e
+
+same-nil : same (lowercase []) [] ≡ true
+unfolding same
+same-nil = refl
+
+pub other-length : (s w : List ℕ) → (length s ≡ length w → ⊥) → false ≡ same (lowercase s) w
+other-length s w n = sym (same-length s w n)
+
+pub record Matching (s w : List ℕ) (i : ℕ) : Type 0 where
+  pub count : length s ≡ length w
+  pub within : i ≤ length w
+  pub is : same (lowercase s) w ≡ same (lowercase (drop i s)) (drop i w)
+
+pub match-first : (s w : List ℕ) → length s ≡ length w → Matching s w 0
+match-first s w e = record { count = e; within = le (length w); is = refl }
+  where
+    le : (n : ℕ) → 0 ≤ n
+    le n = omega arith
+
+module _ (s w : List ℕ) (i : ℕ) (g : Matching s w i) (l : i < length w) where
+  both : same (lowercase s) w ≡ same (lowercase (getD s i 0 ∷ drop (i + 1) s)) (getD w i 0 ∷ drop (i + 1) w)
+  both =
+      g .is
+      ∙ ap (λ (x : List ℕ). same (lowercase x) (drop i w)) (cons-at s i (subst (λ (n : ℕ). i < n) (sym (g .count)) l))
+      ∙ ap (same (lowercase (getD s i 0 ∷ drop (i + 1) s))) (cons-at w i l)
+
+  pub match-no : (x : ℕ) → x ≡ lower (getD s i 0) → (x ≡ getD w i 0 → ⊥) → false ≡ same (lowercase s) w
+  match-no x e n = sym (both ∙ same-cons (getD s i 0) (getD w i 0) (drop (i + 1) s) (drop (i + 1) w) false (eq-no (lower (getD s i 0)) (getD w i 0) (λ f. n (e ∙ f))))
+
+  pub match-next : (x : ℕ) → x ≡ lower (getD s i 0) → x ≡ getD w i 0 → Matching s w (i + 1)
+  match-next x e f = record {
+    count = g .count;
+    within = le i (length w) l;
+    is = both ∙ same-cons (getD s i 0) (getD w i 0) (drop (i + 1) s) (drop (i + 1) w) true (eq-yes (lower (getD s i 0)) (getD w i 0) (sym e ∙ f));
+  }
+    where
+      le : (i m : ℕ) → i < m → i + 1 ≤ m
+      le i m h = omega arith
+
+pub match-done : (s w : List ℕ) (i : ℕ) → Matching s w i → length w ≤ i → true ≡ same (lowercase s) w
+match-done s w i g h =
+    sym (g .is ∙ ap (λ (x : List ℕ). same (lowercase x) (drop i w)) (drop-of-length-le s (le-trans (le-of-eq (g .count)) h)) ∙ ap (same (lowercase [])) (drop-of-length-le w h) ∙ same-nil)
+
+-- ---- the words
+abbrev pub w-inf : List ℕ
+w-inf = 105 ∷ 110 ∷ 102 ∷ []
+
+abbrev pub w-infinity : List ℕ
+w-infinity = 105 ∷ 110 ∷ 102 ∷ 105 ∷ 110 ∷ 105 ∷ 116 ∷ 121 ∷ []
+
+abbrev pub w-nan : List ℕ
+w-nan = 110 ∷ 97 ∷ 110 ∷ []
+
+by-words : (s : List ℕ) (x y z : Bool) → same (lowercase s) w-inf ≡ x → same (lowercase s) w-infinity ≡ y → same (lowercase s) w-nan ≡ z → unsigned s ≡ cond (x || y) infinite (cond z notNumber (Case s))
+unfolding unsigned ascii
+by-words s x y z p q r =
+    ap (λ (b : Bool). cond (b || same (lowercase s) w-infinity) infinite (cond (same (lowercase s) w-nan) notNumber (Case s))) p
+    ∙ ap (λ (b : Bool). cond (x || b) infinite (cond (same (lowercase s) w-nan) notNumber (Case s))) q
+    ∙ ap (λ (b : Bool). cond (x || y) infinite (cond b notNumber (Case s))) r
+
+pub word-inf : (m : Bool) (s : List ℕ) (r : Answer) → true ≡ same (lowercase s) w-inf → r ≡ Bits (signed m infinity) → r ≡ answerOf (bitsOf m (unsigned s))
+word-inf m s r e w = carry m (unsigned s) infinite r (by-words s true (same (lowercase s) w-infinity) (same (lowercase s) w-nan) (sym e) refl refl) w
+
+pub word-infinity : (m : Bool) (s : List ℕ) (r : Answer) → false ≡ same (lowercase s) w-inf → true ≡ same (lowercase s) w-infinity → r ≡ Bits (signed m infinity) → r ≡ answerOf (bitsOf m (unsigned s))
+word-infinity m s r e f w = carry m (unsigned s) infinite r (by-words s false true (same (lowercase s) w-nan) (sym e) (sym f) refl) w
+
+pub word-nan : (m : Bool) (s : List ℕ) → false ≡ same (lowercase s) w-inf → false ≡ same (lowercase s) w-infinity → true ≡ same (lowercase s) w-nan → Bits 0x7fc0_0000 ≡ answerOf (bitsOf m (unsigned s))
+word-nan m s e f g = carry m (unsigned s) notNumber (Bits 0x7fc0_0000) (by-words s false false true (sym e) (sym f) (sym g)) refl
+
+-- a text that begins with neither digit nor point is no number
+case-bad : (c : ℕ) (s : List ℕ) → 57 < c → Case (c ∷ s) ≡ bad
+unfolding front after afterWhole
+case-bad c s h =
+    ap (λ (b : Bool). afterWhole (not (isEmpty (cond b (c ∷ front isDigit s) []))) (digitsOn 0 (cond b (c ∷ front isDigit s) [])) (cond b (after isDigit s) (c ∷ s))) (digit-high c h)
+    ∙ ap (λ (b : Bool). cond b (cond (not (isEmpty (front isDigit s))) (afterDigits (digitsOn (digitsOn 0 []) (front isDigit s)) (length (front isDigit s)) (after isDigit s)) bad) bad) (eq-no c 0x2e (no c h))
+  where
+    no : (c : ℕ) → 57 < c → c ≡ 0x2e → ⊥
+    no c h e = omega arith
+
+pub word-none : (m : Bool) (s : List ℕ) → 57 < getD s 0 0 → false ≡ same (lowercase s) w-inf → false ≡ same (lowercase s) w-infinity → false ≡ same (lowercase s) w-nan → Refused 13 ≡ answerOf (bitsOf m (unsigned s))
+word-none m [] h e f g = let z : ⊥ = omega arith in absurd z
+word-none m (c ∷ s) h e f g = refuses m (unsigned (c ∷ s)) (by-words (c ∷ s) false false false (sym e) (sym f) (sym g) ∙ case-bad c s h)
+
+-- one that begins with a byte to 57 is no word
+no-word : (c b : ℕ) (s w : List ℕ) → c ≤ 57 → 57 < b → same (lowercase (c ∷ s)) (b ∷ w) ≡ false
+no-word c b s w h k = same-cons c b s w false (eq-no (lower c) b (λ e. no c b (lower-low c (up c h) ∙ e) h k))
+  where
+    up : (c : ℕ) → c ≤ 57 → c < 65
+    up c h = omega arith
+
+    no : (c b : ℕ) → c ≡ b → c ≤ 57 → 57 < b → ⊥
+    no c b e h k = omega arith
+
+pub digit-first : (s : List ℕ) → 0 < length s → getD s 0 0 ≤ 57 → unsigned s ≡ Case s
+digit-first [] h k = let z : ⊥ = omega arith in absurd z
+digit-first (c ∷ s) h k =
+    by-words (c ∷ s) false false false
+    (no-word c 105 s (110 ∷ 102 ∷ []) k (lit< tt))
+    (no-word c 105 s (110 ∷ 102 ∷ 105 ∷ 110 ∷ 105 ∷ 116 ∷ 121 ∷ []) k (lit< tt))
+    (no-word c 110 s (97 ∷ 110 ∷ []) k (lit< tt))
+
+pub nothing : (m : Bool) (s : List ℕ) → length s ≤ 0 → Refused 13 ≡ answerOf (bitsOf m (unsigned s))
+unfolding unsigned front after afterWhole same ascii
+nothing m s h = refuses m (unsigned s) (ap unsigned (drop-of-length-le s h))
+
+-- ---- the whole text
+module _ (s : List ℕ) where
+  fits : length s ≤ 40 → numeralBits s ≡ bitsOf (isMinus s) (unsigned (afterSign s))
+  unfolding numeralBits
+  fits h = ap (λ (b : Bool). need b longNumeral (bitsOf (isMinus s) (unsigned (afterSign s)))) (is-true (leb (length s) 40) (le→leb (length s) 40 h))
+
+  pub too-long : 40 < length s → Refused 17 ≡ answerOf (numeralBits s)
+  unfolding numeralBits
+  too-long h = sym (ap (λ (b : Bool). answerOf (need b longNumeral (bitsOf (isMinus s) (unsigned (afterSign s))))) (is-false (leb (length s) 40) (lt→nleb (length s) 40 h)))
+
+  pub by-sign : (m : Bool) (rest : List ℕ) (r : Answer) → length s ≤ 40 → Sign s m rest → r ≡ answerOf (bitsOf m (unsigned rest)) → r ≡ answerOf (numeralBits s)
+  by-sign m rest r h g w =
+      w ∙ sym (ap answerOf (fits h) ∙ ap (λ (b : Bool). answerOf (bitsOf b (unsigned (afterSign s)))) (g .minus) ∙ ap (λ (l : List ℕ). answerOf (bitsOf m (unsigned l))) (g .left))
+
+  pub empty : length s ≡ 0 → Refused 13 ≡ answerOf (numeralBits s)
+  empty e =
+      nothing false [] (zero-le 0)
+      ∙ sym (ap answerOf (fits (le (length s) e)) ∙ ap (λ (l : List ℕ). answerOf (bitsOf (isMinus l) (unsigned (afterSign l)))) (drop-of-length-le s (none (length s) e)))
+    where
+      le : (n : ℕ) → n ≡ 0 → n ≤ 40
+      le n e = omega arith
+
+      none : (n : ℕ) → n ≡ 0 → n ≤ 0
+      none n e = omega arith
+
+      zero-le : (n : ℕ) → 0 ≤ n
+      zero-le n = omega arith
+
+  -- what is lent after the sign
+  pub lent : (m : Bool) → Sign s m (drop 1 s) → Sign s m (take (length s - 1) (drop 1 s))
+  lent m g = record { minus = g .minus; left = g .left ∙ sym (take-all (length s - 1) (drop 1 s) (le-of-eq (length-drop 1 s))) }

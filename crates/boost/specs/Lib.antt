@@ -1,0 +1,6 @@
+pub mod Bits
+pub mod Row
+pub mod Bisect
+pub mod Digits
+pub mod Decimal
+pub mod Numeral

@@ -1,0 +1,38 @@
+// The short way, for a number below 2^24 and a power of ten below 10^8: both are exact 32-bit floats, so that one division or one product, rounded
+// once, is the nearest pattern.
+ghost use mathlib.Core.Path.{_≡_};
+ghost use Prim.Native.Nat.{_*_, _^_, _<_};
+ghost use Rattle.rules.specs.Numerals.{nearest};
+ghost use Rattle.boost.specs.Digits.{shortMost};
+
+const TENS: [u32; 8] = [1, 10, 100, 1000, 10000, 100000, 1000000, 10000000];
+
+fn ten(n: u32) -> u32
+    requires { ⌜ n < 8 ⌝ }
+    ensures { λ r. ⌜ r ≡ 10 ^ n ⌝ }
+{
+    let k = n as usize;
+    TENS[k]
+}
+
+// The pattern nearest to d / 10^n.
+pub fn quotient(d: u32, n: u32) -> u32
+    requires { ⌜ d < shortMost ⌝ }
+    requires { ⌜ n < 8 ⌝ }
+    ensures { λ r. ⌜ r ≡ nearest d (10 ^ n) ⌝ }
+{
+    let t = ten(n);
+    let q = (d as f32) / (t as f32);
+    f32::to_bits(q)
+}
+
+// The pattern nearest to d * 10^n.
+pub fn multiple(d: u32, n: u32) -> u32
+    requires { ⌜ d < shortMost ⌝ }
+    requires { ⌜ n < 8 ⌝ }
+    ensures { λ r. ⌜ r ≡ nearest (d * 10 ^ n) 1 ⌝ }
+{
+    let t = ten(n);
+    let p = (d as f32) * (t as f32);
+    f32::to_bits(p)
+}

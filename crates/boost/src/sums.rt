@@ -1,0 +1,67 @@
+// A nested boost is one 32-bit product. A sum of boosts runs in 64 bits, in clause order, and is rounded once to 32.
+// A boost comes as its pattern, and each function tests for a NaN before it makes a float of it or a pattern of a float, where a NaN has no one value.
+ghost use mathlib.Core.Path.{_≡_};
+ghost use Prim.Native.Nat.{_<_};
+ghost use Rattle.rules.specs.Floats.{widened, narrowed, plus, times, isOne};
+
+// One 32-bit product, by the patterns. A NaN gives the one NaN.
+pub fn product(a: u32, b: u32) -> u32
+    ensures { λ r. ⌜ r ≡ times a b ⌝ }
+{
+    if 0x7f80_0000 < a % 0x8000_0000 {
+        return 0x7fc0_0000;
+    }
+    if 0x7f80_0000 < b % 0x8000_0000 {
+        return 0x7fc0_0000;
+    }
+    let p = f32::from_bits(a) * f32::from_bits(b);
+    if p != p {
+        return 0x7fc0_0000;
+    }
+    f32::to_bits(p)
+}
+
+// The boost b as the first of a sum.
+pub fn as_sum(b: u32) -> f64
+    ensures { λ r. ⌜ r ≡ widened b ⌝ }
+{
+    let w = crate::bits::widen(b);
+    if 0x7ff0_0000_0000_0000 < w % 0x8000_0000_0000_0000 {
+        return 0.0 / 0.0;
+    }
+    f64::from_bits(w)
+}
+
+// The boost b is added to a sum.
+pub fn add(sum: f64, b: u32) -> f64
+    ensures { λ r. ⌜ r ≡ plus sum (widened b) ⌝ }
+{
+    sum + as_sum(b)
+}
+
+// The boost nearest to a sum.
+pub fn rounded_bits(sum: f64) -> u32
+    ensures { λ r. ⌜ r ≡ narrowed sum ⌝ }
+{
+    if sum != sum {
+        return 0x7fc0_0000;
+    }
+    crate::bits::narrow(f64::to_bits(sum))
+}
+
+// Is the sum 1?
+pub fn is_one(sum: f64) -> bool
+    ensures { λ r. ⌜ r ≡ isOne sum ⌝ }
+{
+    sum == 1.0
+}
+
+// Is the boost b 1?
+pub fn is_one_bits(b: u32) -> bool
+    ensures { λ r. ⌜ r ≡ isOne (widened b) ⌝ }
+{
+    if 0x7f80_0000 < b % 0x8000_0000 {
+        return false;
+    }
+    f32::from_bits(b) == 1.0
+}
