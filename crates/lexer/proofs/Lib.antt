@@ -1,0 +1,5 @@
+pub mod Rows
+mod Words
+mod Unescaped
+mod Starts
+pub mod Turns

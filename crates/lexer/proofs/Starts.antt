@@ -1,0 +1,191 @@
+-- One token, by the byte that it begins with: the definition's cases, in the order in which code tests them.
+use mathlib.Core.Path.{_≡_, refl, sym, ap, subst, _∙_}
+use Prim.Native.Nat.{ℕ, suc, _+_, _-_, _≤_, _<_}
+use mathlib.Core.List.{List, [], _∷_}
+use mathlib.Core.Bool.{Bool, true, false, not, cond}
+use native.Mathlib.Omega.{arith}
+use native.Mathlib.Decide.{decLt}
+use native.Mathlib.Nat.{add-zero, add-sub-cancel-left}
+use native.Mathlib.Numerals.{add-one}
+use lib.ListN.{length, getD, take, drop, List·getD-eq-default}
+use lib.Seq.{drop-cons, drop-drop, getD-drop}
+use lib.Dec.{eqb}
+use borrow.Author.Tests.{eq-eqb, ne-eqb}
+use Rattle.rules.specs.Numbers.{Refusal, number, rangeBracket, wildcard, Read, got, refused, andThen, onRead}
+use Rattle.rules.specs.Bytes.{ascii, some}
+use Rattle.rules.specs.Lexing.{Piece, piece, Lexed, lexed, endKind, termKind, quotedKind, andKind, orKind, isQuote, isBracket, isWildcard, termText, quotedText, wordKind, wordLexed, termEnd, quotedEnd, termFrom, quotedFrom, signKind, doubled, tokenAt}
+use Rattle.rules.proofs.Bools.{clash, and-no-r}
+use Rattle.lexer.specs.Texts.{Reads}
+use Rattle.lexer.specs.declared.texts.Ended.{Ended}
+use Rattle.lexer.specs.declared.texts.Ended.the-variants.{At}
+use Rattle.lexer.specs.declared.texts.Ended.the-variants as ended
+use Rattle.lexer.specs.Tokens.{Makes, doubleKind, badStart}
+use Rattle.lexer.specs.declared.tokens.Step.{Step}
+use Rattle.lexer.specs.declared.tokens.Step.the-variants.{Refused, Token}
+
+-- ---- which token begins with c
+
+module _ (c : ℕ) (s : List ℕ) where
+  pub starts-sign : (signKind c ≡ 0 → ⊥) → tokenAt c s ≡ got (lexed (signKind c) [] s)
+  unfolding tokenAt
+  starts-sign n = rw (ne-eqb (signKind c) 0 n)
+
+  module _ (sign : signKind c ≡ 0) where
+    pub starts-double : (doubleKind c (getD s 0 0) ≡ 0 → ⊥) → tokenAt c s ≡ got (lexed (doubleKind c (getD s 0 0)) [] (drop 1 s))
+    unfolding tokenAt doubleKind
+    starts-double n = rw (eq-eqb (signKind c) 0 sign) (pick (doubled 0x26 c s) (doubled 0x7c c s) _ n)
+      where
+        pick : (x y : Bool) (o : Read Lexed) → (cond x andKind (cond y orKind endKind) ≡ 0 → ⊥)
+            → cond x (got (lexed andKind [] (drop 1 s))) (cond y (got (lexed orKind [] (drop 1 s))) o) ≡ got (lexed (cond x andKind (cond y orKind endKind)) [] (drop 1 s))
+        pick true y o n = refl
+        pick false true o n = refl
+        pick false false o n = absurd (n refl)
+
+    module _ (double : doubleKind c (getD s 0 0) ≡ 0) where
+      after-double : tokenAt c s
+          ≡ cond (isQuote c) (quotedFrom s) (cond (isBracket c) (refused rangeBracket) (cond (isWildcard c) (refused wildcard) (termFrom (c ∷ s))))
+      unfolding tokenAt doubleKind
+      after-double = rw (eq-eqb (signKind c) 0 sign) (pick (doubled 0x26 c s) (doubled 0x7c c s) _ _ _ double)
+        where
+          pick : (x y : Bool) (o p q : Read Lexed) → cond x andKind (cond y orKind endKind) ≡ 0 → cond x o (cond y p q) ≡ q
+          pick true y o p q e = absurd (omega arith)
+          pick false true o p q e = absurd (omega arith)
+          pick false false o p q e = refl
+
+      pub starts-quote : isQuote c ≡ true → tokenAt c s ≡ quotedFrom s
+      starts-quote h = after-double ∙ rw h
+
+      module _ (quote : isQuote c ≡ false) where
+        pub starts-bad : (badStart c ≡ 0 → ⊥) → (f : Refusal) × (tokenAt c s ≡ refused f) × (badStart c ≡ number f)
+        unfolding badStart
+        starts-bad n = rw (after-double, quote) (pick (isBracket c) (isWildcard c) _ n)
+          where
+            pick : (x y : Bool) (o : Read Lexed) → (cond x (number rangeBracket) (cond y (number wildcard) 0) ≡ 0 → ⊥)
+                → (f : Refusal) × (cond x (refused rangeBracket) (cond y (refused wildcard) o) ≡ refused f)
+                × (cond x (number rangeBracket) (cond y (number wildcard) 0) ≡ number f)
+            pick true y o n = (rangeBracket, refl, refl)
+            pick false true o n = (wildcard, refl, refl)
+            pick false false o n = absurd (n refl)
+
+        pub starts-term : badStart c ≡ 0 → tokenAt c s ≡ termFrom (c ∷ s)
+        unfolding badStart
+        starts-term e = after-double ∙ rw quote (pick (isBracket c) (isWildcard c) _ e)
+          where
+            pick : (x y : Bool) (o : Read Lexed) → cond x (number rangeBracket) (cond y (number wildcard) 0) ≡ 0
+                → cond x (refused rangeBracket) (cond y (refused wildcard) o) ≡ o
+            pick true y o e = absurd (omega arith)
+            pick false true o e = absurd (omega arith)
+            pick false false o e = refl
+
+double-zero : (c : ℕ) → doubleKind c 0 ≡ 0
+unfolding doubleKind
+double-zero c = rw (and-no-r (eqb c 0x26) refl, and-no-r (eqb c 0x7c) refl)
+
+-- ---- the end of a term
+
+end-wild : (t s : List ℕ) → isWildcard (getD s 0 0) ≡ true → termEnd (piece t s) ≡ refused wildcard
+unfolding termEnd ascii some
+end-wild t [] h = clash h refl
+end-wild t (c ∷ s) h = rw h
+
+end-word : (t s : List ℕ) → isWildcard (getD s 0 0) ≡ false → termEnd (piece t s) ≡ got (wordLexed t s)
+unfolding termEnd
+end-word t [] h = refl
+end-word t (c ∷ s) h = rw h
+
+-- ---- what code answers for it, where it stands in a text
+
+module _ (text : List ℕ) (at : ℕ) (room : List ℕ) where
+  -- the whole token is read from what the token's text was read as
+  made-no : {o : Read Piece} {p : Read Lexed} (r : Ended) (k : ℕ) → ((f : Refusal) → o ≡ refused f → p ≡ refused f) → r ≡ ended.Refused k
+      → Reads r o text at room → Makes (Refused k) p text at room
+  made-no {o} r k g e h =
+      let i : Reads (ended.Refused k) o text at room = subst (λ (x : Ended). Reads x o text at room) e h in
+      (i .0, g (i .0) (i .1), i .2)
+
+  -- ---- a quote
+
+  module _ (s : List ℕ) (r : Ended) (h : Reads r (quotedText s) text at room) where
+    pub quoted-no : (k : ℕ) → r ≡ ended.Refused k → Makes (Refused k) (quotedFrom s) text at room
+    unfolding quotedFrom
+    quoted-no k e = made-no r k (λ f l. rw l) e h
+
+    pub quoted-yes : (next len : ℕ) → r ≡ At next len → Makes (Token 2 len next) (quotedFrom s) text at room
+    unfolding quotedFrom
+    quoted-yes next len e =
+        let i : Reads (At next len) (quotedText s) text at room = subst (λ (x : Ended). Reads x (quotedText s) text at room) e h in
+        (rw (i .0), i .1, i .2)
+
+  -- ---- a term
+
+  module _ (s : List ℕ) (r : Ended) (h : Reads r (termText s) text at room) where
+    pub term-no : (k : ℕ) → r ≡ ended.Refused k → Makes (Refused k) (termFrom s) text at room
+    unfolding termFrom
+    term-no k e = made-no r k (λ f l. rw l) e h
+
+    module _ (next len : ℕ) (e : r ≡ At next len) where
+      term-at : Reads (At next len) (termText s) text at room
+      term-at = subst (λ (x : Ended). Reads x (termText s) text at room) e h
+
+      pub term-fits : (next ≤ length text) × (at + len ≤ next)
+      term-fits = (term-at .1, term-at .2)
+
+      pub term-wild : isWildcard (getD text next 0) ≡ true → Makes (Refused 7) (termFrom s) text at room
+      unfolding termFrom
+      term-wild w = (wildcard, rw (term-at .0) (end-wild _ (drop next text) (rw (getD-drop, add-zero) w)), refl)
+
+      pub term-yes : (k m : ℕ) → isWildcard (getD text next 0) ≡ false → k ≡ wordKind (take (at + len - at) (drop at room)) → m ≡ cond (eqb k termKind) len 0
+          → Makes (Token k m next) (termFrom s) text at room
+      unfolding termFrom
+      term-yes k m w f g =
+          let u = take len (drop at room) in
+          let l : m ≤ len = rw g (less (eqb k termKind)) in
+          let i = term-at .2 in
+          let n : k ≡ wordKind u = rw add-sub-cancel-left at f in
+          (rw (term-at .0) (end-word u (drop next text) (rw (getD-drop, add-zero) w) ∙ rw (← n, kept (eqb k termKind) g)), term-at .1, omega arith)
+        where
+          kept : (b : Bool) → m ≡ cond b len 0 → cond b (take len (drop at room)) [] ≡ take m (drop at room)
+          kept true g = rw g
+          kept false g = rw g
+
+          less : (b : Bool) → cond b len 0 ≤ len
+          less true = omega arith
+          less false = omega arith
+
+  -- ---- a token
+
+  module _ (h : at < length text) where
+    pub made-sign : (k : ℕ) → k ≡ signKind (getD text at 0) → (k ≡ 0 → ⊥) → Makes (Token k 0 (at + 1)) (tokenAt (getD text at 0) (drop (at + 1) text)) text at room
+    made-sign k e n = (starts-sign (getD text at 0) (drop (at + 1) text) (rw e at n) ∙ rw (← e), omega arith, omega arith)
+
+    module _ (sign : signKind (getD text at 0) ≡ 0) where
+      pub made-double : (k : ℕ) → k ≡ doubleKind (getD text at 0) (getD text (at + 1) 0) → (k ≡ 0 → ⊥)
+          → Makes (Token k 0 (at + 2)) (tokenAt (getD text at 0) (drop (at + 1) text)) text at room
+      made-double k e n =
+          let d : getD (drop (at + 1) text) 0 0 ≡ getD text (at + 1) 0 = getD-drop (at + 1) text 0 0 ∙ rw add-zero in
+          let j : at + 1 < length text = more (decLt (at + 1) (length text)) in
+          let two : at + 1 + 1 ≡ at + 2 = omega arith in
+          (starts-double (getD text at 0) (drop (at + 1) text) sign (λ z. n (e ∙ rw d at z)) ∙ rw (d, ← e, drop-drop, two), omega arith, omega arith)
+        where
+          more : Dec (at + 1 < length text) → at + 1 < length text
+          more (yes l) = l
+          more (no l) =
+              let z : getD text (at + 1) 0 ≡ 0 = List·getD-eq-default text 0 (omega arith) in
+              absurd (n (e ∙ rw z (double-zero (getD text at 0))))
+
+      module _ (double : doubleKind (getD text at 0) (getD text (at + 1) 0) ≡ 0) where
+        none : doubleKind (getD text at 0) (getD (drop (at + 1) text) 0 0) ≡ 0
+        none = rw (getD-drop, add-zero) double
+
+        pub made-quoted : isQuote (getD text at 0) ≡ true → (r : Step) → Makes r (quotedFrom (drop (at + 1) text)) text at room
+            → Makes r (tokenAt (getD text at 0) (drop (at + 1) text)) text at room
+        made-quoted q r m = rw (starts-quote (getD text at 0) (drop (at + 1) text) sign none q) m
+
+        module _ (quote : isQuote (getD text at 0) ≡ false) where
+          pub made-bad : (k : ℕ) → k ≡ badStart (getD text at 0) → (k ≡ 0 → ⊥) → Makes (Refused k) (tokenAt (getD text at 0) (drop (at + 1) text)) text at room
+          made-bad k e n = rw e (starts-bad (getD text at 0) (drop (at + 1) text) sign none quote (rw e at n))
+
+          pub made-term : badStart (getD text at 0) ≡ 0 → (r : Step) → Makes r (termFrom (drop at text)) text at room
+              → Makes r (tokenAt (getD text at 0) (drop (at + 1) text)) text at room
+          made-term b r m =
+              rw (starts-term (getD text at 0) (drop (at + 1) text) sign none quote b, add-one, ← drop-cons text at 0 h) m

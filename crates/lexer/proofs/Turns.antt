@@ -1,0 +1,137 @@
+-- The whole text, a turn at a time: the tokens in the row, and what is still to be read. And what a caller learns of the answer.
+use mathlib.Core.Path.{_≡_, refl, sym, ap, subst, _∙_}
+use Prim.Native.Nat.{ℕ, zero, suc, _+_, _-_, _≤_, _<_}
+use mathlib.Core.List.{List, [], _∷_, _++_, append-nil, append-assoc}
+use mathlib.Core.Bool.{Bool, true, false}
+use native.Mathlib.Omega.{arith}
+use native.Mathlib.Numerals.{add-one}
+use lib.ListN.{length, getD, take, drop, length-drop, drop-of-length-le}
+use lib.Seq.{drop-cons}
+use Rattle.rules.specs.Numbers.{Refusal, number, textMost, Read, got, refused, onRead}
+use Rattle.rules.specs.Analysis.{isSpace, classes}
+use Rattle.rules.specs.Lexing.{Token, Lexed, lexed, lex}
+use Rattle.rules.specs.Lexing as lexing
+use Rattle.rules.proofs.Tokenizing.{tokensLeft, lex-left, left-none, left-space, left-refused, left-token, token-shorter}
+use Rattle.analysis.specs.Classes.{spaceIn}
+use Rattle.analysis.proofs.Tables.{space-is}
+use Rattle.lexer.specs.Row.{roomLeast, entryAt, entry, tokensOf, LaidBelow, Laid}
+use Rattle.lexer.specs.Texts.{Kept}
+use Rattle.lexer.specs.Tokens.{Makes}
+use Rattle.lexer.specs.declared.tokens.Step.{Step}
+use Rattle.lexer.specs.declared.tokens.Step.the-variants as step
+use Rattle.lexer.specs.Lexing.{answerOf, Row}
+use Rattle.lexer.specs.declared.Lexed.the-variants.{Refused, Tokens}
+use Rattle.lexer.proofs.Rows.{length-tokens, read-tokens, read-laid, put-tokens, put-laid}
+
+-- what the table tells of a byte
+pub told-space : {t : List ℕ} {r b : Bool} (c : ℕ) → r ≡ spaceIn t c → t ≡ classes → r ≡ b → isSpace c ≡ b
+told-space c e f g = sym (e ∙ ap (λ (t : List ℕ). spaceIn t c) f ∙ space-is c) ∙ g
+
+-- ---- the loop
+
+-- n tokens stand in the room, and the text is read on at i
+pub record Lexing (text room₀ room : List ℕ) (i n : ℕ) : Type 0 where
+  pub within : i ≤ length text
+  pub few : n ≤ i
+  pub as-long : length room ≡ length room₀
+  pub laid : LaidBelow i room n
+  pub whole : lex text ≡ onRead (λ ts. tokensOf room n ++ ts) (tokensLeft (length text) (drop i text))
+
+joined-none : (r : Read (List Token)) → r ≡ onRead (λ ts. [] ++ ts) r
+joined-none (got ts) = refl
+joined-none (refused f) = refl
+
+joined-more : (us : List Token) (t : Token) (r : Read (List Token))
+    → onRead (λ ts. us ++ ts) (onRead (λ ts. t ∷ ts) r) ≡ onRead (λ ts. (us ++ (t ∷ [])) ++ ts) r
+joined-more us t (got ts) = ap (λ (l : List Token). got l) (sym (append-assoc us (t ∷ []) ts))
+joined-more us t (refused f) = refl
+
+module _ (text : List ℕ) where
+  pub lexing-none : (room : List ℕ) → Lexing text room room 0 0
+  unfolding tokensOf
+  lexing-none room = record {
+    within = omega arith;
+    few = omega arith;
+    as-long = refl;
+    laid = λ i h. absurd (omega arith);
+    whole = lex-left text ∙ joined-none (tokensLeft (length text) text);
+  }
+
+  module _ {room₀ room : List ℕ} {i n : ℕ} (r : Lexing text room₀ room i n) where
+    module _ (h : i < length text) where
+      here : drop i text ≡ getD text i 0 ∷ drop (i + 1) text
+      here = rw add-one (drop-cons text i 0 h)
+
+      pub lexing-space : isSpace (getD text i 0) ≡ true → Lexing text room₀ room (i + 1) n
+      lexing-space s = record {
+        within = omega arith;
+        few = let f = r .few in omega arith;
+        as-long = r .as-long;
+        laid = λ j l. let b = r .laid j l in omega arith;
+        whole = r .whole ∙ ap (onRead _) (ap (tokensLeft (length text)) here ∙ left-space (length text) (getD text i 0) (drop (i + 1) text) s);
+      }
+
+      -- what is read at i is a token
+      module _ (s : isSpace (getD text i 0) ≡ false) (room₁ : List ℕ) (q : Step)
+          (m : Makes q (lexing.tokenAt (getD text i 0) (drop (i + 1) text)) text i room₁) where
+        pub lexing-refused : (k : ℕ) → q ≡ step.Refused k → (Refused k ≡ answerOf (lex text)) × Row (lex text) room₁
+        lexing-refused k e =
+            let (f, o, j) = subst (λ (x : Step). Makes x (lexing.tokenAt (getD text i 0) (drop (i + 1) text)) text i room₁) e m in
+            let p = ap (tokensLeft (length text)) here ∙ left-refused (length text) (getD text i 0) (drop (i + 1) text) s o in
+            let w : lex text ≡ refused f = r .whole ∙ rw p in
+            rw w (ap Refused j, tt)
+
+        module _ (k len next : ℕ) (e : q ≡ step.Token k len next) where
+          made : Makes (step.Token k len next) (lexing.tokenAt (getD text i 0) (drop (i + 1) text)) text i room₁
+          made = subst (λ (x : Step). Makes x (lexing.tokenAt (getD text i 0) (drop (i + 1) text)) text i room₁) e m
+
+          -- it ends behind i, and its text with it
+          pub ends-behind : (i < next) × (next ≤ length text) × (i + len ≤ next)
+          ends-behind =
+              let l = token-shorter (getD text i 0) (drop (i + 1) text) s (made .0) in
+              let n = made .1 in
+              (omega (arith, simp length-drop at l), n, made .2)
+
+          pub lexing-token : length text ≤ textMost → roomLeast ≤ length room₀ → length room₁ ≡ length room → Kept i room room₁ → (room₂ : List ℕ)
+              → length room₂ ≡ length room₁ → room₂ ≡ take (entryAt n) room₁ ++ (entry k i i len ++ drop (entryAt n + 8) room₁) → Lexing text room₀ room₂ next (n + 1)
+          lexing-token short long l₁ kept room₂ l₂ e₂ =
+              let f = r .few in
+              let l = r .as-long in
+              let (after, within, behind) = ends-behind in
+              let kept-laid = read-laid i n room room₁ kept (r .laid) in
+              let most : Laid room₁ n = λ j o. let b = kept-laid j o in omega arith in
+              let token : Token = record { kind = k; text = take len (drop i room₁); place = i } in
+              let place : length text - length (getD text i 0 ∷ drop (i + 1) text) ≡ i = omega (arith, length-drop (i + 1) text) in
+              let rest : tokensLeft (length text) (drop i text) ≡ onRead (λ ts. token ∷ ts) (tokensLeft (length text) (drop next text)) =
+              ap (tokensLeft (length text)) here ∙ rw place at (left-token (length text) (getD text i 0) (drop (i + 1) text) s (made .0)) in
+              let tokens = put-tokens k i i len n room₁ room₂ (omega arith) (omega arith) e₂ (omega arith) most in
+              record {
+                within = within;
+                few = omega arith;
+                as-long = l₂ ∙ l₁ ∙ l;
+                laid = put-laid k i i len n room₁ room₂ (omega arith) (omega arith) e₂ i next behind (omega arith) kept-laid;
+                whole =
+                    r .whole
+                    ∙ rw rest (joined-more (tokensOf room n) token (tokensLeft (length text) (drop next text)) ∙ rw (tokens, read-tokens i n room room₁ kept (r .laid)));
+              }
+
+    pub lexing-over : length text ≤ i → length text ≤ textMost → (Tokens n ≡ answerOf (lex text)) × Row (lex text) room
+    lexing-over h short =
+        let w : lex text ≡ got (tokensOf room n) =
+        r .whole ∙ rw (drop-of-length-le text h, left-none (length text)) (ap (λ (ts : List Token). got ts) (append-nil (tokensOf room n))) in
+        let l = r .within in
+        rw w (rw length-tokens (refl, (refl, λ j o. let b = r .laid j o in omega arith)))
+
+-- ---- what a caller learns
+
+-- that the row is read back whole, from the answer's own count
+pub tokens-told : (o : Read (List Token)) (room : List ℕ) (n : ℕ) → Tokens n ≡ answerOf o → Row o room → (o ≡ got (tokensOf room n)) × Laid room n
+tokens-told (got ts) room n e row =
+    let l : length ts ≡ n = cc in
+    let k : tokensOf room n ≡ ts = rw l at (row .0) in
+    (ap (λ (us : List Token). got us) (sym k), rw l at (row .1))
+tokens-told (refused f) room n e row = absurd (let z : _≡_ {A = ℕ} 0 1 = cc in omega arith)
+
+pub refused-told : (o : Read (List Token)) (k : ℕ) → Refused k ≡ answerOf o → (f : Refusal) × (o ≡ refused f) × (k ≡ number f)
+refused-told (got ts) k e = absurd (let z : _≡_ {A = ℕ} 0 1 = cc in omega arith)
+refused-told (refused f) k e = (f, refl, cc)

@@ -1,0 +1,153 @@
+-- A term or a quote, a byte at a time: what has been unescaped into the room, and what is still to be read.
+use mathlib.Core.Path.{_≡_, refl, sym, ap, _∙_}
+use mathlib.Core.Logic.{⊎-elim}
+use Prim.Native.Nat.{ℕ, zero, suc, _+_, _-_, _≤_, _<_}
+use mathlib.Core.List.{List, [], _∷_, _++_, append-assoc, append-nil}
+use mathlib.Core.Bool.{Bool, true, false, cond}
+use native.Mathlib.Omega.{arith}
+use native.Mathlib.Nat.{add-zero}
+use native.Mathlib.Numerals.{add-one}
+use lib.ListN.{length, getD, take, drop, set, length-set, length-drop, drop-of-length-le}
+use lib.Seq.{drop-cons, drop-set-add, take-suc-set, take-set-le, drop-set-lt}
+use Rattle.rules.specs.Numbers.{Refusal, number, openQuote, nothingEscaped, textMost, Read, got, refused, onRead}
+use Rattle.rules.specs.Lexing.{Piece, piece, onText, before, isQuote, isBackslash, termText, quotedText}
+use Rattle.rules.specs.Analysis.{endsTerm, classes}
+use Rattle.rules.proofs.Bools.{split}
+use Rattle.rules.proofs.Tokenizing.{Unescaping, term-stop, quoted-stop}
+use Rattle.analysis.specs.Classes.{endIn}
+use Rattle.analysis.proofs.Tables.{end-is}
+use Rattle.lexer.specs.Row.{roomLeast}
+use Rattle.lexer.specs.Texts.{Kept, Reads}
+use Rattle.lexer.specs.declared.texts.Ended.{Ended}
+use Rattle.lexer.specs.declared.texts.Ended.the-variants.{Refused, At}
+
+-- ---- what was read before goes in front
+
+abbrev pub onFront : List ℕ → Piece → Piece
+onFront u (piece t s) = piece (u ++ t) s
+
+front-none : (r : Read Piece) → onRead (onFront []) r ≡ r
+front-none (got (piece t s)) = refl
+front-none (refused f) = refl
+
+front-more : (u : List ℕ) (c : ℕ) (r : Read Piece) → onRead (onFront u) (before c r) ≡ onRead (onFront (u ++ (c ∷ []))) r
+unfolding before
+front-more u c (got (piece t s)) = ap (λ (l : List ℕ). got (piece l s)) (sym (append-assoc u (c ∷ []) t))
+front-more u c (refused f) = refl
+
+-- ---- one byte more
+
+module _ (F : List ℕ → Read Piece) (stop : ℕ → Bool) (U : Unescaping F stop) (text : List ℕ) (i j : ℕ) (h : i < length text)
+    (go : stop (getD text i 0) ≡ false) (e : j ≡ i + cond (isBackslash (getD text i 0)) 1 0) where
+  pub next-byte : j < length text → F (drop i text) ≡ before (getD text j 0) (F (drop (j + 1) text))
+  next-byte l = ⊎-elim escaped plain (split (isBackslash (getD text i 0)))
+    where
+      escaped : isBackslash (getD text i 0) ≡ true → F (drop i text) ≡ before (getD text j 0) (F (drop (j + 1) text))
+      escaped b =
+          let k : suc i ≡ j = sym (e ∙ rw b (add-one i)) in
+          rw (drop-cons text i 0 h, k, drop-cons text j 0 l, add-one) (U .escaped (getD text i 0) (getD text j 0) (drop (suc j) text) go b)
+
+      plain : isBackslash (getD text i 0) ≡ false → F (drop i text) ≡ before (getD text j 0) (F (drop (j + 1) text))
+      plain b =
+          let k : j ≡ i = e ∙ rw b (add-zero i) in
+          rw (k, add-one, drop-cons text i 0 h) (U .plain (getD text i 0) (drop (suc i) text) go b)
+
+  pub no-byte : length text ≤ j → F (drop i text) ≡ refused nothingEscaped
+  no-byte l = ⊎-elim escaped plain (split (isBackslash (getD text i 0)))
+    where
+      escaped : isBackslash (getD text i 0) ≡ true → F (drop i text) ≡ refused nothingEscaped
+      escaped b =
+          let k : j ≡ suc i = e ∙ rw b (add-one i) in
+          let n : length text ≤ suc i = omega arith in
+          rw (drop-cons text i 0 h, drop-of-length-le text n) (U .dangling (getD text i 0) go b)
+
+      plain : isBackslash (getD text i 0) ≡ false → F (drop i text) ≡ refused nothingEscaped
+      plain b = absurd (let k : j ≡ i + 0 = e ∙ rw b in omega arith)
+
+-- ---- a turn of the loop
+
+-- the bytes from `at` on of the room hold what was read; the text was begun at `from`, and is read on at i
+pub record Reading (F : List ℕ → Read Piece) (text : List ℕ) (from at : ℕ) (room₀ room : List ℕ) (i len : ℕ) : Type 0 where
+  pub within : i ≤ length text
+  pub behind : at + len ≤ i
+  pub as-long : length room ≡ length room₀
+  pub kept : Kept at room₀ room
+  pub whole : F (drop from text) ≡ onRead (onFront (take len (drop at room))) (F (drop i text))
+
+module _ (F : List ℕ → Read Piece) (text : List ℕ) (from at : ℕ) where
+  pub reading-none : (room : List ℕ) → at ≤ from → from ≤ length text → Reading F text from at room room from 0
+  reading-none room h k = record {
+    within = k;
+    behind = omega arith;
+    as-long = refl;
+    kept = record { front = refl; row = refl };
+    whole = sym (front-none (F (drop from text)));
+  }
+
+  module _ {room₀ room : List ℕ} {i len : ℕ} (r : Reading F text from at room₀ room i len) where
+    pub reading-more : (v k : ℕ) → F (drop i text) ≡ before v (F (drop k text)) → i < k → k ≤ length text → length text ≤ textMost → textMost ≤ length room
+        → Reading F text from at room₀ (set room (at + len) v) k (len + 1)
+    reading-more v k e h l m n =
+        let b = r .behind in
+        let o : len < length (drop at room) = rw length-drop (omega arith) in
+        let p : take (len + 1) (drop at (set room (at + len) v)) ≡ take len (drop at room) ++ (v ∷ []) =
+        rw (add-one, drop-set-add at room len v) (take-suc-set (drop at room) len v o) in
+        record {
+          within = l;
+          behind = omega arith;
+          as-long = length-set room (at + len) v ∙ r .as-long;
+          kept = record {
+            front = take-set-le at room (at + len) v (omega arith) ∙ r .kept .front;
+            row = drop-set-lt textMost room (at + len) v (omega arith) ∙ r .kept .row;
+          };
+          whole = r .whole ∙ rw (e, p) (front-more (take len (drop at room)) v (F (drop k text)));
+        }
+
+    -- the text ends before k
+    pub reading-at : (k : ℕ) → F (drop i text) ≡ got (piece [] (drop k text)) → i ≤ k → k ≤ length text
+        → Kept at room₀ room × Reads (At k len) (F (drop from text)) text at room
+    reading-at k e h l =
+        let b = r .behind in
+        let u = take len (drop at room) in
+        (r .kept, (r .whole ∙ rw e (ap (λ (t : List ℕ). got (piece t (drop k text))) (append-nil u)), l, omega arith))
+
+    pub reading-fault : (f : Refusal) → F (drop i text) ≡ refused f → Kept at room₀ room × Reads (Refused (number f)) (F (drop from text)) text at room
+    reading-fault f e = (r .kept, (f, r .whole ∙ rw e, refl))
+
+    -- a byte is read that does not end it
+    module _ (stop : ℕ → Bool) (U : Unescaping F stop) (x : ℕ) (h : i < length text) (go : stop (getD text i 0) ≡ false)
+        (e : x ≡ cond (isBackslash (getD text i 0)) 1 0) where
+      pub reading-turn : i + x < length text → length text ≤ textMost → roomLeast ≤ length room₀
+          → Reading F text from at room₀ (set room (at + len) (getD text (i + x) 0)) (i + x + 1) (len + 1)
+      reading-turn l m n =
+          let a = r .as-long in
+          reading-more (getD text (i + x) 0) (i + x + 1) (next-byte F stop U text i (i + x) h go (ap (λ (y : ℕ). i + y) e) l)
+          (omega arith) (omega arith) m (omega arith)
+
+      pub reading-dangling : length text ≤ i + x → Kept at room₀ room × Reads (Refused 5) (F (drop from text)) text at room
+      reading-dangling l = reading-fault nothingEscaped (no-byte F stop U text i (i + x) h go (ap (λ (y : ℕ). i + y) e) l)
+
+-- ---- the ends of both
+
+pub escape-most : (b : Bool) → cond b 1 0 ≤ 1
+escape-most true = omega arith
+escape-most false = omega arith
+
+-- what the table tells of a byte
+pub told-end : {t : List ℕ} {r b : Bool} (c : ℕ) → r ≡ endIn t c → t ≡ classes → r ≡ b → endsTerm c ≡ b
+told-end c e f g = sym (e ∙ ap (λ (t : List ℕ). endIn t c) f ∙ end-is c) ∙ g
+
+module _ (text : List ℕ) (i : ℕ) where
+  pub term-ends : i < length text → endsTerm (getD text i 0) ≡ true → termText (drop i text) ≡ got (piece [] (drop i text))
+  term-ends h e = rw (drop-cons text i 0 h) (term-stop (getD text i 0) (drop (suc i) text) e)
+
+  pub term-over : length text ≤ i → termText (drop i text) ≡ got (piece [] (drop i text))
+  unfolding termText
+  term-over h = rw (drop-of-length-le text h)
+
+  pub quote-ends : i < length text → isQuote (getD text i 0) ≡ true → quotedText (drop i text) ≡ got (piece [] (drop (i + 1) text))
+  quote-ends h e = rw (drop-cons text i 0 h, add-one) (quoted-stop (getD text i 0) (drop (suc i) text) e)
+
+  pub quote-over : length text ≤ i → quotedText (drop i text) ≡ refused openQuote
+  unfolding quotedText
+  quote-over h = rw (drop-of-length-le text h)

@@ -1,0 +1,4 @@
+pub mod Row
+pub mod Texts
+pub mod Tokens
+pub mod Lexing

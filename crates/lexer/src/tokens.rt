@@ -1,0 +1,194 @@
+// One token: what begins with a byte that is no whitespace.
+ghost use mathlib.Core.Path.{_≡_};
+ghost use mathlib.Core.Bool.{false, cond, _&&_};
+ghost use mathlib.Core.List.{_∷_, []};
+ghost use Prim.Native.Nat.{_+_, _≤_, _<_};
+ghost use lib.ListN.{length, drop, getD};
+ghost use lib.Dec.{eqb};
+ghost use Rattle.rules.specs.Numbers.{textMost};
+ghost use Rattle.rules.specs.Analysis.{classes};
+ghost use Rattle.rules.specs.Lexing.{termKind, signKind, isWildcard, wordKind, termFrom, quotedFrom, tokenAt};
+ghost use Rattle.lexer.specs.Row.{roomLeast};
+ghost use Rattle.lexer.specs.Texts.{Kept};
+ghost use Rattle.lexer.specs.Tokens.{Makes, doubleKind, badStart};
+use crate::texts;
+use crate::texts::Ended;
+
+// A token: its kind, how many bytes its text has in the room from its place on, and where it ended in the input.
+pub enum Step {
+    Refused(u8),
+    Token { kind: u8, len: usize, next: usize },
+}
+
+// The byte at i, and 0 past the last.
+fn peek(text: &[u8], i: usize) -> u8
+    ensures { λ r. ⌜ r ≡ getD (now (text .entry)) i 0 ⌝ }
+{
+    if i < text.len() { text[i] } else { 0 }
+}
+
+// The kind of a token that is one byte; 0: none.
+fn sign_kind(c: u8) -> u8
+    ensures { λ r. ⌜ r ≡ signKind c ⌝ }
+{
+    match c {
+        0x2b => 4,
+        0x2d => 5,
+        0x21 => 6,
+        0x28 => 9,
+        0x29 => 10,
+        0x3a => 3,
+        0x5e => 11,
+        0x7e => 12,
+        _ => 0,
+    }
+}
+
+// `&&` and `||`; 0: neither.
+fn double_kind(c: u8, d: u8) -> u8
+    ensures { λ r. ⌜ r ≡ doubleKind c d ⌝ }
+{
+    if c == 0x26 {
+        if d == 0x26 { 7 } else { 0 }
+    } else if c == 0x7c {
+        if d == 0x7c { 8 } else { 0 }
+    } else {
+        0
+    }
+}
+
+// The refusal of a byte that may begin no token; 0: it may.
+fn bad_start(c: u8) -> u8
+    ensures { λ r. ⌜ r ≡ badStart c ⌝ }
+{
+    match c {
+        0x5b => 6,
+        0x5d => 6,
+        0x7b => 6,
+        0x7d => 6,
+        0x2a => 7,
+        0x3f => 7,
+        _ => 0,
+    }
+}
+
+fn is_wildcard(c: u8) -> bool
+    ensures { λ r. ⌜ r ≡ isWildcard c ⌝ }
+{
+    match c {
+        0x2a => true,
+        0x3f => true,
+        _ => false,
+    }
+}
+
+// AND and NOT.
+fn long_word(a: u8, b: u8, c: u8) -> u8
+    ensures { λ r. ⌜ r ≡ wordKind (a ∷ b ∷ c ∷ []) ⌝ }
+{
+    match a as u32 * 65536 + b as u32 * 256 + c as u32 {
+        0x414e44 => 7,
+        0x4e4f54 => 6,
+        _ => 1,
+    }
+}
+
+// OR.
+fn short_word(a: u8, b: u8) -> u8
+    ensures { λ r. ⌜ r ≡ wordKind (a ∷ b ∷ []) ⌝ }
+{
+    match a as u32 * 256 + b as u32 {
+        0x4f52 => 8,
+        _ => 1,
+    }
+}
+
+// The kind of a finished unescaped text.
+fn word_kind(word: &[u8]) -> u8
+    ensures { λ r. ⌜ r ≡ wordKind (now (word .entry)) ⌝ }
+{
+    if word.len() == 3 {
+        return long_word(word[0], word[1], word[2]);
+    }
+    if word.len() == 2 {
+        return short_word(word[0], word[1]);
+    }
+    1
+}
+
+// The text of an operator is not kept.
+fn kept_len(kind: u8, len: usize) -> usize
+    ensures { λ r. ⌜ r ≡ cond (eqb kind termKind) len 0 ⌝ }
+{
+    if kind == 1 { len } else { 0 }
+}
+
+fn term_at(table: &[u8; 128], text: &[u8], at: usize, room: &mut [u8]) -> Step
+    requires { ⌜ (at ≤ length (now text)) × (length (now text) ≤ textMost) × (roomLeast ≤ length (now room)) × (now table ≡ classes) ⌝ }
+    ensures kept { λ r. ⌜ Kept at (now (room .entry)) (now (room .exit)) ⌝ }
+    ensures makes { λ r. ⌜ Makes r (termFrom (drop at (now (text .entry)))) (now (text .entry)) at (now (room .exit)) ⌝ }
+{
+    match texts::read_term(table, text, at, room) {
+        Ended::Refused(f) => Step::Refused(f),
+        Ended::At { next, len } => {
+            if is_wildcard(peek(text, next)) {
+                return Step::Refused(7);
+            }
+            let end = at + len;
+            let kind = word_kind(&room[at..end]);
+            Step::Token {
+                kind: kind,
+                len: kept_len(kind, len),
+                next: next,
+            }
+        }
+    }
+}
+
+fn quoted_at(text: &[u8], at: usize, room: &mut [u8]) -> Step
+    requires { ⌜ (at < length (now text)) × (length (now text) ≤ textMost) × (roomLeast ≤ length (now room)) ⌝ }
+    ensures kept { λ r. ⌜ Kept at (now (room .entry)) (now (room .exit)) ⌝ }
+    ensures makes { λ r. ⌜ Makes r (quotedFrom (drop (at + 1) (now (text .entry)))) (now (text .entry)) at (now (room .exit)) ⌝ }
+{
+    match texts::read_quoted(text, at, room) {
+        Ended::Refused(f) => Step::Refused(f),
+        Ended::At { next, len } => Step::Token {
+            kind: 2,
+            len: len,
+            next: next,
+        },
+    }
+}
+
+// The token that begins at `at`; its text goes into the room from there on.
+pub fn token_at(table: &[u8; 128], text: &[u8], at: usize, room: &mut [u8]) -> Step
+    requires { ⌜ (at < length (now text)) × (length (now text) ≤ textMost) × (roomLeast ≤ length (now room)) × (now table ≡ classes) ⌝ }
+    ensures kept { λ r. ⌜ Kept at (now (room .entry)) (now (room .exit)) ⌝ }
+    ensures makes { λ r. ⌜ Makes r (tokenAt (getD (now (text .entry)) at 0) (drop (at + 1) (now (text .entry)))) (now (text .entry)) at (now (room .exit)) ⌝ }
+{
+    let c = text[at];
+    let sign = sign_kind(c);
+    if sign != 0 {
+        return Step::Token {
+            kind: sign,
+            len: 0,
+            next: at + 1,
+        };
+    }
+    let double = double_kind(c, peek(text, at + 1));
+    if double != 0 {
+        return Step::Token {
+            kind: double,
+            len: 0,
+            next: at + 2,
+        };
+    }
+    if c == 0x22 {
+        return quoted_at(text, at, room);
+    }
+    let bad = bad_start(c);
+    if bad != 0 {
+        return Step::Refused(bad);
+    }
+    term_at(table, text, at, room)
+}
