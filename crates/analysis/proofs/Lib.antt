@@ -3,3 +3,5 @@ pub mod Spans
 pub mod Steps
 pub mod Chunks
 pub mod Walks
+pub mod Rows
+pub mod Only

@@ -1,13 +1,12 @@
 -- Where bytes that a test is true of end, a byte at a time. Assumes nothing.
 use mathlib.Core.Path.{_≡_, refl, sym, ap, _∙_}
 use mathlib.Core.Bool.{Bool, true, false, not, Bool·beq}
-use mathlib.Core.List.{List, [], _∷_}
-use Prim.Native.Nat.{ℕ, zero, suc, _+_, _-_, _≤_, _<_}
+use mathlib.Core.List.{List, _∷_}
+use Prim.Native.Nat.{ℕ, suc, _+_, _-_, _≤_, _<_}
 use native.Mathlib.Numerals.{add-one}
 use native.Mathlib.Omega.{arith}
 use lib.ListN.{length, getD, take, drop}
 use lib.Seq.{drop-cons}
-use Rattle.rules.specs.Analysis.{front}
 use Rattle.rules.proofs.Pieces.{front-nil, front-yes, front-no}
 use Rattle.analysis.specs.Tokens.{insideIn, asWanted, wantedIn, spanFrom}
 

@@ -1,9 +1,9 @@
 -- The first token from a place on, by the rules: no token is left, or it stands there and the others are those of what is behind it.
 -- Assumes nothing.
 use mathlib.Core.Path.{_≡_, refl, sym, ap, subst, fun-ext, _∙_}
-use mathlib.Core.Bool.{Bool, true, false, not, cond}
+use mathlib.Core.Bool.{Bool, true, false, cond}
 use mathlib.Core.List.{List, [], _∷_, _++_, append-assoc}
-use Prim.Native.Nat.{ℕ, zero, suc, _+_, _-_, _≤_, _<_}
+use Prim.Native.Nat.{ℕ, _+_, _-_, _≤_, _<_}
 use native.Mathlib.Decide.{ℕ-discrete}
 use native.Mathlib.Omega.{arith}
 use lib.ListN.{length, take, drop, length-take, length-drop, take-append-drop}
@@ -124,6 +124,10 @@ pub start-onward : (P : ℕ → Bool) (s : List ℕ) (at : ℕ) → at ≤ start
 unfolding startFrom
 start-onward P s at = omega arith
 
+start-most : (P : ℕ → Bool) (s : List ℕ) (at : ℕ) → startFrom P s at ≤ at + (length s - at)
+unfolding startFrom
+start-most P s at = omega (arith, front-most (outside P) (drop at s), length-drop at s)
+
 first-most : (a : ℕ) (r : List ℕ) → length (firstOf a r) ≤ length r
 unfolding firstOf
 first-most a r = pass (eqb a 1) (eqb a 2)
@@ -144,7 +148,7 @@ found a s at start len p z = record {
   place = p;
   size = z;
   onward = rw p (start-onward (inside a) s at);
-  within = rw (p, z) (text-most (inside a) a s at);
+  within = rw (p, z) (omega (arith, start-most (inside a) s at, text-most (inside a) a s at));
   none = λ e. steps a s at .0 (sym z ∙ e);
   one = λ h. rw p (steps a s at .1 len (sym z) h);
 }

@@ -3,12 +3,10 @@ use mathlib.Core.Path.{_≡_, refl, sym, ap, _∙_}
 use mathlib.Core.Bool.{Bool}
 use mathlib.Core.List.{List, [], _∷_}
 use Prim.Native.Nat.{ℕ, zero, suc, _+_, _-_, _≤_, _<_}
-use native.Mathlib.Numerals.{add-one}
 use native.Mathlib.Nat.{add-zero, zero-add, add-suc, suc-add}
 use native.Mathlib.Omega.{arith}
 use lib.ListN.{length, take, drop}
 use lib.Seq.{drop-nil}
-use Rattle.rules.specs.Query.{Word, word}
 use Rattle.rules.specs.Analysis.{after, tokenTexts, placedFrom, tokenize}
 use Rattle.rules.proofs.Pieces.{outside, front-of-after}
 use Rattle.analysis.specs.Tokens.{inside, startFrom, textFrom, spelled, beforeToken, Found, Nth}
@@ -71,7 +69,7 @@ module _ (a : ℕ) (s : List ℕ) (k i at start len : ℕ) (w : Reached a s k i 
       let m : k - i ≡ suc (k - (i + 1)) = omega arith in
       record {
         few = omega arith;
-        inText = omega (arith, f .within);
+        inText = omega (arith, f .within, w .inText);
         place = w .place ∙ rw (m, f .place, f .size);
         rest = w .rest ∙ rw (m, f .one h);
       }
@@ -83,6 +81,7 @@ module _ (a : ℕ) (s : List ℕ) (k i at start len : ℕ) (w : Reached a s k i 
         place = f .place ∙ sym (z .0) ∙ rw (w .place);
         size = sym (z .1) ∙ rw (w .place);
         counted = refl;
+        within = omega (arith, f .within, w .inText);
         none = λ _. placed-at a k s [] (w .rest ∙ rw (f .none e) (drop-nil (k - i))) ∙ placed-nil k;
         one = λ h. absurd (omega arith);
       }
@@ -96,6 +95,7 @@ module _ (a : ℕ) (s : List ℕ) (k i at start len : ℕ) (w : Reached a s k i 
         place = rw p (f .place);
         size = rw p (f .size);
         counted = refl;
+        within = omega (arith, f .within, w .inText);
         none = λ z. absurd (omega arith);
         one = λ _. placed-at a k s (spelled a (take len (drop start s)) ∷ tokenTexts a (drop (start + len) s)) (w .rest ∙ rw m (f .one h));
       }
@@ -112,7 +112,7 @@ none-counted a s = record { few = omega arith; inText = omega arith; sum = omega
 
 module _ (a : ℕ) (s : List ℕ) (n at start len : ℕ) (w : Counted a s n at) (f : Found a s at start len) where
   pub one-more : 0 < len → Counted a s (n + 1) (start + len)
-  one-more h = record { few = omega (arith, f .onward, w .few); inText = omega (arith, f .within); sum = omega (arith, ap length (f .one h), w .sum) }
+  one-more h = record { few = omega (arith, f .onward, w .few); inText = omega (arith, f .within, w .inText); sum = omega (arith, ap length (f .one h), w .sum) }
 
   pub all-counted : len ≡ 0 → n ≡ length (tokenTexts a s)
   all-counted e = omega (arith, ap length (f .none e), w .sum)

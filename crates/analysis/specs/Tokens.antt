@@ -59,7 +59,8 @@ pub record Found (a : ℕ) (s : List ℕ) (at start len : ℕ) : Type 0 where
   pub place : start ≡ startFrom (inside a) s at
   pub size : len ≡ length (textFrom (inside a) a s at)
   pub onward : at ≤ start
-  pub within : len ≤ length s - start
+  -- within the text, or empty at a place behind it
+  pub within : start + len ≤ at + (length s - at)
   pub none : len ≡ 0 → tokenTexts a (drop at s) ≡ []
   pub one : 0 < len → tokenTexts a (drop at s) ≡ spelled a (take len (drop start s)) ∷ tokenTexts a (drop (start + len) s)
 
@@ -81,5 +82,6 @@ pub record Nth (a : ℕ) (s : List ℕ) (k start len position : ℕ) : Type 0 wh
   pub place : start ≡ startFrom (inside a) s (beforeToken a s k 0)
   pub size : len ≡ length (textFrom (inside a) a s (beforeToken a s k 0))
   pub counted : position ≡ k
+  pub within : start + len ≤ length s
   pub none : len ≡ 0 → drop k (tokenize a s) ≡ []
   pub one : 0 < len → drop k (tokenize a s) ≡ word position (spelled a (take len (drop start s))) ∷ placedFrom (suc k) (tokenTexts a (drop (start + len) s))

@@ -4,6 +4,7 @@ ghost use mathlib.Core.Path.{_≡_};
 ghost use Prim.Native.Nat.{_≤_, _+_, _-_, min};
 ghost use mathlib.Core.Bool.{true, false};
 ghost use lib.ListN.{length};
+ghost use Rattle.rules.specs.Numbers.{chunkMost};
 ghost use Rattle.rules.specs.Analysis.{tokenTexts};
 ghost use Rattle.analysis.specs.Tokens.{insideIn, wantedIn, Span, byAnalyzer, Found, FoundIn, Nth};
 
@@ -13,7 +14,10 @@ pub const SIMPLE: u8 = 2;
 
 pub const KEYWORD: u8 = 3;
 
-// A part of a text: where it starts and how many bytes it has, 0 where there is no token.
+// A longer run of bytes is cut into tokens of so many.
+const CHUNK: usize = 255;
+
+// A part of a text: where it starts and how many bytes it has. Where there is no token it has none, and starts where the search ended.
 pub struct Token {
     pub start: usize,
     pub len: usize,
@@ -67,9 +71,13 @@ fn is_whole(analyzer: u8) -> bool
 // Where a chunk that starts at `start` ends at the latest.
 fn chunk_end(start: usize, end: usize) -> usize
     requires { ⌜ start ≤ end ⌝ }
-    ensures { λ r. ⌜ r ≡ start + min 255 (end - start) ⌝ }
+    ensures { λ r. ⌜ r ≡ start + min chunkMost (end - start) ⌝ }
 {
-    if end - start <= 255 { end } else { start + 255 }
+    if end - start <= CHUNK {
+        end
+    } else {
+        start + CHUNK
+    }
 }
 
 // The first token from `at` on, by a table of classes that the caller made once.

@@ -1,6 +1,6 @@
 -- The class table's rule, by one test over all its entries, and what each flag says. Assumes nothing.
 use mathlib.Core.Path.{_≡_, refl, sym, _∙_, subst}
-use mathlib.Core.Bool.{Bool, true, false, _&&_, _||_, and-eq-true-iff}
+use mathlib.Core.Bool.{Bool, true, false, _&&_, and-eq-true-iff}
 use mathlib.Core.List.{List, [], _∷_}
 use Prim.Native.Nat.{ℕ, zero, suc, _+_, _/_, _%_, _≤_, _<_}
 use native.Mathlib.Nat.{add-zero, zero-add, add-suc, suc-add, le-of-suc-le-suc, not-suc-le-zero}
@@ -10,7 +10,7 @@ use lib.Dec.{T, leb, ltb, eqb, eqb→eq}
 use lib.ListN.{length, getD, List·getD-eq-default}
 use borrow.Author.Tests.{lt-leb, ne-eqb, ltb-true}
 use Rattle.rules.specs.Bytes.{ascii, some, all}
-use Rattle.rules.specs.Analysis.{between, isSpace, isMark, endsTerm, isCapital, isLetter, isGap, flag, classOf, classes}
+use Rattle.rules.specs.Analysis.{between, isSpace, endsTerm, isLetter, flag, classOf, classes}
 
 -- ---- a table's rule at each entry, from a test that computes over all of them
 

@@ -103,6 +103,16 @@ impl List {
         };
         self.add(format!("{} {refusal} {bits}", hex(text.as_bytes())));
     }
+
+    /// The tokens of a text: analyzer text, and for each token position start text.
+    pub fn tokens(&mut self, analyzer: u8, text: &[u8], tokens: &[(u32, usize, String)]) {
+        let mut line = format!("{analyzer} {}", hex(text));
+        for (position, start, token) in tokens {
+            let token = hex(token.as_bytes());
+            write!(line, " {position} {start} {token}").expect("a string takes all");
+        }
+        self.add(line);
+    }
 }
 
 /// Lower-case hex, `-` for no bytes.

@@ -1,7 +1,7 @@
 //! The oracle: asks the original Rust and writes its answers as lists.
 //!
 //!     oracle check          holds the original to the statements of document 01
-//!     oracle lists FOLDER   makes the four lists in the folder
+//!     oracle lists FOLDER   makes the lists in the folder
 
 mod check;
 mod document_cases;
@@ -12,6 +12,7 @@ mod parse_cases;
 mod parse_tables;
 mod rewrite_cases;
 mod rewrite_sums;
+mod token_cases;
 
 use std::path::Path;
 
@@ -30,6 +31,7 @@ fn main() {
             rewrite_cases::list(SEED).write(folder);
             numeral_cases::list(SEED).write(folder);
             document_cases::list().write(folder);
+            token_cases::list(SEED).write(folder);
         }
         _ => {
             eprintln!("oracle check | oracle lists FOLDER");

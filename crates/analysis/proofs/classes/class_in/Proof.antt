@@ -1,22 +1,17 @@
+-- `classes::class_in` reads the table at the byte, where the byte has an entry. Assumes nothing.
 use borrow.Author.Tests.{lt-ltb, le-ltb}
-use Rattle.analysis.specs.Classes.{classIn}
-use native.Mathlib.Omega.{arith}
 use borrow.Author.Needs.{needs}
-use Rattle.analysis.proofs.classes.class_in.Statement.{statement}
+use Rattle.analysis.specs.Classes.{classIn}
 use Rattle.analysis.proofs.classes.class_in.Tie as tie
-use Rattle.analysis.proofs.classes.class_in.Reads as reads
-use Rattle.analysis.proofs.classes.class_in.Lts as lts
+use Rattle.analysis.proofs.classes.class_in.Statement.{statement}
 
--- src/classes.rt:19:18
 element-copy-out-result : tie.Need-element-copy-out-result
 element-copy-out-result c = search needs
 
--- src/classes.rt:16:1
 returns : tie.Need-returns
 unfolding classIn
 returns c = rw (lt-ltb _ _ (c .before .if1 .taken))
 
--- src/classes.rt:16:1
 returns-2 : tie.Need-returns-2
 unfolding classIn
 returns-2 c = rw (le-ltb _ _ (c .if1 .left))

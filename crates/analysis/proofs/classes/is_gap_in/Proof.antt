@@ -1,28 +1,21 @@
+-- `classes::is_gap_in` meets its contract: whitespace by the table, or 1C to 1F. Assumes nothing.
 use borrow.Author.Tests.{le-leb, lt-leb}
-use Rattle.analysis.specs.Classes.{gapIn}
-use native.Mathlib.Omega.{arith}
 use borrow.Author.Needs.{needs}
-use Rattle.analysis.proofs.classes.is_gap_in.Statement.{statement}
+use Rattle.analysis.specs.Classes.{gapIn}
 use Rattle.analysis.proofs.classes.is_gap_in.Tie as tie
-use Rattle.analysis.proofs.classes.is_gap_in.Reads as reads
-use Rattle.analysis.proofs.classes.is_gap_in.Lts as lts
-use Rattle.analysis.proofs.classes.is_space_in.Reads as is-space-in-reads
+use Rattle.analysis.proofs.classes.is_gap_in.Statement.{statement}
 
--- src/classes.rt:44:5
 is-space-in-requires : tie.Need-is-space-in-requires
 is-space-in-requires c κs = search needs
 
--- src/classes.rt:41:1
 returns : tie.Need-returns
 unfolding gapIn
 returns c = rw (← c .before .is-space-in .ensures, c .if1 .taken)
 
--- src/classes.rt:41:1
 returns-2 : tie.Need-returns-2
 unfolding gapIn
 returns-2 c = rw (← c .before .before .is-space-in .ensures, c .before .if1 .left, le-leb _ _ (c .if2 .taken))
 
--- src/classes.rt:41:1
 returns-3 : tie.Need-returns-3
 unfolding gapIn
 returns-3 c = rw (← c .before .before .is-space-in .ensures, c .before .if1 .left, lt-leb _ _ (c .if2 .left))

@@ -1,26 +1,19 @@
-use Rattle.analysis.proofs.Tables.{letter-is}
-use Rattle.analysis.specs.Classes.{letterIn}
+-- `classes::is_letter` meets its contract, by the rule of the constant table. Assumes nothing.
+use mathlib.Core.Path.{ap, _∙_}
 use mathlib.Core.List.{List}
 use Prim.Native.Nat.{ℕ}
-use mathlib.Core.Path.{ap, _∙_}
-use native.Mathlib.Omega.{arith}
 use borrow.Author.Needs.{needs}
-use Rattle.analysis.proofs.classes.is_letter.Statement.{statement}
+use Rattle.analysis.specs.Classes.{letterIn}
+use Rattle.analysis.proofs.Tables.{letter-is}
 use Rattle.analysis.proofs.classes.is_letter.Tie as tie
-use Rattle.analysis.proofs.classes.is_letter.Reads as reads
-use Rattle.analysis.proofs.classes.is_letter.Lts as lts
-use Rattle.analysis.proofs.classes.is_letter_in.Reads as is-letter-in-reads
-use Rattle.analysis.proofs.classes.table.Reads as table-reads
+use Rattle.analysis.proofs.classes.is_letter.Statement.{statement}
 
--- src/classes.rt:64:19
 table-requires : tie.Need-table-requires
 table-requires c κs = search needs
 
--- src/classes.rt:64:5
 is-letter-in-requires : tie.Need-is-letter-in-requires
 is-letter-in-requires c κs = search needs
 
--- src/classes.rt:61:1
 returns : tie.Need-returns
 returns c = c .is-letter-in .ensures ∙ ap (λ (t : List ℕ). letterIn t (c .before .before .before .args .c)) (c .before .before .table .ensures) ∙ letter-is (c .before .before .before .args .c)
 

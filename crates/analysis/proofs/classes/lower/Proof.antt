@@ -1,24 +1,18 @@
+-- `classes::lower` meets its contract: below the capitals, a capital, above them. Assumes nothing.
 use borrow.Author.Tests.{le-leb, lt-leb}
-use native.Mathlib.Omega.{arith}
 use borrow.Author.Needs.{needs}
-use Rattle.analysis.proofs.classes.lower.Statement.{statement}
 use Rattle.analysis.proofs.classes.lower.Tie as tie
-use Rattle.analysis.proofs.classes.lower.Reads as reads
-use Rattle.analysis.proofs.classes.lower.Lts as lts
+use Rattle.analysis.proofs.classes.lower.Statement.{statement}
 
--- src/classes.rt:77:9
 returns : tie.Need-returns
 returns c = rw (lt-leb _ _ (c .if1 .taken))
 
--- src/classes.rt:79:20
 add-result : tie.Need-add-result
 add-result c = search needs
 
--- src/classes.rt:73:1
 returns-2 : tie.Need-returns-2
 returns-2 c = rw (le-leb _ _ (c .before .if1 .left), le-leb _ _ (c .if2 .taken))
 
--- src/classes.rt:73:1
 returns-3 : tie.Need-returns-3
 returns-3 c = rw (le-leb _ _ (c .before .if1 .left), lt-leb _ _ (c .if2 .left))
 

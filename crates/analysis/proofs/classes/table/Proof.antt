@@ -1,13 +1,9 @@
-use Rattle.rules.specs.Analysis.{classes}
+-- `classes::table` is the table of the rules, entry by entry. Assumes nothing.
 use mathlib.Core.Path.{refl}
-use native.Mathlib.Omega.{arith}
-use borrow.Author.Needs.{needs}
-use Rattle.analysis.proofs.classes.table.Statement.{statement}
+use Rattle.rules.specs.Analysis.{classes}
 use Rattle.analysis.proofs.classes.table.Tie as tie
-use Rattle.analysis.proofs.classes.table.Reads as reads
-use Rattle.analysis.proofs.classes.table.Lts as lts
+use Rattle.analysis.proofs.classes.table.Statement.{statement}
 
--- src/classes.rt:9:1
 returns : tie.Need-returns
 unfolding classes
 returns c = refl

@@ -1,21 +1,14 @@
-use native.Mathlib.Omega.{arith}
+-- `tokens::next_token` meets its contract: what the table gives is what the rules give. Assumes nothing.
 use borrow.Author.Needs.{needs}
-use Rattle.analysis.proofs.tokens.next_token.Statement.{statement}
 use Rattle.analysis.proofs.tokens.next_token.Tie as tie
-use Rattle.analysis.proofs.tokens.next_token.Reads as reads
-use Rattle.analysis.proofs.tokens.next_token.Lts as lts
-use Rattle.analysis.proofs.classes.table.Reads as table-reads
-use Rattle.analysis.proofs.tokens.next_token_in.Reads as next-token-in-reads
+use Rattle.analysis.proofs.tokens.next_token.Statement.{statement}
 
--- src/tokens.rt:93:20
 table-requires : tie.Need-table-requires
 table-requires c κs = search needs
 
--- src/tokens.rt:93:5
 next-token-in-requires : tie.Need-next-token-in-requires
 next-token-in-requires c κs = search needs
 
--- src/tokens.rt:90:1
 returns : tie.Need-returns
 returns c = c .next-token-in .ensures .found (c .before .before .table .ensures)
 

@@ -1,14 +1,11 @@
-use Rattle.analysis.proofs.Walks.{Reached, at-first, behind-it, none-left, this-one}
-use lib.ListN.{length}
+-- `tokens::nth_token` meets its contract. The loop's invariant: the token looked for is so many tokens further on. Assumes nothing.
 use Prim.Native.Nat.{_-_}
 use native.Mathlib.Omega.{arith}
+use lib.ListN.{length}
 use borrow.Author.Needs.{needs}
-use Rattle.analysis.proofs.tokens.nth_token.Statement.{statement}
+use Rattle.analysis.proofs.Walks.{Reached, at-first, behind-it, none-left, this-one}
 use Rattle.analysis.proofs.tokens.nth_token.Tie as tie
-use Rattle.analysis.proofs.tokens.nth_token.Reads as reads
-use Rattle.analysis.proofs.tokens.nth_token.Lts as lts
-use Rattle.analysis.proofs.classes.table.Reads as table-reads
-use Rattle.analysis.proofs.tokens.next_token_in.Reads as next-token-in-reads
+use Rattle.analysis.proofs.tokens.nth_token.Statement.{statement}
 
 abbrev Inv-loop : tie.InvT-loop
 Inv-loop text analyzer k table at₀ i₀ at i = Reached analyzer text k i at
@@ -16,39 +13,30 @@ Inv-loop text analyzer k table at₀ i₀ at i = Reached analyzer text k i at
 abbrev μ-loop : tie.MeasureT-loop
 μ-loop text analyzer k table at₀ i₀ at i = length text - at
 
--- src/tokens.rt:124:17
 table-requires : tie.Need-table-requires Inv-loop μ-loop
 table-requires c κs = search needs
 
--- src/tokens.rt:127:5
 loop-holds : tie.Need-loop-holds Inv-loop μ-loop
 loop-holds c = at-first _ _ _
 
--- src/tokens.rt:128:13
 next-token-in-requires : tie.Need-next-token-in-requires Inv-loop μ-loop
 next-token-in-requires c κs = search needs
 
--- src/tokens.rt:130:13
 returns : tie.Need-returns Inv-loop μ-loop
 returns c = none-left _ _ _ _ _ _ _ (c .before .before .before .before .loop .inv) (c .before .before .next-token-in .ensures .found (c .before .before .before .before .before .table .ensures)) (c .if1 .taken)
 
--- src/tokens.rt:137:13
 returns-2 : tie.Need-returns-2 Inv-loop μ-loop
 returns-2 c = this-one _ _ _ _ _ _ _ (c .before .before .before .before .before .loop .inv) (c .before .before .before .next-token-in .ensures .found (c .before .before .before .before .before .before .table .ensures)) (omega arith) (c .if2 .taken)
 
--- src/tokens.rt:143:14
 add-at : tie.Need-add-at Inv-loop μ-loop
 add-at c = let f = c .before .before .before .before .next-token-in .ensures .found (c .before .before .before .before .before .before .before .table .ensures) in omega (arith, f .within, c .before .before .before .before .before .before .loop .inv .inText)
 
--- src/tokens.rt:144:9
 add-i : tie.Need-add-i Inv-loop μ-loop
 add-i c = omega (arith, c .before .before .before .before .before .before .loop .inv .few)
 
--- src/tokens.rt:127:5
 loop-less : tie.Need-loop-less Inv-loop μ-loop
 loop-less c = let f = c .before .before .before .before .next-token-in .ensures .found (c .before .before .before .before .before .before .before .table .ensures) in omega (arith, f .within, f .onward)
 
--- src/tokens.rt:127:5
 loop-again : tie.Need-loop-again Inv-loop μ-loop
 loop-again c = behind-it _ _ _ _ _ _ _ (c .before .before .before .before .before .before .loop .inv) (c .before .before .before .before .next-token-in .ensures .found (c .before .before .before .before .before .before .before .table .ensures)) (omega arith) (omega (arith, c .before .before .before .before .before .before .loop .inv .few))
 

@@ -1,14 +1,11 @@
-use Rattle.analysis.proofs.Walks.{Counted, none-counted, one-more, all-counted}
-use lib.ListN.{length}
+-- `tokens::token_count` meets its contract. The loop's invariant: the tokens passed and those left make all. Assumes nothing.
 use Prim.Native.Nat.{_-_}
 use native.Mathlib.Omega.{arith}
+use lib.ListN.{length}
 use borrow.Author.Needs.{needs}
-use Rattle.analysis.proofs.tokens.token_count.Statement.{statement}
+use Rattle.analysis.proofs.Walks.{Counted, none-counted, one-more, all-counted}
 use Rattle.analysis.proofs.tokens.token_count.Tie as tie
-use Rattle.analysis.proofs.tokens.token_count.Reads as reads
-use Rattle.analysis.proofs.tokens.token_count.Lts as lts
-use Rattle.analysis.proofs.classes.table.Reads as table-reads
-use Rattle.analysis.proofs.tokens.next_token_in.Reads as next-token-in-reads
+use Rattle.analysis.proofs.tokens.token_count.Statement.{statement}
 
 abbrev Inv-loop : tie.InvT-loop
 Inv-loop text analyzer table n₀ at₀ n at = Counted analyzer text n at
@@ -16,35 +13,27 @@ Inv-loop text analyzer table n₀ at₀ n at = Counted analyzer text n at
 abbrev μ-loop : tie.MeasureT-loop
 μ-loop text analyzer table n₀ at₀ n at = length text - at
 
--- src/tokens.rt:107:17
 table-requires : tie.Need-table-requires Inv-loop μ-loop
 table-requires c κs = search needs
 
--- src/tokens.rt:110:5
 loop-holds : tie.Need-loop-holds Inv-loop μ-loop
 loop-holds c = none-counted _ _
 
--- src/tokens.rt:111:13
 next-token-in-requires : tie.Need-next-token-in-requires Inv-loop μ-loop
 next-token-in-requires c κs = search needs
 
--- src/tokens.rt:113:13
 returns : tie.Need-returns Inv-loop μ-loop
 returns c = all-counted _ _ _ _ _ _ (c .before .before .before .before .loop .inv) (c .before .before .next-token-in .ensures .found (c .before .before .before .before .before .table .ensures)) (c .if1 .taken)
 
--- src/tokens.rt:115:14
 add-at : tie.Need-add-at Inv-loop μ-loop
 add-at c = let f = c .before .before .before .next-token-in .ensures .found (c .before .before .before .before .before .before .table .ensures) in omega (arith, f .within, c .before .before .before .before .before .loop .inv .inText)
 
--- src/tokens.rt:116:9
 add-n : tie.Need-add-n Inv-loop μ-loop
 add-n c = omega (arith, c .before .before .before .before .before .loop .inv .few, c .before .before .before .before .before .loop .inv .inText)
 
--- src/tokens.rt:110:5
 loop-less : tie.Need-loop-less Inv-loop μ-loop
 loop-less c = let f = c .before .before .before .next-token-in .ensures .found (c .before .before .before .before .before .before .table .ensures) in omega (arith, f .within, f .onward)
 
--- src/tokens.rt:110:5
 loop-again : tie.Need-loop-again Inv-loop μ-loop
 loop-again c = one-more _ _ _ _ _ _ (c .before .before .before .before .before .loop .inv) (c .before .before .before .next-token-in .ensures .found (c .before .before .before .before .before .before .table .ensures)) (omega arith)
 
