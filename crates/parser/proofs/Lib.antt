@@ -1,0 +1,10 @@
+pub mod Deciding
+pub mod Tallying
+pub mod Keeping
+pub mod Rows
+pub mod Bodies
+pub mod Steps
+pub mod Writing
+pub mod Fronts
+pub mod Filling
+pub mod Placing

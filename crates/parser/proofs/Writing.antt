@@ -1,0 +1,246 @@
+-- Terms and phrases written: a token's text as it is spelled, a term, a row of clauses or of words, and the query that they make.
+-- Assumes nothing.
+use mathlib.Core.Path.{_≡_, refl, sym, ap, subst, _∙_}
+use mathlib.Core.Bool.{Bool, true, false, cond}
+use Prim.Native.Nat.{ℕ, zero, suc, _+_, _-_, _*_, _≤_, _<_}
+use mathlib.Core.List.{List, [], _∷_, _++_, append-assoc, append-nil, cons-ne-nil}
+use native.Mathlib.Omega.{arith}
+use native.Mathlib.Numerals.{add-one}
+use lib.Dec.{eqb}
+use lib.ListN.{length, take, drop, getD, set, length-append, length-drop}
+use lib.Seq.{paste, length-take-le}
+use Rattle.rules.specs.Numbers.{wordTag}
+use Rattle.rules.specs.Bytes.{big, part}
+use Rattle.rules.specs.Analysis.{tokenTexts, placedFrom, tokenize, lower, lowercase}
+use Rattle.rules.specs.Query.{Kind, Word, word, Query, term, phrase, boolean, Clauses}
+use Rattle.rules.specs.Stored.{encode, encodes, encodeWords, kindTag}
+use Rattle.rules.specs.Parsing.{Made, made, nothing, operatorKind, termClauses, termOf, phraseOf}
+use Rattle.rules.proofs.Bigs.{length-big}
+use Rattle.rules.proofs.Sizes.{length-term, length-phrase, length-boolean}
+use Rattle.analysis.specs.Tokens.{Found, spelled}
+use Rattle.stored.specs.Laid.{laid, Put, header}
+use Rattle.stored.proofs.Laying.{laid-none, laid-all, put-then, put-body, copy-turn, copy-end}
+use Rattle.parser.specs.Kinds.{madeBytes, madeLength}
+use Rattle.parser.specs.Leaves.{termRow, spellOf}
+use Rattle.parser.proofs.Tallying.{spelled-length}
+
+-- ---- spelling
+
+spelled-by : (b : Bool) (s : List ℕ) (k : ℕ) → k < length s → cond b (lower (getD s k 0)) (getD s k 0) ≡ getD (cond b (lowercase s) s) k 0
+spelled-by true [] k h = absurd (omega arith)
+spelled-by true (c ∷ s) zero h = refl
+spelled-by true (c ∷ s) (suc k) h = spelled-by true s k (omega arith)
+spelled-by false s k h = refl
+
+pub spelled-get : (a : ℕ) (s : List ℕ) (k : ℕ) → k < length s → spellOf a (getD s k 0) ≡ getD (spelled a s) k 0
+unfolding spelled
+spelled-get a s k h = spelled-by (eqb a 2) s k h
+
+pub spelled-turn : (a : ℕ) (out l s : List ℕ) (at k x : ℕ) → at + length s ≤ length out → k < length s → x ≡ spellOf a (getD s k 0)
+    → l ≡ paste out at (spelled a s) k → set l (at + k) x ≡ paste out at (spelled a s) (k + 1)
+spelled-turn a out l s at k x h i e p =
+    ap (set l (at + k)) (e ∙ spelled-get a s k i)
+    ∙ copy-turn out l (spelled a s) at k (omega (arith, spelled-length a s)) (omega (arith, spelled-length a s)) p
+
+pub spelled-put : (a : ℕ) (out l s : List ℕ) (at k : ℕ) → k ≤ length s → length s ≤ k → l ≡ paste out at (spelled a s) k → Put out at (spelled a s) (at + length s) l
+spelled-put a out l s at k h i e = record {
+    place = omega (arith, spelled-length a s);
+    bytes = copy-end out l (spelled a s) at k (omega (arith, spelled-length a s)) (omega (arith, spelled-length a s)) e;
+  }
+
+-- ---- one part after the other
+
+pub term-put : {out o1 o2 o3 o4 : List ℕ} {at n b c m d e : ℕ} {f t : List ℕ} → Put out at (header 1 n) b o1 → Put o1 b (part 0x10 f) c o2
+    → Put o2 c (header 0x11 m) d o3 → Put o3 d t e o4 → n ≡ 6 + length f + length t → m ≡ length t → at + 9 + length f + length t ≤ length out
+    → length o1 ≡ length out → length o2 ≡ length out → Put out at (encode (term f t)) e o4
+unfolding encode
+term-put {f = f} {t = t} P Q R S en em h l1 l2 =
+    let Z = put-body R S em (omega (arith, P .place, Q .place)) in
+    let Y = put-then Q Z (omega (arith, P .place)) in
+    put-body P Y (en ∙ omega (arith, length-append (part 0x10 f) (part 0x11 t))) (omega (arith, length-append (part 0x10 f) (part 0x11 t)))
+
+pub word-put : {out o1 o2 o3 : List ℕ} {at n b c d : ℕ} (p : ℕ) {t : List ℕ} → Put out at (header wordTag n) b o1 → Put o1 b (big 4 p) c o2 → Put o2 c t d o3
+    → n ≡ 4 + length t → at + 7 + length t ≤ length out → length o1 ≡ length out → Put out at (part wordTag (big 4 p ++ t)) d o3
+word-put p {t} P Q R en h l1 =
+    let Y = put-then Q R (omega (arith, P .place, length-big 4 p)) in
+    put-body P Y (en ∙ omega (arith, length-append (big 4 p) t, length-big 4 p)) (omega (arith, length-append (big 4 p) t, length-big 4 p))
+
+pub length-word : (p : ℕ) (t : List ℕ) → length (part wordTag (big 4 p ++ t)) ≡ 7 + length t
+length-word p t = omega (arith, length-append (big 4 p) t, length-big 4 p)
+
+-- ---- a row
+
+-- of the whole, what is done is laid, and the rest is left
+pub record Laying (whole rest out₀ : List ℕ) (at w : ℕ) (out : List ℕ) : Type 0 where
+  pub done : List ℕ
+  pub put : Put out₀ at done w out
+  pub splits : whole ≡ done ++ rest
+  pub long : length out ≡ length out₀
+
+pub laying-starts : (whole out : List ℕ) (at : ℕ) → Laying whole whole out at at out
+laying-starts whole out at = record { done = []; put = record { place = omega arith; bytes = sym (laid-none out at) }; splits = refl; long = refl }
+
+module _ {whole rest out₀ : List ℕ} {at w : ℕ} {out : List ℕ} (L : Laying whole rest out₀ at w out) where
+  pub laying-ends : rest ≡ [] → Put out₀ at whole w out
+  laying-ends e = subst (λ (s : List ℕ). Put out₀ at s w out) (sym (L .splits ∙ ap (λ (r : List ℕ). L .done ++ r) e ∙ append-nil (L .done))) (L .put)
+
+  module _ (s rest′ : List ℕ) (e : rest ≡ s ++ rest′) (h : at + length whole ≤ length out₀) where
+    row-length : length whole ≡ length (L .done) + (length s + length rest′)
+    row-length = ap length (L .splits) ∙ length-append (L .done) rest ∙ omega (arith, ap length e, length-append s rest′)
+
+    pub laying-fits : w + length s ≤ length out
+    laying-fits = omega (arith, row-length, L .put .place, L .long)
+
+    pub laying-on : {w′ : ℕ} {out′ : List ℕ} → Put out w s w′ out′ → length out′ ≡ length out → Laying whole rest′ out₀ at w′ out′
+    laying-on P l = record {
+        done = L .done ++ s;
+        put = put-then (L .put) P (omega (arith, row-length));
+        splits = L .splits ∙ ap (λ (r : List ℕ). L .done ++ r) e ∙ sym (append-assoc (L .done) s rest′);
+        long = l ∙ L .long;
+      }
+
+pub row-none : (tag : ℕ) (f : List ℕ) {ts : List (List ℕ)} → ts ≡ [] → termRow tag f ts ≡ []
+unfolding termRow
+row-none tag f e = rw e
+
+pub row-one : (tag : ℕ) (f : List ℕ) {t : List ℕ} {us ts : List (List ℕ)} → us ≡ t ∷ ts → termRow tag f us ≡ part tag (encode (term f t)) ++ termRow tag f ts
+unfolding termRow
+row-one tag f e = rw e
+
+pub words-none : (p : ℕ) {ts : List (List ℕ)} → ts ≡ [] → encodeWords (placedFrom p ts) ≡ []
+unfolding encodeWords placedFrom
+words-none p e = rw e
+
+pub words-one : (p : ℕ) {t : List ℕ} {us ts : List (List ℕ)} → us ≡ t ∷ ts → encodeWords (placedFrom p us) ≡ part wordTag (big 4 p ++ t) ++ encodeWords (placedFrom (suc p) ts)
+unfolding encodeWords placedFrom
+words-one p e = rw e
+
+-- the code's cut from start to start + len
+slice-is : (s : List ℕ) (start len : ℕ) → take (start + len - start) (drop start s) ≡ take len (drop start s)
+slice-is s start len = let e : start + len - start ≡ len = omega arith in ap (λ (x : ℕ). take x (drop start s)) e
+
+pub slice-length : (s : List ℕ) (start len : ℕ) → len ≤ length s - start → length (take (start + len - start) (drop start s)) ≡ len
+slice-length s start len h = ap length (slice-is s start len) ∙ length-take-le len (drop start s) (rw length-drop h)
+
+module _ {a : ℕ} {s : List ℕ} {from start len : ℕ} (F : Found a s from start len) where
+  one-here : (len ≡ 0 → ⊥) → tokenTexts a (drop from s) ≡ spelled a (take (start + len - start) (drop start s)) ∷ tokenTexts a (drop (start + len) s)
+  one-here n = F .one (omega arith) ∙ ap (λ (t : List ℕ). spelled a t ∷ tokenTexts a (drop (start + len) s)) (sym (slice-is s start len))
+
+  pub row-here : (tag : ℕ) (f : List ℕ) → (len ≡ 0 → ⊥)
+      → termRow tag f (tokenTexts a (drop from s))
+      ≡ part tag (encode (term f (spelled a (take (start + len - start) (drop start s))))) ++ termRow tag f (tokenTexts a (drop (start + len) s))
+  row-here tag f n = row-one tag f (one-here n)
+
+  pub words-here : (p : ℕ) → (len ≡ 0 → ⊥)
+      → encodeWords (placedFrom p (tokenTexts a (drop from s)))
+      ≡ part wordTag (big 4 p ++ spelled a (take (start + len - start) (drop start s))) ++ encodeWords (placedFrom (p + 1) (tokenTexts a (drop (start + len) s)))
+  words-here p n = words-one p (one-here n) ∙ rw add-one
+
+module _ {a : ℕ} {s : List ℕ} {start len : ℕ} (F : Found a s 0 start len) (t : List ℕ) (e : tokenTexts a s ≡ t ∷ []) where
+  pub one-some : len ≡ 0 → ⊥
+  one-some z = let x : t ∷ [] ≡ [] = sym e ∙ F .none z in cons-ne-nil t [] x
+
+  pub one-slice : spelled a (take (start + len - start) (drop start s)) ≡ t
+  one-slice = let x : spelled a (take (start + len - start) (drop start s)) ∷ tokenTexts a (drop (start + len) s) ≡ t ∷ [] = sym (one-here F one-some) ∙ e in cc
+
+  pub one-size : length t ≡ len
+  one-size = ap length (sym one-slice) ∙ spelled-length a _ ∙ slice-length s start len (F .within)
+
+-- a clause and a word fit where their bytes do
+pub clause-room : (f t out : List ℕ) (a w tag : ℕ) → w + length (part tag (encode (term f (spelled a t)))) ≤ length out → w + 12 + length f + length t ≤ length out
+clause-room f t out a w tag h = omega (arith, length-term f (spelled a t), spelled-length a t)
+
+pub word-room : (t out : List ℕ) (a w p : ℕ) → w + length (part wordTag (big 4 p ++ spelled a t)) ≤ length out → w + 7 + length t ≤ length out
+word-room t out a w p h = omega (arith, length-word p (spelled a t), spelled-length a t)
+
+-- ---- the queries
+
+pub row-is : (k : Kind) (f : List ℕ) (p : ℕ) (ts : List (List ℕ)) → encodes (termClauses k f (placedFrom p ts)) ≡ termRow (kindTag k) f ts
+unfolding encodes termClauses placedFrom termRow
+row-is k f p [] = refl
+row-is k f p (t ∷ ts) = ap (λ (r : List ℕ). part (kindTag k) (encode (term f t)) ++ r) (row-is k f (suc p) ts)
+
+one-of : (ts : List (List ℕ)) → length ts ≡ 1 → (t : List ℕ) × (ts ≡ t ∷ [])
+one-of [] e = absurd (omega arith)
+one-of (t ∷ []) e = (t, refl)
+one-of (t ∷ u ∷ ts) e = absurd (omega arith)
+
+module _ (o : ℕ) (f : List ℕ) where
+  term-is : {t : List ℕ} {ts : List (List ℕ)} → ts ≡ t ∷ [] → termOf o f (placedFrom 0 ts) ≡ made (term f t)
+  unfolding termOf placedFrom
+  term-is e = rw e
+
+  boolean-is : (ts : List (List ℕ)) → (length ts ≡ 1 → ⊥) → 0 < madeLength (termOf o f (placedFrom 0 ts))
+      → madeBytes (termOf o f (placedFrom 0 ts)) ≡ encode (boolean 0 (termClauses (operatorKind o) f (placedFrom 0 ts)))
+  unfolding termOf placedFrom
+  boolean-is [] n h = absurd (omega arith)
+  boolean-is (t ∷ []) n h = absurd (n refl)
+  boolean-is (t ∷ u ∷ ts) n h = refl
+
+  -- what the code is to write, where there is one token and where there are several
+  pub write-one : (a : ℕ) (s out : List ℕ) → length (tokenTexts a s) ≡ 1 → length out ≡ madeLength (termOf o f (tokenize a s))
+      → (t : List ℕ) × (tokenTexts a s ≡ t ∷ []) × (length out ≡ length (encode (term f t)))
+  write-one a s out e l = let z = one-of (tokenTexts a s) e in (z .0, z .1, l ∙ ap madeLength (term-is (z .1)))
+
+  pub wrote-one : (a : ℕ) (s out : List ℕ) → length (tokenTexts a s) ≡ 1 → ((t : List ℕ) → tokenTexts a s ≡ t ∷ [] → out ≡ encode (term f t))
+      → out ≡ madeBytes (termOf o f (tokenize a s))
+  wrote-one a s out e w = let z = one-of (tokenTexts a s) e in w (z .0) (z .1) ∙ sym (ap madeBytes (term-is (z .1)))
+
+  module _ (a : ℕ) (s out : List ℕ) (n : length (tokenTexts a s) ≡ 1 → ⊥) (h : 0 < length out) (l : length out ≡ madeLength (termOf o f (tokenize a s))) where
+    row : List ℕ
+    row = termRow (kindTag (operatorKind o)) f (tokenTexts a s)
+
+    bytes-are : madeBytes (termOf o f (tokenize a s)) ≡ encode (boolean 0 (termClauses (operatorKind o) f (tokenize a s)))
+    bytes-are = boolean-is (tokenTexts a s) n (omega arith)
+
+    pub boolean-size : length out ≡ 8 + length (termRow (kindTag (operatorKind o)) f (tokenTexts a s))
+    boolean-size = l ∙ ap length bytes-are ∙ length-boolean 0 _ ∙ ap (λ (r : List ℕ). 8 + length r) (row-is (operatorKind o) f 0 (tokenTexts a s))
+
+    pub boolean-put : {o1 o2 o3 : List ℕ} {m b c d : ℕ} → Put out 0 (header 3 m) b o1 → Put o1 b (part 0x13 (big 2 0)) c o2
+        → Put o2 c (termRow (kindTag (operatorKind o)) f (tokenTexts a s)) d o3 → m ≡ length out - 3 → length o1 ≡ length out
+        → o3 ≡ madeBytes (termOf o f (tokenize a s))
+    unfolding encode row
+    boolean-put P Q R em l1 =
+        let z = boolean-size in
+        let Y = put-then Q R (omega (arith, P .place)) in
+        let W = put-body P Y (em ∙ omega (arith, length-append (part 0x13 (big 2 0)) row)) (omega (arith, length-append (part 0x13 (big 2 0)) row)) in
+        W .bytes ∙ laid-all out (part 3 (part 0x13 (big 2 0) ++ row)) (omega (arith, length-append (part 0x13 (big 2 0)) row))
+        ∙ ap (λ (r : List ℕ). part 3 (part 0x13 (big 2 0) ++ r)) (sym (row-is (operatorKind o) f 0 (tokenTexts a s))) ∙ sym bytes-are
+
+module _ (f : List ℕ) where
+  phrase-one : {t : List ℕ} {ts : List (List ℕ)} → ts ≡ t ∷ [] → phraseOf f (placedFrom 0 ts) ≡ made (term f t)
+  unfolding phraseOf placedFrom
+  phrase-one e = rw e
+
+  phrase-is : (ts : List (List ℕ)) → (length ts ≡ 1 → ⊥) → 0 < madeLength (phraseOf f (placedFrom 0 ts))
+      → madeBytes (phraseOf f (placedFrom 0 ts)) ≡ encode (phrase f (placedFrom 0 ts))
+  unfolding phraseOf placedFrom
+  phrase-is [] n h = absurd (omega arith)
+  phrase-is (t ∷ []) n h = absurd (n refl)
+  phrase-is (t ∷ u ∷ ts) n h = refl
+
+  pub phrase-write-one : (a : ℕ) (s out : List ℕ) → length (tokenTexts a s) ≡ 1 → length out ≡ madeLength (phraseOf f (tokenize a s))
+      → (t : List ℕ) × (tokenTexts a s ≡ t ∷ []) × (length out ≡ length (encode (term f t)))
+  phrase-write-one a s out e l = let z = one-of (tokenTexts a s) e in (z .0, z .1, l ∙ ap madeLength (phrase-one (z .1)))
+
+  pub phrase-wrote-one : (a : ℕ) (s out : List ℕ) → length (tokenTexts a s) ≡ 1 → ((t : List ℕ) → tokenTexts a s ≡ t ∷ [] → out ≡ encode (term f t))
+      → out ≡ madeBytes (phraseOf f (tokenize a s))
+  phrase-wrote-one a s out e w = let z = one-of (tokenTexts a s) e in w (z .0) (z .1) ∙ sym (ap madeBytes (phrase-one (z .1)))
+
+  module _ (a : ℕ) (s out : List ℕ) (n : length (tokenTexts a s) ≡ 1 → ⊥) (h : 0 < length out) (l : length out ≡ madeLength (phraseOf f (tokenize a s))) where
+    phrase-bytes : madeBytes (phraseOf f (tokenize a s)) ≡ encode (phrase f (tokenize a s))
+    phrase-bytes = phrase-is (tokenTexts a s) n (omega arith)
+
+    pub phrase-size : length out ≡ 6 + length f + length (encodeWords (tokenize a s))
+    phrase-size = l ∙ ap length phrase-bytes ∙ length-phrase f (tokenize a s)
+
+    pub phrase-put : {o1 o2 o3 : List ℕ} {m b c d : ℕ} → Put out 0 (header 2 m) b o1 → Put o1 b (part 0x10 f) c o2
+        → Put o2 c (encodeWords (tokenize a s)) d o3 → m ≡ length out - 3 → length o1 ≡ length out
+        → o3 ≡ madeBytes (phraseOf f (tokenize a s))
+    unfolding encode
+    phrase-put P Q R em l1 =
+        let z = phrase-size in
+        let r = encodeWords (tokenize a s) in
+        let Y = put-then Q R (omega (arith, P .place)) in
+        let W = put-body P Y (em ∙ omega (arith, length-append (part 0x10 f) r)) (omega (arith, length-append (part 0x10 f) r)) in
+        W .bytes ∙ laid-all out (part 2 (part 0x10 f ++ r)) (omega (arith, length-append (part 0x10 f) r)) ∙ sym phrase-bytes
