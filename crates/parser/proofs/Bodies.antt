@@ -36,13 +36,13 @@ module _ {room : List ℕ} {n : ℕ} (R : Rowed room n) (i from analyzer : ℕ) 
   pub start-plain : isNamed (tokensOf room n) i ≡ false → Started room n i from analyzer from analyzer i
   unfolding clauseAt
   start-plain e = record {
-      low = omega arith;
-      high = omega arith;
-      place = omega arith;
-      fielded = λ default F. F;
-      tuned = λ st o default T. T;
-      goes = λ st sub default d. rw e;
-    }
+    low = omega arith;
+    high = omega arith;
+    place = omega arith;
+    fielded = λ default F. F;
+    tuned = λ st o default T. T;
+    goes = λ st sub default d. rw e;
+  }
 
   pub start-long : isNamed (tokensOf room n) i ≡ true → fieldMost < length (tokenAt room i .text)
       → (st : Setup) (sub : List ℕ → ℕ → ℕ → Read Found) (f : List ℕ) (d : ℕ) → clauseAt st (tokensOf room n) sub f d i ≡ refused longField
@@ -212,7 +212,7 @@ module _ {room : List ℕ} {n i from analyzer from′ analyzer′ i′ : ℕ} (S
         → Says (λ k. bodyAt st (tokensOf room n) (λ g e h. onRead queryFound (parseClauses st (tokensOf room n) k g e none h)) (nameFrom room default from′) d i′) (n - i′) answer
         → MeansFound g answer → MeantClause st (tokensOf room n) n (nameFrom room default from) d i g
     meant-start answer s m = record {
-        answer = answer;
-        says = λ k h. S .goes st _ default d ∙ s k (omega (arith, S .low));
-        means = m;
-      }
+      answer = answer;
+      says = λ k h. S .goes st _ default d ∙ s k (omega (arith, S .low));
+      means = m;
+    }

@@ -112,10 +112,10 @@ module _ (o c m : ℕ) (cs : Clauses) {count tag bytes : ℕ} (s : Sums cs count
   pub added-nothing : (tag′ : ℕ) → tag′ ≡ lastTag (touched o (conjunctionOf c) cs) → (q : Made) → 0 ≡ madeLength q
       → Sums (withMade o (conjunctionOf c) (modifierOf m) cs q) count tag′ bytes
   added-nothing tag′ et nothing e = record {
-      counted = s .counted ∙ sym (count-touched o (conjunctionOf c) cs);
-      last = et;
-      size = s .size ∙ sym (length-touched o (conjunctionOf c) cs);
-    }
+    counted = s .counted ∙ sym (count-touched o (conjunctionOf c) cs);
+    last = et;
+    size = s .size ∙ sym (length-touched o (conjunctionOf c) cs);
+  }
   added-nothing tag′ et (made q) e = absurd (made-some q e)
 
   pub added-made : (len tag′ : ℕ) → (len ≡ 0 → ⊥) → tag′ ≡ kindTag (kindAfter o (conjunctionOf c) (modifierOf m)) → (q : Made) → len ≡ madeLength q
@@ -123,10 +123,10 @@ module _ (o c m : ℕ) (cs : Clauses) {count tag bytes : ℕ} (s : Sums cs count
   unfolding countOf bytesOf
   added-made len tag′ n et nothing e = absurd (n e)
   added-made len tag′ n et (made q) e = record {
-      counted = let z = s .counted in let y = count-touched o (conjunctionOf c) cs in omega arith;
-      last = et;
-      size = rw (length-append, length-touched o (conjunctionOf c) cs, ← s .size, ← e) (omega arith);
-    }
+    counted = let z = s .counted in let y = count-touched o (conjunctionOf c) cs in omega arith;
+    last = et;
+    size = rw (length-append, length-touched o (conjunctionOf c) cs, ← s .size, ← e) (omega arith);
+  }
 
 -- ---- alone
 

@@ -61,13 +61,13 @@ base-any d e (clause j q cs) k = refl
 grows-made : (o : ℕ) (c : Conjunction) (m : Modifier) {acc cs : Clauses} (q : Made) → Grows (withMade o c m acc q) cs → Grows acc cs
 unfolding bytesOf base
 grows-made o c m {acc} nothing G = record {
-    size = omega (arith, G .size, length-touched o c acc);
-    root = λ d k. sym (base-touched d o c acc) ∙ G .root d (kept-touched o c acc ∙ k);
-  }
+  size = omega (arith, G .size, length-touched o c acc);
+  root = λ d k. sym (base-touched d o c acc) ∙ G .root d (kept-touched o c acc ∙ k);
+}
 grows-made o c m {acc} (made q) G = record {
-    size = omega (arith, G .size, length-touched o c acc, length-append (bytesOf (touched o c acc)) (part (kindTag (kindAfter o c m)) (encode q)));
-    root = λ d k. base-any d q acc k ∙ sym (base-touched q o c acc) ∙ G .root d refl;
-  }
+  size = omega (arith, G .size, length-touched o c acc, length-append (bytesOf (touched o c acc)) (part (kindTag (kindAfter o c m)) (encode q)));
+  root = λ d k. base-any d q acc k ∙ sym (base-touched q o c acc) ∙ G .root d refl;
+}
 
 kept-same : {acc cs : Clauses} {i j : ℕ} → got (kept acc i) ≡ got (kept cs j) → acc ≡ cs
 kept-same e = cc
@@ -125,10 +125,13 @@ module _ (st : Setup) (ts : List Token) (f : List ℕ) (d : ℕ) (cs : Clauses) 
 
     pub ev-found : {q : Made} {next : ℕ} → Eventually (clauseRun st ts f d k) (got (found q next))
         → Eventually (clausesRun st ts f d (withMade (st .operator) (conjunctionOf c) (modifierOf m) cs q) next) R
-    ev-found {q} {next} (n, s) = (n + E .0, λ x h.
-        sym (added-is (st .operator) (conjunctionOf c) (modifierOf m) (λ ds y. parseClauses st ts x f d ds y) cs q next)
-        ∙ sym (ap (λ (r : Read Found). andThen r (addClause (st .operator) (conjunctionOf c) (modifierOf m) (λ ds y. parseClauses st ts x f d ds y) cs)) (s x (omega arith)))
-        ∙ turn-is x (omega arith))
+    ev-found {q} {next} (n, s) = (
+      n + E .0,
+      λ x h.
+          sym (added-is (st .operator) (conjunctionOf c) (modifierOf m) (λ ds y. parseClauses st ts x f d ds y) cs q next)
+          ∙ sym (ap (λ (r : Read Found). andThen r (addClause (st .operator) (conjunctionOf c) (modifierOf m) (λ ds y. parseClauses st ts x f d ds y) cs)) (s x (omega arith)))
+          ∙ turn-is x (omega arith),
+    )
 
 -- ---- the first clause that is kept
 
@@ -239,9 +242,9 @@ patched out₀ o c k q acc w last out out₁ P L T h =
     let tail = drop (length (D ++ part (kindTag k) b)) out₀ in
     let dl : length D ≡ last = length-append (boolFront (length out₀)) (bytesOf acc) ∙ sym L in
     let shape : (t : ℕ) → laid out₀ 0 (boolFront (length out₀) ++ (bytesOf acc ++ part t b)) ≡ D ++ t ∷ (R ++ tail) =
-      λ t. ap (laid out₀ 0) (sym (append-assoc (boolFront (length out₀)) (bytesOf acc) (part t b))) ∙ laid-front out₀ (D ++ part t b)
-        ∙ append-assoc D (part t b) (drop (length (D ++ part t b)) out₀)
-        ∙ ap (λ (x : ℕ). D ++ t ∷ (R ++ drop x out₀)) (length-append D (part t b) ∙ sym (length-append D (part (kindTag k) b))) in
+    λ t. ap (laid out₀ 0) (sym (append-assoc (boolFront (length out₀)) (bytesOf acc) (part t b))) ∙ laid-front out₀ (D ++ part t b)
+    ∙ append-assoc D (part t b) (drop (length (D ++ part t b)) out₀)
+    ∙ ap (λ (x : ℕ). D ++ t ∷ (R ++ drop x out₀)) (length-append D (part t b) ∙ sym (length-append D (part (kindTag k) b))) in
     let there : out ≡ D ++ kindTag k ∷ (R ++ tail) = P .bytes ∙ shape (kindTag k) in
     let tag : getD out last 0 ≡ kindTag k = ap (λ (x : List ℕ). getD x last 0) there ∙ getD-at D (kindTag k) (R ++ tail) 0 last dl in
     let new = kindTag (kindBefore o (conjunctionOf c) k) in
@@ -304,18 +307,18 @@ pub filling-start : (st : Setup) (ts : List Token) (f : List ℕ) (d : ℕ) (cs 
     → Filling st ts f d cs j out i w 0 out
 unfolding bytesOf
 filling-start st ts f d cs j entry out i w P l h E = record {
-    acc = none;
-    is = E;
-    put = record {
-      place = P .place;
-      bytes =
+  acc = none;
+  is = E;
+  put = record {
+    place = P .place;
+    bytes =
         P .bytes
         ∙ sym (ap (λ (o : List ℕ). laid o 0 (boolFront (length out) ++ [])) (P .bytes) ∙ ap (λ (s : List ℕ). laid (laid entry 0 (boolFront (length entry))) 0 s) (append-nil (boolFront (length out)) ∙ ap boolFront l)
         ∙ laid-over entry 0 (boolFront (length entry)) (boolFront (length entry)) (omega arith) refl);
-    };
-    header-at = refl;
-    long = refl;
-  }
+  };
+  header-at = refl;
+  long = refl;
+}
 
 module _ {st : Setup} {ts : List Token} {f : List ℕ} {d : ℕ} {cs : Clauses} {j : ℕ} {out₀ : List ℕ} {i w last : ℕ} {out : List ℕ}
     (F : Filling st ts f d cs j out₀ i w last out) (fits : 8 + length (bytesOf cs) ≡ length out₀) where
@@ -354,12 +357,12 @@ module _ {st : Setup} {ts : List Token} {f : List ℕ} {d : ℕ} {cs : Clauses} 
         by : (q : Made) → 0 ≡ madeLength q → Eventually (clausesRun st ts f d (withMade (st .operator) (conjunctionOf c) (modifierOf m) (F .acc) q) next) (got (kept cs j))
             → Filling st ts f d cs j out₀ next w last out₁
         by nothing y E = record {
-            acc = touched (st .operator) (conjunctionOf c) (F .acc);
-            is = E;
-            put = subst (λ (p : ℕ). Put out₀ 0 (boolFront (length out₀) ++ bytesOf (touched p (conjunctionOf c) (F .acc))) w out₁) (sym joins) (touched-put o c out₁ T);
-            header-at = last-touched (st .operator) (conjunctionOf c) last (F .acc) (F .header-at);
-            long = l₁ ∙ F .long;
-          }
+          acc = touched (st .operator) (conjunctionOf c) (F .acc);
+          is = E;
+          put = subst (λ (p : ℕ). Put out₀ 0 (boolFront (length out₀) ++ bytesOf (touched p (conjunctionOf c) (F .acc))) w out₁) (sym joins) (touched-put o c out₁ T);
+          header-at = last-touched (st .operator) (conjunctionOf c) last (F .acc) (F .header-at);
+          long = l₁ ∙ F .long;
+        }
         by (made q) y E = absurd (made-some q y)
 
     -- the query of a clause that is kept, and room for it
@@ -373,10 +376,13 @@ module _ {st : Setup} {ts : List Token} {f : List ℕ} {d : ℕ} {cs : Clauses} 
             → (q : Query) × Eventually (clauseRun st ts f d k) (got (found (made q) next)) × (len ≡ length (encode q)) × (w + 3 + len ≤ length out₀)
             × Eventually (clausesRun st ts f d (clause (kindAfter (st .operator) (conjunctionOf c) (modifierOf m)) q (touched (st .operator) (conjunctionOf c) (F .acc))) next) (got (kept cs j))
         by nothing y C E = absurd (x y)
-        by (made q) y C E =
-            (q, C, y,
-              omega (arith, filled-wide F, grows st ts f d _ next E .size, bytes-some (kindAfter (st .operator) (conjunctionOf c) (modifierOf m)) q (touched (st .operator) (conjunctionOf c) (F .acc)), length-touched (st .operator) (conjunctionOf c) (F .acc)),
-              E)
+        by (made q) y C E = (
+          q,
+          C,
+          y,
+          omega (arith, filled-wide F, grows st ts f d _ next E .size, bytes-some (kindAfter (st .operator) (conjunctionOf c) (modifierOf m)) q (touched (st .operator) (conjunctionOf c) (F .acc)), length-touched (st .operator) (conjunctionOf c) (F .acc)),
+          E,
+        )
 
     pub filling-made : {len next : ℕ} (e : g ≡ Clause len next) (x : len ≡ 0 → ⊥) (tag end : ℕ) (out₂ out₃ : List ℕ) (start : ℕ)
         → tag ≡ kindTag (kindAfter o (conjunctionOf c) (modifierOf m)) → Put out₁ w (header tag len) start out₂
@@ -387,7 +393,7 @@ module _ {st : Setup} {ts : List Token} {f : List ℕ} {d : ℕ} {cs : Clauses} 
         let acc = touched (st .operator) (conjunctionOf c) (F .acc) in
         let lw : w ≡ 8 + length (bytesOf acc) = filled-wide F ∙ omega (arith, length-touched (st .operator) (conjunctionOf c) (F .acc)) in
         let T₁ : Put out₀ 0 (boolFront (length out₀) ++ bytesOf acc) w out₁ =
-          subst (λ (p : ℕ). Put out₀ 0 (boolFront (length out₀) ++ bytesOf (touched p (conjunctionOf c) (F .acc))) w out₁) (sym joins) (touched-put o c out₁ T) in
+        subst (λ (p : ℕ). Put out₀ 0 (boolFront (length out₀) ++ bytesOf (touched p (conjunctionOf c) (F .acc))) w out₁) (sym joins) (touched-put o c out₁ T) in
         let B : Put out₁ w (part tag (encode (z .0))) end out₃ = put-body P Q (z .2) (omega (arith, z .2, z .3, l₁, F .long)) in
         let kd : tag ≡ kindTag (kindAfter (st .operator) (conjunctionOf c) (modifierOf m)) = et ∙ ap (λ (p : ℕ). kindTag (kindAfter p (conjunctionOf c) (modifierOf m))) (sym joins) in
         record {

@@ -72,7 +72,7 @@ module _ {room : List ℕ} {n : ℕ} {default : List ℕ} {operator from analyze
   leaf-term e =
       let w : plainAt st ts f i ≡ got (found (made q) j) = rw e at (W .is) in
       let same : termOf operator f (tokenize analyzer (textAt ts i)) ≡ termOf (st .operator) f (tokenize (analyzerOf st f) (textAt ts i)) =
-        ap (λ (o : ℕ). termOf o f (tokenize analyzer (textAt ts i))) (sym (W .tuned .joins)) ∙ ap (λ (a : ℕ). termOf (st .operator) f (tokenize a (textAt ts i))) (W .tuned .force) in
+      ap (λ (o : ℕ). termOf o f (tokenize analyzer (textAt ts i))) (sym (W .tuned .joins)) ∙ ap (λ (a : ℕ). termOf (st .operator) f (tokenize a (textAt ts i))) (W .tuned .force) in
       ⊎-elim (λ t. no-got (sym (plain-fuzzy st ts f i t) ∙ w))
       (λ t. let z = boost-front st ts (i + 1) j size q (W .fills) _ (sym (plain-goes st ts f i t) ∙ w) in (z .0, same ∙ z .1, z .2))
       (split (isAt 12 ts (i + 1)))
@@ -83,7 +83,7 @@ module _ {room : List ℕ} {n : ℕ} {default : List ℕ} {operator from analyze
   leaf-quote e =
       let w : quotedAt st ts f i ≡ got (found (made q) j) = rw e at (W .is) in
       let same : phraseOf f (tokenize analyzer (textAt ts i)) ≡ phraseOf f (tokenize (analyzerOf st f) (textAt ts i)) =
-        ap (λ (a : ℕ). phraseOf f (tokenize a (textAt ts i))) (W .tuned .force) in
+      ap (λ (a : ℕ). phraseOf f (tokenize a (textAt ts i))) (W .tuned .force) in
       ⊎-elim (λ t. no-got (sym (quoted-sloppy st ts f i t) ∙ w))
       (λ t. let z = boost-front st ts (i + 1) j size q (W .fills) _ (sym (quoted-goes st ts f i t) ∙ w) in (z .0, same ∙ z .1, z .2))
       (split (isAt 12 ts (i + 1)))
@@ -138,9 +138,10 @@ module _ {room : List ℕ} {n i from analyzer from′ analyzer′ i′ : ℕ} (S
   pub clause-leaf : isAt 9 (tokensOf room n) i′ ≡ false → LeafToWrite room n default operator from′ analyzer′ i′ size st q j × (i′ < n)
   unfolding us g
   clause-leaf e =
-      let z = leaf-is e (W .is .0) (body-is (W .is .0) (omega arith)) in
-      (record { tuned = S .tuned st operator default (W .tuned); is = z .0; fills = W .fills },
-        ⊎-elim (λ t. kind-in room n 1 i′ (λ y. omega arith) t) (λ t. kind-in room n 2 i′ (λ y. omega arith) t) (z .1))
+      let z = leaf-is e (W .is .0) (body-is (W .is .0) (omega arith)) in (
+        record { tuned = S .tuned st operator default (W .tuned); is = z .0; fills = W .fills },
+        ⊎-elim (λ t. kind-in room n 1 i′ (λ y. omega arith) t) (λ t. kind-in room n 2 i′ (λ y. omega arith) t) (z .1),
+      )
 
   bracket-is : isAt 9 us i′ ≡ true → (k : ℕ) → W .is .0 ≤ k
       → need (ltb depth 24) manyBrackets (andThen (onRead queryFound (parseClauses st us k g (depth + 1) none (i′ + 1))) (closedAt st us)) ≡ got (found (made q) j)
@@ -202,6 +203,6 @@ header-room w len out₁ out base e f h = omega arith
 pub mid-put : (out ys S : List ℕ) (start len : ℕ) → start + len ≤ length out → ys ≡ S → len ≡ length S
     → Put out start S (start + len) (take start out ++ (ys ++ drop (start + len - start) (drop start out)))
 mid-put out ys S start len h e l = record {
-    place = omega arith;
-    bytes = lent out ys start (start + len) (omega arith) h (ap length e ∙ omega arith) ∙ ap (λ (y : List ℕ). laid out start y) e;
-  }
+  place = omega arith;
+  bytes = lent out ys start (start + len) (omega arith) h (ap length e ∙ omega arith) ∙ ap (λ (y : List ℕ). laid out start y) e;
+}

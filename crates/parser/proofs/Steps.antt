@@ -49,9 +49,9 @@ pub record Led (i j k : ℕ) : Type 0 where
 
 pub led : (c m i j k : ℕ) → j ≡ afterConjunction (conjunctionOf c) i → k ≡ afterModifier (modifierOf m) j → Led i j k
 led c m i j k e f = record {
-    one = rw e (past-conjunction (conjunctionOf c) i);
-    two = rw f (past-modifier (modifierOf m) j);
-  }
+  one = rw e (past-conjunction (conjunctionOf c) i);
+  two = rw f (past-modifier (modifierOf m) j);
+}
 
 pub led-place : {room : List ℕ} {n : ℕ} (R : Rowed room n) {i j k : ℕ} → Led i j k → placeAt (tokensOf room n) i ≤ placeAt (tokensOf room n) k
 led-place R {i} {j} {k} L = omega (arith, place-near R i j (L .one .0) (L .one .1), place-near R j k (L .two .0) (L .two .1))
@@ -133,10 +133,10 @@ kept-counted (clause k q cs) {count} s = sym (lt-ltb 0 count (omega (arith, s .c
 module _ {st : Setup} {ts : List Token} {n : ℕ} {f : List ℕ} {d at i count tag bytes : ℕ} (T : Turn st ts n f d at i count tag bytes) where
   pub turn-end : stopsAt ts i ≡ true → MeantClauses st ts n f d at (Many count tag bytes i)
   turn-end e = record {
-      answer = got (kept (T .acc) i);
-      says = T .says (got (kept (T .acc) i)) (step-end st ts f d (T .acc) i (n - i) e);
-      means = (T .acc, refl, T .sums);
-    }
+    answer = got (kept (T .acc) i);
+    says = T .says (got (kept (T .acc) i)) (step-end st ts f d (T .acc) i (n - i) e);
+    means = (T .acc, refl, T .sums);
+  }
 
   module _ (goes : stopsAt ts i ≡ false) (l : i < n) (c j m k : ℕ) (low : i ≤ k) (L : (cs : Clauses) → isKept cs ≡ ltb 0 count → Lead ts cs i c j m k) where
     lead : Lead ts (T .acc) i c j m k
@@ -147,10 +147,10 @@ module _ {st : Setup} {ts : List Token} {n : ℕ} {f : List ℕ} {d at i count t
       where
         by : MeansFound (Refused e) (M .answer) → MeantClauses st ts n f d at (Fault e)
         by (x, a, b) = record {
-            answer = refused x;
-            says = T .says (refused x) (step-refused st ts f d (T .acc) i goes lead n l low (λ y h. M .says y h ∙ a));
-            means = (x, refl, b);
-          }
+          answer = refused x;
+          says = T .says (refused x) (step-refused st ts f d (T .acc) i goes lead n l low (λ y h. M .says y h ∙ a));
+          means = (x, refl, b);
+        }
 
     pub turn-found : {len next count′ tag′ bytes′ : ℕ} {g : Measured} → g ≡ Clause len next → MeantClause st ts n f d k g → k < next
         → ((cs : Clauses) (q : Made) → Sums cs count tag bytes → len ≡ madeLength q → Sums (withMade (st .operator) (conjunctionOf c) (modifierOf m) cs q) count′ tag′ bytes′)
@@ -159,7 +159,7 @@ module _ {st : Setup} {ts : List Token} {n : ℕ} {f : List ℕ} {d at i count t
       where
         by : MeansFound (Clause len next) (M .answer) → Turn st ts n f d at next count′ tag′ bytes′
         by (q, a, b) = record {
-            acc = withMade (st .operator) (conjunctionOf c) (modifierOf m) (T .acc) q;
-            sums = S (T .acc) q (T .sums) b;
-            says = λ R s. T .says R (step-found st ts f d (T .acc) i goes lead n l low (λ y z. M .says y z ∙ a) h s);
-          }
+          acc = withMade (st .operator) (conjunctionOf c) (modifierOf m) (T .acc) q;
+          sums = S (T .acc) q (T .sums) b;
+          says = λ R s. T .says R (step-found st ts f d (T .acc) i goes lead n l low (λ y z. M .says y z ∙ a) h s);
+        }

@@ -45,9 +45,9 @@ module _ {a : ℕ} {s : List ℕ} {each at count bytes start len : ℕ} (C : Cou
   pub counting-ends : len ≡ 0 → Tallied (tokenTexts a s) each count bytes
   unfolding tallied
   counting-ends e = record {
-      counted = let z = ap length (F .none e) in omega (arith, C .counted);
-      size = let z = ap (tallied each) (F .none e) in omega (arith, C .size);
-    }
+    counted = let z = ap length (F .none e) in omega (arith, C .counted);
+    size = let z = ap (tallied each) (F .none e) in omega (arith, C .size);
+  }
 
   pub counting-goes : (len ≡ 0 → ⊥) → Counting a s each (start + len) (count + 1) (bytes + each + len)
   unfolding tallied

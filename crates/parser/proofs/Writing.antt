@@ -44,9 +44,9 @@ spelled-turn a out l s at k x h i e p =
 
 pub spelled-put : (a : ℕ) (out l s : List ℕ) (at k : ℕ) → k ≤ length s → length s ≤ k → l ≡ paste out at (spelled a s) k → Put out at (spelled a s) (at + length s) l
 spelled-put a out l s at k h i e = record {
-    place = omega (arith, spelled-length a s);
-    bytes = copy-end out l (spelled a s) at k (omega (arith, spelled-length a s)) (omega (arith, spelled-length a s)) e;
-  }
+  place = omega (arith, spelled-length a s);
+  bytes = copy-end out l (spelled a s) at k (omega (arith, spelled-length a s)) (omega (arith, spelled-length a s)) e;
+}
 
 -- ---- one part after the other
 
@@ -93,11 +93,11 @@ module _ {whole rest out₀ : List ℕ} {at w : ℕ} {out : List ℕ} (L : Layin
 
     pub laying-on : {w′ : ℕ} {out′ : List ℕ} → Put out w s w′ out′ → length out′ ≡ length out → Laying whole rest′ out₀ at w′ out′
     laying-on P l = record {
-        done = L .done ++ s;
-        put = put-then (L .put) P (omega (arith, row-length));
-        splits = L .splits ∙ ap (λ (r : List ℕ). L .done ++ r) e ∙ sym (append-assoc (L .done) s rest′);
-        long = l ∙ L .long;
-      }
+      done = L .done ++ s;
+      put = put-then (L .put) P (omega (arith, row-length));
+      splits = L .splits ∙ ap (λ (r : List ℕ). L .done ++ r) e ∙ sym (append-assoc (L .done) s rest′);
+      long = l ∙ L .long;
+    }
 
 pub row-none : (tag : ℕ) (f : List ℕ) {ts : List (List ℕ)} → ts ≡ [] → termRow tag f ts ≡ []
 unfolding termRow

@@ -36,7 +36,12 @@ pub enum Measured {
 // The clauses of a query: a refusal, or how many are kept, the last one's tag, how many bytes they take, the number of the next token.
 pub enum Counted {
     Fault(u8),
-    Clauses { count: usize, tag: u8, bytes: usize, next: usize },
+    Clauses {
+        count: usize,
+        tag: u8,
+        bytes: usize,
+        next: usize,
+    },
 }
 
 // Where a clause begins behind a field name: too long a name, or the field by number, its analyzer, the first token behind the colon.
@@ -186,9 +191,17 @@ pub fn added(s: Sum, operator: u8, c: u8, m: u8, len: usize) -> Sum
     ensures bound { λ r. ⌜ (r .bytes ≤ s .bytes + len + 3) × (3 * s .count ≤ s .bytes → 3 * r .count ≤ r .bytes) ⌝ }
 {
     if len == 0 {
-        return Sum { count: s.count, tag: tag_before(operator, c, s.tag), bytes: s.bytes };
+        return Sum {
+            count: s.count,
+            tag: tag_before(operator, c, s.tag),
+            bytes: s.bytes,
+        };
     }
-    Sum { count: s.count + 1, tag: tag_after(operator, c, m), bytes: s.bytes + 3 + len }
+    Sum {
+        count: s.count + 1,
+        tag: tag_after(operator, c, m),
+        bytes: s.bytes + 3 + len,
+    }
 }
 
 // One kept Must or Should clause stands for itself.

@@ -1,7 +1,7 @@
 // Terms and phrases: how long the query of a text is, and its bytes.
+use crate::kinds::operator_tag;
 use analysis::classes;
 use analysis::tokens;
-use crate::kinds::operator_tag;
 use stored::big::put_big4;
 use stored::write::put_header;
 use stored::write::put_minimum;
@@ -38,7 +38,10 @@ fn count_tokens(text: &[u8], analyzer: u8, each: usize) -> Tally
     loop {
         let t = tokens::next_token_in(&table, text, analyzer, at);
         if t.len == 0 {
-            return Tally { count: count, bytes: bytes };
+            return Tally {
+                count: count,
+                bytes: bytes,
+            };
         }
         count += 1;
         bytes = bytes + each + t.len;

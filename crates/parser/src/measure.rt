@@ -2,15 +2,15 @@
 // leaves the output as it was and every length is known before the first byte is written.
 // The field in force is handed down as a number: 0 for the default field, k + 1 for the text of token k.
 use crate::kinds;
-use crate::kinds::is_at;
 use crate::kinds::Counted;
 use crate::kinds::Measured;
 use crate::kinds::Start;
 use crate::kinds::Sum;
+use crate::kinds::is_at;
 use crate::leaf::phrase_len;
 use crate::leaf::term_len;
-use boost::numeral::numeral;
 use boost::numeral::Answer;
+use boost::numeral::numeral;
 use lexer::row::field_part;
 use lexer::row::kind_at;
 use lexer::row::text_at;
@@ -45,9 +45,17 @@ pub fn clause_start(room: &[u8], n: usize, from: usize, analyzer: u8, i: usize) 
         if 32 < name.len() {
             return Start::Long;
         }
-        return Start::At { from: i + 1, analyzer: note_at(room, i), i: i + 2 };
+        return Start::At {
+            from: i + 1,
+            analyzer: note_at(room, i),
+            i: i + 2,
+        };
     }
-    Start::At { from: from, analyzer: analyzer, i: i }
+    Start::At {
+        from: from,
+        analyzer: analyzer,
+        i: i,
+    }
 }
 
 // A boost of what analyzes to nothing is nothing.
@@ -71,7 +79,10 @@ pub fn with_boost(room: &[u8], n: usize, len: usize, i: usize) -> Measured
         if is_at(room, n, 1, i + 1) {
             match numeral(text_at(room, i + 1)) {
                 Answer::Refused(e) => return Measured::Refused(e),
-                Answer::Bits(_) => return Measured::Clause { len: boosted_len(len), next: i + 2 },
+                Answer::Bits(_) => return Measured::Clause {
+                    len: boosted_len(len),
+                    next: i + 2,
+                },
             }
         }
         return Measured::Refused(14);
@@ -80,7 +91,14 @@ pub fn with_boost(room: &[u8], n: usize, len: usize, i: usize) -> Measured
 }
 
 // The term at i, in the field in force.
-fn measure_plain<'a>(room: &'a [u8], n: usize, default: &'a [u8], from: usize, analyzer: u8, i: usize) -> Measured
+fn measure_plain<'a>(
+    room: &'a [u8],
+    n: usize,
+    default: &'a [u8],
+    from: usize,
+    analyzer: u8,
+    i: usize,
+) -> Measured
     requires { ⌜ (Rowed (now room) n) × (Fielded (now room) n (now default) from) × (isAt termKind (tokensOf (now room) n) i ≡ true) × (i ≤ 4000) ⌝ }
     ensures means { λ r. ⌜ ((st : Setup) (o : ℕ) → Tuned st o (now (room .entry)) n (now (default .entry)) from analyzer → MeansFound r (plainAt st (tokensOf (now (room .entry)) n) (nameFrom (now (room .entry)) (now (default .entry)) from) i)) ⌝ }
     ensures within { λ r. ⌜ WithinClause (tokensOf (now (room .entry)) n) n i r ⌝ }
@@ -94,7 +112,14 @@ fn measure_plain<'a>(room: &'a [u8], n: usize, default: &'a [u8], from: usize, a
 }
 
 // The quote at i, in the field in force.
-fn measure_quoted<'a>(room: &'a [u8], n: usize, default: &'a [u8], from: usize, analyzer: u8, i: usize) -> Measured
+fn measure_quoted<'a>(
+    room: &'a [u8],
+    n: usize,
+    default: &'a [u8],
+    from: usize,
+    analyzer: u8,
+    i: usize,
+) -> Measured
     requires { ⌜ (Rowed (now room) n) × (Fielded (now room) n (now default) from) × (isAt quotedKind (tokensOf (now room) n) i ≡ true) × (i ≤ 4000) ⌝ }
     ensures means { λ r. ⌜ ((st : Setup) (o : ℕ) → Tuned st o (now (room .entry)) n (now (default .entry)) from analyzer → MeansFound r (quotedAt st (tokensOf (now (room .entry)) n) (nameFrom (now (room .entry)) (now (default .entry)) from) i)) ⌝ }
     ensures within { λ r. ⌜ WithinClause (tokensOf (now (room .entry)) n) n i r ⌝ }
@@ -115,7 +140,12 @@ fn closing(room: &[u8], n: usize, g: Counted) -> Measured
 {
     match g {
         Counted::Fault(e) => Measured::Refused(e),
-        Counted::Clauses { count, tag, bytes, next } => {
+        Counted::Clauses {
+            count,
+            tag,
+            bytes,
+            next,
+        } => {
             if is_at(room, n, 10, next) {
                 return with_boost(room, n, kinds::query_len(count, tag, bytes), next + 1);
             }
@@ -125,7 +155,16 @@ fn closing(room: &[u8], n: usize, g: Counted) -> Measured
 }
 
 // One clause at i, below `depth` open brackets.
-pub fn measure_clause<'a>(room: &'a [u8], n: usize, default: &'a [u8], operator: u8, from: usize, analyzer: u8, depth: usize, i: usize) -> Measured
+pub fn measure_clause<'a>(
+    room: &'a [u8],
+    n: usize,
+    default: &'a [u8],
+    operator: u8,
+    from: usize,
+    analyzer: u8,
+    depth: usize,
+    i: usize,
+) -> Measured
     requires { ⌜ (Rowed (now room) n) × (Fielded (now room) n (now default) from) × (i ≤ 2000) × (depth ≤ 24) ⌝ }
     ensures means { λ r. ⌜ ((st : Setup) → Tuned st operator (now (room .entry)) n (now (default .entry)) from analyzer → MeantClause st (tokensOf (now (room .entry)) n) n (nameFrom (now (room .entry)) (now (default .entry)) from) depth i r) ⌝ }
     ensures within { λ r. ⌜ WithinClause (tokensOf (now (room .entry)) n) n i r ⌝ }
@@ -139,7 +178,16 @@ pub fn measure_clause<'a>(room: &'a [u8], n: usize, default: &'a [u8], operator:
             }
             if t == 9 {
                 if depth < 24 {
-                    let g = measure_query(room, n, default, operator, from, analyzer, depth + 1, i + 1);
+                    let g = measure_query(
+                        room,
+                        n,
+                        default,
+                        operator,
+                        from,
+                        analyzer,
+                        depth + 1,
+                        i + 1,
+                    );
                     return closing(room, n, g);
                 }
                 return Measured::Refused(16);
@@ -156,13 +204,26 @@ pub fn measure_clause<'a>(room: &'a [u8], n: usize, default: &'a [u8], operator:
 }
 
 // The clauses from `at` on, up to a closing bracket or the end.
-pub fn measure_query<'a>(room: &'a [u8], n: usize, default: &'a [u8], operator: u8, from: usize, analyzer: u8, depth: usize, at: usize) -> Counted
+pub fn measure_query<'a>(
+    room: &'a [u8],
+    n: usize,
+    default: &'a [u8],
+    operator: u8,
+    from: usize,
+    analyzer: u8,
+    depth: usize,
+    at: usize,
+) -> Counted
     requires { ⌜ (Rowed (now room) n) × (Fielded (now room) n (now default) from) × (at ≤ n) × (depth ≤ 24) ⌝ }
     ensures means { λ r. ⌜ ((st : Setup) → Tuned st operator (now (room .entry)) n (now (default .entry)) from analyzer → MeantClauses st (tokensOf (now (room .entry)) n) n (nameFrom (now (room .entry)) (now (default .entry)) from) depth at r) ⌝ }
     ensures within { λ r. ⌜ WithinClauses (tokensOf (now (room .entry)) n) n at r ⌝ }
 {
     let mut i = at;
-    let mut s = Sum { count: 0, tag: 0, bytes: 0 };
+    let mut s = Sum {
+        count: 0,
+        tag: 0,
+        bytes: 0,
+    };
     while kinds::more_at(room, n, i) {
         let c = kinds::conjunction_at(room, n, 0 < s.count, i);
         let j = kinds::after(c, i);
@@ -176,5 +237,10 @@ pub fn measure_query<'a>(room: &'a [u8], n: usize, default: &'a [u8], operator: 
             }
         }
     }
-    Counted::Clauses { count: s.count, tag: s.tag, bytes: s.bytes, next: i }
+    Counted::Clauses {
+        count: s.count,
+        tag: s.tag,
+        bytes: s.bytes,
+        next: i,
+    }
 }

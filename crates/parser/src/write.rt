@@ -1,17 +1,17 @@
 // The writing half of the parser, run only when measuring met no fault and the output is long enough. Every routine is lent the
 // stretch that its record fills exactly, so it knows the length of what it writes before the first byte.
-use boost::numeral::numeral;
-use boost::numeral::Answer;
 use crate::kinds;
-use crate::kinds::is_at;
 use crate::kinds::Counted;
 use crate::kinds::Measured;
 use crate::kinds::Start;
+use crate::kinds::is_at;
 use crate::leaf::write_phrase;
 use crate::leaf::write_term;
 use crate::measure::clause_start;
 use crate::measure::measure_clause;
 use crate::measure::measure_query;
+use boost::numeral::Answer;
+use boost::numeral::numeral;
 use lexer::row::field_part;
 use lexer::row::kind_at;
 use lexer::row::text_at;
@@ -62,7 +62,16 @@ fn put_boost_front(room: &[u8], n: usize, i: usize, out: &mut [u8]) -> usize
 }
 
 // The term or the quote at i.
-fn write_leaf<'a>(room: &'a [u8], n: usize, default: &'a [u8], operator: u8, from: usize, analyzer: u8, i: usize, out: &mut [u8])
+fn write_leaf<'a>(
+    room: &'a [u8],
+    n: usize,
+    default: &'a [u8],
+    operator: u8,
+    from: usize,
+    analyzer: u8,
+    i: usize,
+    out: &mut [u8],
+)
     requires { ⌜ (Rowed (now room) n) × (Fielded (now room) n (now default) from) × (i < n) × (0 < length (now out)) × (length (now out) ≤ 65000) × ((st : Setup) × (q : Query) × (j : ℕ) × LeafToWrite (now room) n (now default) operator from analyzer i (length (now out)) st q j) ⌝ }
     ensures { λ _. ⌜ ((st : Setup) (q : Query) (j : ℕ) → LeafToWrite (now (room .entry)) n (now (default .entry)) operator from analyzer i (length (now (out .entry))) st q j → now (out .exit) ≡ encode q) ⌝ }
 {
@@ -77,7 +86,16 @@ fn write_leaf<'a>(room: &'a [u8], n: usize, default: &'a [u8], operator: u8, fro
 }
 
 // Where the one clause stands that a query keeps.
-fn first_kept<'a>(room: &'a [u8], n: usize, default: &'a [u8], operator: u8, from: usize, analyzer: u8, depth: usize, at: usize) -> usize
+fn first_kept<'a>(
+    room: &'a [u8],
+    n: usize,
+    default: &'a [u8],
+    operator: u8,
+    from: usize,
+    analyzer: u8,
+    depth: usize,
+    at: usize,
+) -> usize
     requires { ⌜ (Rowed (now room) n) × (Fielded (now room) n (now default) from) × (at ≤ n) × (depth ≤ 24) ⌝ }
     ensures place { λ r. ⌜ (at ≤ r) × (r ≤ 2000) ⌝ }
     ensures kept { λ r. ⌜ ((st : Setup) → Tuned st operator (now (room .entry)) n (now (default .entry)) from analyzer → (k : Kind) (q : Query) (j : ℕ) → Eventually (clausesRun st (tokensOf (now (room .entry)) n) (nameFrom (now (room .entry)) (now (default .entry)) from) depth none at) (got (kept (clause k q none) j)) → (h : ℕ) × Eventually (clauseRun st (tokensOf (now (room .entry)) n) (nameFrom (now (room .entry)) (now (default .entry)) from) depth r) (got (found (made q) h))) ⌝ }
@@ -111,7 +129,17 @@ fn touch_last(out: &mut [u8], kept: bool, last: usize, operator: u8, c: u8)
 }
 
 // One clause at i, below `depth` open brackets.
-fn write_clause<'a>(room: &'a [u8], n: usize, default: &'a [u8], operator: u8, from: usize, analyzer: u8, depth: usize, i: usize, out: &mut [u8])
+fn write_clause<'a>(
+    room: &'a [u8],
+    n: usize,
+    default: &'a [u8],
+    operator: u8,
+    from: usize,
+    analyzer: u8,
+    depth: usize,
+    i: usize,
+    out: &mut [u8],
+)
     requires { ⌜ (Rowed (now room) n) × (Fielded (now room) n (now default) from) × (i ≤ 2000) × (depth ≤ 24) × (0 < length (now out)) × (length (now out) ≤ 65000) × ((st : Setup) × (q : Query) × (j : ℕ) × ClauseToWrite (now room) n (now default) operator from analyzer depth i (length (now out)) st q j) ⌝ }
     ensures { λ _. ⌜ ((st : Setup) (q : Query) (j : ℕ) → ClauseToWrite (now (room .entry)) n (now (default .entry)) operator from analyzer depth i (length (now (out .entry))) st q j → now (out .exit) ≡ encode q) ⌝ }
 {
@@ -121,9 +149,25 @@ fn write_clause<'a>(room: &'a [u8], n: usize, default: &'a [u8], operator: u8, f
             if is_at(room, n, 9, i) {
                 match measure_query(room, n, default, operator, from, analyzer, depth + 1, i + 1) {
                     Counted::Fault(_) => return,
-                    Counted::Clauses { count, tag, bytes: _, next } => {
+                    Counted::Clauses {
+                        count,
+                        tag,
+                        bytes: _,
+                        next,
+                    } => {
                         let b = put_boost_front(room, n, next + 1, out);
-                        write_query(room, n, default, operator, from, analyzer, depth + 1, i + 1, kinds::is_alone(count, tag), &mut out[b..]);
+                        write_query(
+                            room,
+                            n,
+                            default,
+                            operator,
+                            from,
+                            analyzer,
+                            depth + 1,
+                            i + 1,
+                            kinds::is_alone(count, tag),
+                            &mut out[b..],
+                        );
                         return;
                     }
                 }
@@ -134,7 +178,18 @@ fn write_clause<'a>(room: &'a [u8], n: usize, default: &'a [u8], operator: u8, f
 }
 
 // The clauses from `at` on: one that stands for itself, or a Boolean of all that are kept.
-pub fn write_query<'a>(room: &'a [u8], n: usize, default: &'a [u8], operator: u8, from: usize, analyzer: u8, depth: usize, at: usize, alone: bool, out: &mut [u8])
+pub fn write_query<'a>(
+    room: &'a [u8],
+    n: usize,
+    default: &'a [u8],
+    operator: u8,
+    from: usize,
+    analyzer: u8,
+    depth: usize,
+    at: usize,
+    alone: bool,
+    out: &mut [u8],
+)
     requires { ⌜ (Rowed (now room) n) × (Fielded (now room) n (now default) from) × (at ≤ n) × (depth ≤ 24) × (0 < length (now out)) × (length (now out) ≤ 65000) × ((st : Setup) × (cs : Clauses) × (j : ℕ) × QueryToWrite (now room) n (now default) operator from analyzer depth at alone (length (now out)) st cs j) ⌝ }
     ensures { λ _. ⌜ ((st : Setup) (cs : Clauses) (j : ℕ) → QueryToWrite (now (room .entry)) n (now (default .entry)) operator from analyzer depth at alone (length (now (out .entry))) st cs j → now (out .exit) ≡ madeBytes (queryOf cs)) ⌝ }
 {
@@ -163,7 +218,17 @@ pub fn write_query<'a>(room: &'a [u8], n: usize, default: &'a [u8], operator: u8
                 }
                 let start = put_header(out, w, kinds::tag_after(operator, c, m), len);
                 let end = start + len;
-                write_clause(room, n, default, operator, from, analyzer, depth, k, &mut out[start..end]);
+                write_clause(
+                    room,
+                    n,
+                    default,
+                    operator,
+                    from,
+                    analyzer,
+                    depth,
+                    k,
+                    &mut out[start..end],
+                );
                 last = w;
                 w = end;
             }

@@ -23,7 +23,7 @@ use Rattle.analysis.proofs.tokens.next_token_in.Reads as next-token-in-reads
 use Rattle.parser.proofs.leaf.put_clause.Reads as put-clause-reads
 
 abbrev Inv-loop : tie.InvT-loop
-Inv-loop out₀ at tag field analyzer text table from₀ w₀ out from w = 
+Inv-loop out₀ at tag field analyzer text table from₀ w₀ out from w =
     Laying (termRow tag field (tokenTexts analyzer text)) (termRow tag field (tokenTexts analyzer (drop from text))) out₀ at w out × (from ≤ length text) × (table ≡ classes)
 
 abbrev μ-loop : tie.MeasureT-loop

@@ -23,7 +23,7 @@ use Rattle.analysis.proofs.tokens.next_token_in.Reads as next-token-in-reads
 use Rattle.parser.proofs.leaf.put_word.Reads as put-word-reads
 
 abbrev Inv-loop : tie.InvT-loop
-Inv-loop out₀ at analyzer text table from₀ w₀ position₀ out from w position = 
+Inv-loop out₀ at analyzer text table from₀ w₀ position₀ out from w position =
     Laying (encodeWords (tokenize analyzer text)) (encodeWords (placedFrom position (tokenTexts analyzer (drop from text)))) out₀ at w out × (from ≤ length text) × (table ≡ classes) × (position ≤ from)
 
 abbrev μ-loop : tie.MeasureT-loop

@@ -52,7 +52,7 @@ with-boost-requires c κs = let z = kind-in (c .before .before .before .before .
 
 -- src/measure.rt:97:1
 returns-2 : tie.Need-returns-2
-returns-2 c = let z = kind-in (c .before .before .before .before .before .before .before .before .args .room .now) (c .before .before .before .before .before .before .before .before .args .n) 2 (c .before .before .before .before .before .before .before .before .args .i) (λ z. omega arith) (c .before .before .before .before .before .before .before .before .pre .2) in let b = rw (c .before .before .text-at .ensures, ← text-is (c .before .before .before .before .before .before .before .before .args .room .now) (c .before .before .before .before .before .before .before .before .args .n) (c .before .before .before .before .before .before .before .before .args .i) z) at (c .before .phrase-len .ensures .1) in ((λ st o T. rw (quoted-goes st (tokensOf (c .before .before .before .before .before .before .before .before .args .room .now) (c .before .before .before .before .before .before .before .before .args .n)) (nameFrom (c .before .before .before .before .before .before .before .before .args .room .now) (c .before .before .before .before .before .before .before .before .args .default .now) (c .before .before .before .before .before .before .before .before .args .from)) (c .before .before .before .before .before .before .before .before .args .i) (sym (c .before .before .before .before .before .is-at .ensures) ∙ c .before .before .before .before .if1 .left)) (c .with-boost .ensures .0 st _ (leaf-same (λ a t. phraseOf (nameFrom (c .before .before .before .before .before .before .before .before .args .room .now) (c .before .before .before .before .before .before .before .before .args .default .now) (c .before .before .before .before .before .before .before .before .args .from)) (tokenize a t)) _ _ _ _ _ (T .force) (c .before .before .text-at .ensures ∙ sym (text-is (c .before .before .before .before .before .before .before .before .args .room .now) (c .before .before .before .before .before .before .before .before .args .n) (c .before .before .before .before .before .before .before .before .args .i) z)) (c .before .phrase-len .ensures .0  (nameFrom (c .before .before .before .before .before .before .before .before .args .room .now) (c .before .before .before .before .before .before .before .before .args .default .now) (c .before .before .before .before .before .before .before .before .args .from)) (sym (ap length (c .before .before .before .field-part .ensures))))))), leaf-within (c .before .before .before .before .before .before .before .before .pre .0) (c .before .before .before .before .before .before .before .before .args .i) _ z b (c .with-boost .result) (c .with-boost .ensures .1))
+returns-2 c = let z = kind-in (c .before .before .before .before .before .before .before .before .args .room .now) (c .before .before .before .before .before .before .before .before .args .n) 2 (c .before .before .before .before .before .before .before .before .args .i) (λ z. omega arith) (c .before .before .before .before .before .before .before .before .pre .2) in let b = rw (c .before .before .text-at .ensures, ← text-is (c .before .before .before .before .before .before .before .before .args .room .now) (c .before .before .before .before .before .before .before .before .args .n) (c .before .before .before .before .before .before .before .before .args .i) z) at (c .before .phrase-len .ensures .1) in ((λ st o T. rw (quoted-goes st (tokensOf (c .before .before .before .before .before .before .before .before .args .room .now) (c .before .before .before .before .before .before .before .before .args .n)) (nameFrom (c .before .before .before .before .before .before .before .before .args .room .now) (c .before .before .before .before .before .before .before .before .args .default .now) (c .before .before .before .before .before .before .before .before .args .from)) (c .before .before .before .before .before .before .before .before .args .i) (sym (c .before .before .before .before .before .is-at .ensures) ∙ c .before .before .before .before .if1 .left)) (c .with-boost .ensures .0 st _ (leaf-same (λ a t. phraseOf (nameFrom (c .before .before .before .before .before .before .before .before .args .room .now) (c .before .before .before .before .before .before .before .before .args .default .now) (c .before .before .before .before .before .before .before .before .args .from)) (tokenize a t)) _ _ _ _ _ (T .force) (c .before .before .text-at .ensures ∙ sym (text-is (c .before .before .before .before .before .before .before .before .args .room .now) (c .before .before .before .before .before .before .before .before .args .n) (c .before .before .before .before .before .before .before .before .args .i) z)) (c .before .phrase-len .ensures .0 (nameFrom (c .before .before .before .before .before .before .before .before .args .room .now) (c .before .before .before .before .before .before .before .before .args .default .now) (c .before .before .before .before .before .before .before .before .args .from)) (sym (ap length (c .before .before .before .field-part .ensures))))))), leaf-within (c .before .before .before .before .before .before .before .before .pre .0) (c .before .before .before .before .before .before .before .before .args .i) _ z b (c .with-boost .result) (c .with-boost .ensures .1))
 
 pub measure-quoted-spec : {M : Type 1} → statement M
 measure-quoted-spec =
