@@ -1,5 +1,7 @@
 pub mod Bools
+pub mod Chains
 pub mod Bigs
+pub mod Widths
 pub mod Parts
 pub mod Rows
 pub mod Tags

@@ -1,0 +1,24 @@
+-- `stored::part::is_part` meets its contract.
+use mathlib.Core.Path.{refl}
+use native.Mathlib.Omega.{arith}
+use borrow.Author.Needs.{needs}
+use Rattle.rules.proofs.Chains as chains
+use Rattle.rules.proofs.Bools as bools
+use Rattle.rules.proofs.Parts as parts
+use Rattle.stored.proofs.part.is_part.Statement.{statement}
+use Rattle.stored.proofs.part.is_part.Tie as tie
+
+whole-requires : tie.Need-whole-requires
+whole-requires c κs = search needs
+
+returns : tie.Need-returns
+returns c = chains.ends _ (c .before .whole .ensures) (c .if1 .taken)
+
+shared-slice-read-result : tie.Need-shared-slice-read-result
+shared-slice-read-result c = omega (arith, parts.whole-le _ (bools.told-yes (c .before .before .whole .ensures) (c .before .if1 .left)))
+
+returns-2 : tie.Need-returns-2
+returns-2 c = chains.goes-on (c .before .before .whole .ensures) (c .before .if1 .left) refl
+
+pub is-part-spec : {M : Type 1} → statement M
+is-part-spec = tie.close (tie.spec whole-requires returns shared-slice-read-result returns-2)

@@ -1,0 +1,5 @@
+// The stored form of queries and of catalogue lists: what code reads and writes of it, proved equal to the definitions of `rules`.
+pub mod big;
+pub mod bytes;
+pub mod part;
+pub mod write;
