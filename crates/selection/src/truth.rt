@@ -1,0 +1,154 @@
+// Whether a stored query is true of a record: a walk through the query from the left, with a row of the Booleans that are open. It does not
+// call itself, however deep the query is.
+use stored::big::big2;
+use stored::part::{size_of, tag_of};
+use super::level::{allowed, answer, is_over, packed, unpacked, Level};
+use super::phrase::phrase_true;
+use super::range::range_true;
+use super::term::term_true;
+ghost use mathlib.Core.Path.{_≡_};
+ghost use Prim.Native.Nat.{_<_, _≤_};
+ghost use mathlib.Core.Bool.{true};
+ghost use mathlib.Core.List.{List};
+ghost use Rattle.rules.specs.Numbers.{selectionBytes};
+ghost use lib.ListN.{length};
+ghost use Rattle.rules.specs.Bytes.{tagOf, every, each};
+ghost use Rattle.rules.specs.Checked.{Stored};
+ghost use Rattle.rules.specs.Lists.{isEntry, entryOf, Entry};
+ghost use Rattle.rules.specs.Matching.{matches};
+ghost use Rattle.selection.specs.Level.{carries};
+ghost use Rattle.selection.specs.Truth.{IsLeaf, Truth, StoredFor, Open, outcome, AtClause, At, Leads};
+
+// Where the walk goes next: nowhere, or to the query from `at` to `end`, inside so many Booleans.
+pub enum Next {
+    Done(bool),
+    Query {
+        depth: usize,
+        at: usize,
+        end: usize,
+    },
+}
+
+fn leaf_true(q: &[u8], rec: &[u8]) -> bool
+    requires { ⌜ Stored (now q) × IsLeaf (tagOf (now q)) × (every isEntry (now rec) ≡ true) ⌝ }
+    ensures { λ r. ⌜ Truth (now (q .entry)) (each entryOf (now (rec .entry))) r ⌝ }
+{
+    match tag_of(q) {
+        1 => term_true(q, rec),
+        2 => phrase_true(q, rec),
+        6 => true,
+        8 => range_true(false, q, rec),
+        9 => range_true(true, q, rec),
+        _ => false,
+    }
+}
+
+// To the clause that stands at `at` in the Boolean l, inside `depth` others.
+fn clause(q: &[u8], row: &mut [u64; 192], depth: usize, at: usize, l: Level) -> Next
+    requires { ⌜ AtClause (now q) (now row) depth at (l .end) × (l .asked < 65536) × (length (now q) ≤ selectionBytes) ⌝ }
+    ensures { λ r. ⌜ ((es : List Entry) (t : AtClause (now (q .entry)) (now (row .entry)) depth at (l .end))
+        → Leads es (now (q .entry)) (now (row .exit)) at (outcome es (t .around) (carries es (l .asked) (l .met) (t .clauses))) r) ⌝ }
+{
+    let kind = q[at];
+    row[depth] = packed(Level {
+        end: l.end,
+        asked: l.asked,
+        met: l.met,
+        kind,
+    });
+    let next = at + 3;
+    Next::Query {
+        depth: depth + 1,
+        at: next,
+        end: next + size_of(&q[at..]),
+    }
+}
+
+// From the end of a query that is true or not: to the next clause of the innermost Boolean that has one and is not decided.
+fn settle(q: &[u8], row: &mut [u64; 192], depth: usize, at: usize, yes: bool) -> Next
+    requires { ⌜ Open (now q) (now row) depth at × (length (now q) ≤ selectionBytes) ⌝ }
+    ensures { λ r. ⌜ ((es : List Entry) (o : Open (now (q .entry)) (now (row .entry)) depth at)
+        → Leads es (now (q .entry)) (now (row .exit)) at (outcome es o yes) r) ⌝ }
+{
+    let mut d = depth;
+    let mut e = at;
+    let mut y = yes;
+    while d > 0 {
+        d -= 1;
+        let l = unpacked(row[d]);
+        let end = l.end;
+        if allowed(l, y) {
+            let m = answer(l, y);
+            if e < end {
+                return clause(q, row, d, e, m);
+            }
+            y = is_over(m);
+        } else {
+            e = end;
+            y = false;
+        }
+    }
+    Next::Done(y)
+}
+
+// From the query at hand.
+fn step(q: &[u8], rec: &[u8], row: &mut [u64; 192], depth: usize, at: usize, end: usize) -> Next
+    requires { ⌜ At (now q) (now row) depth at end × (every isEntry (now rec) ≡ true) × (length (now q) ≤ selectionBytes) ⌝ }
+    ensures { λ r. ⌜ ((t : At (now (q .entry)) (now (row .entry)) depth at end)
+        → Leads (each entryOf (now (rec .entry))) (now (q .entry)) (now (row .exit)) at
+            (outcome (each entryOf (now (rec .entry))) (t .around) (matches (each entryOf (now (rec .entry))) (t .query))) r) ⌝ }
+{
+    let x = &q[at..end];
+    match tag_of(x) {
+        3 => {
+            if at + 8 < end {
+                let l = Level {
+                    end,
+                    asked: big2(&x[6..]),
+                    met: false,
+                    kind: 0,
+                };
+                return clause(q, row, depth, at + 8, l);
+            }
+            settle(q, row, depth, end, false)
+        }
+        4 => Next::Query {
+            depth,
+            at: at + 7,
+            end,
+        },
+        5 => Next::Query {
+            depth,
+            at: at + 3,
+            end,
+        },
+        _ => {
+            let yes = leaf_true(x, rec);
+            settle(q, row, depth, end, yes)
+        }
+    }
+}
+
+// The row is the caller's, so that it is made once for all records.
+pub fn holds(q: &[u8], rec: &[u8], row: &mut [u64; 192]) -> bool
+    requires { ⌜ StoredFor (now q) × (every isEntry (now rec) ≡ true) ⌝ }
+    ensures { λ r. ⌜ Truth (now (q .entry)) (each entryOf (now (rec .entry))) r ⌝ }
+{
+    let mut depth: usize = 0;
+    let mut at: usize = 0;
+    let mut end = q.len();
+    loop {
+        match step(q, rec, row, depth, at, end) {
+            Next::Done(yes) => return yes,
+            Next::Query {
+                depth: d,
+                at: a,
+                end: e,
+            } => {
+                depth = d;
+                at = a;
+                end = e;
+            }
+        }
+    }
+}
