@@ -1,22 +1,28 @@
 -- What the checked bytes of an entry show of it, and a search through a record's entries.
 use mathlib.Core.Path.{_≡_, refl, sym, ap, _∙_}
 use mathlib.Core.Logic.{⊎-elim}
-use Prim.Native.Nat.{ℕ, _≤_, _<_}
+use Prim.Native.Nat.{ℕ, _+_, _≤_, _<_}
 use mathlib.Core.List.{List, [], _∷_}
 use mathlib.Core.Bool.{Bool, true, false, _&&_, _||_}
 use lib.ListN.{length, take, drop}
+use native.Mathlib.Omega.{arith}
+use lib.Seq.{take-all}
 use lib.Dec.{leb, eqb}
 use borrow.Author.Tests.{leb-true, eqb-true}
 use Rattle.rules.specs.Numbers.{wordTag, placeTag, wholeTag, floatTag, valueTag}
-use Rattle.rules.specs.Bytes.{ofBig, isEmpty, isText, tagOf, bodyOf, restOf, wholeOf, isPart, isFieldPart, every, each, some}
-use Rattle.rules.specs.Query.{Numbers, whole, float}
+use Rattle.rules.specs.Bytes.{ofBig, isEmpty, isText, tagOf, bodyOf, restOf, wholeOf, isPart, isFieldPart, every, each, some, all, same}
+use Rattle.rules.specs.Query.{Word, Numbers, whole, float, Bound}
 use Rattle.rules.specs.Reading.{isWord}
 use Rattle.rules.specs.Lists.{Entry, place, value, isValue, isFieldWith, isEntry, entryOf}
-use Rattle.rules.specs.Matching.{isHere, isAt, followsFrom, startsOn, isInside}
+use Rattle.rules.specs.Matching.{isHere, isAt, followsFrom, startsOn, sameNumbers, liesIn, isInside}
 use Rattle.rules.proofs.Bools.{clash, and-l, and-r, either}
 use Rattle.rules.proofs.Parts.{part-is, field-is, more-empty, less-empty}
 use Rattle.rules.proofs.Rows.{first, others, some-done, some-yes, some-no}
 use Rattle.selection.specs.Entry.{isPlace, isOf, fieldOf, textOf, positionOf, bitsOf}
+
+and-assoc : (a b c : Bool) → ((a && b) && c) ≡ (a && (b && c))
+and-assoc true b c = refl
+and-assoc false b c = refl
 
 -- ---- one entry
 
@@ -158,10 +164,66 @@ module _ (s : List ℕ) (h : isEntry s ≡ true) where
         go (v-whole i) p = value-is _ (i .second) .1
         go (v-float i) p = value-is _ (i .second) .1
 
-    pub bits-at : ofBig (bodyOf (restOf (bodyOf s))) ≡ bitsOf (entryOf s)
-    bits-at = go (viewed s h .view) p
+    pub bits-at : ofBig (take 8 (bodyOf (restOf (bodyOf s)))) ≡ bitsOf (entryOf s)
+    bits-at = ap ofBig (take-all 8 (bodyOf (restOf (bodyOf s))) (omega (arith, value-long))) ∙ go (viewed s h .view) p
       where
         go : {t : ℕ} {b : List ℕ} {e : Entry} → View t b e → isPlace e ≡ false → ofBig (bodyOf (restOf b)) ≡ bitsOf e
         go (v-place i) p = clash refl p
         go (v-whole i) p = refl
         go (v-float i) p = refl
+
+-- ---- what is asked of an entry, by what it has
+
+module _ (f t : List ℕ) where
+  pub here-parts : (e : Entry) → isHere f t e ≡ (isPlace e && (same f (fieldOf e) && same t (textOf e)))
+  here-parts (place g y u) = refl
+  here-parts (value n g x) = refl
+
+  pub here-place : (e : Entry) → isHere f t e ≡ true → isPlace e ≡ true
+  here-place (place g y u) h = refl
+  here-place (value n g x) h = clash h refl
+
+  pub at-parts : (p a : ℕ) (e : Entry) → isAt f t p a e ≡ (isHere f t e && eqb (positionOf e + p) a)
+  at-parts p a (place g y u) = refl
+  at-parts p a (value n g x) = refl
+
+  pub starts-parts : (es : List Entry) (p : ℕ) (ws : List Word) (e : Entry)
+      → startsOn es f p t ws e ≡ (isHere f t e && all (followsFrom es f p (positionOf e)) ws)
+  starts-parts es p ws (place g y u) = refl
+  starts-parts es p ws (value n g x) = refl
+
+module _ (n : Numbers) (f : List ℕ) (l u : Bound) where
+  pub inside-parts : (e : Entry) → isInside n f l u e ≡ (isOf n e && (same f (fieldOf e) && liesIn n l u (bitsOf e)))
+  inside-parts (place g y t) = refl
+  inside-parts (value k g x) = and-assoc (sameNumbers n k) (same f g) (liesIn n l u x)
+
+pub of-value : (n : Numbers) (e : Entry) → isOf n e ≡ true → isPlace e ≡ false
+of-value n (place f y t) h = clash h refl
+of-value n (value k f x) h = refl
+
+-- ---- a search through a record's entries
+
+-- the entries from e on decide
+pub record Left (P : Entry → Bool) (rec e : List ℕ) : Type 0 where
+  pub good : every isEntry e ≡ true
+  pub decides : some P (each entryOf rec) ≡ some P (each entryOf e)
+
+pub search-all : {P : Entry → Bool} {rec : List ℕ} → every isEntry rec ≡ true → Left P rec rec
+search-all h = record { good = h; decides = refl }
+
+module _ {P : Entry → Bool} {rec e : List ℕ} (L : Left P rec e) where
+  pub search-none : length e ≤ 0 → false ≡ some P (each entryOf rec)
+  search-none h = sym (L .decides ∙ some-done entryOf P e (less-empty e h))
+
+  module _ (more : 0 < length e) where
+    pub search-entry : isEntry e ≡ true
+    search-entry = first isEntry e (more-empty e more) (L .good)
+
+    pub search-found : P (entryOf e) ≡ true → true ≡ some P (each entryOf rec)
+    search-found h = sym (L .decides ∙ some-yes entryOf P e (more-empty e more) h)
+
+    pub search-next : {u : List ℕ} → P (entryOf e) ≡ false → u ≡ restOf e → Left P rec u
+    search-next h k = rw k (record {
+      good = others isEntry e (more-empty e more) (L .good);
+      decides = L .decides ∙ some-no entryOf P e (more-empty e more) h;
+    })

@@ -1,2 +1,4 @@
 pub mod Entries
 pub mod Orders
+pub mod Leaves
+pub mod Levels

@@ -1,8 +1,8 @@
 // A Boolean that is open while its clauses are asked, and what the answer to a clause does to it. The open Booleans stand in a row of numbers,
 // one each, so that their depth costs eight bytes and no call: a scheduler's thread has a small stack.
 ghost use mathlib.Core.Path.{_≡_};
-ghost use Prim.Native.Nat.{_-_, _<_};
-ghost use Rattle.rules.specs.Matching.{allows};
+ghost use Prim.Native.Nat.{_-_, _<_, _≤_};
+ghost use Rattle.rules.specs.Matching.{allows, bit};
 ghost use Rattle.rules.specs.Reading.{kindOf};
 ghost use Rattle.selection.specs.Level.{levelOf, answered, isOver};
 
@@ -26,7 +26,9 @@ pub fn unpacked(v: u64) -> Level
     }
 }
 
-fn bit(b: bool) -> u64 {
+fn flag(b: bool) -> u64
+    ensures { λ r. ⌜ (r ≡ bit b) × (r ≤ 1) ⌝ }
+{
     if b { 1 } else { 0 }
 }
 
@@ -34,7 +36,7 @@ pub fn packed(l: Level) -> u64
     requires { ⌜ (l .end < 65536) × (l .asked < 65536) ⌝ }
     ensures { λ r. ⌜ levelOf r ≡ l ⌝ }
 {
-    ((l.end as u64 * 65536 + l.asked as u64) * 2 + bit(l.met)) * 256 + l.kind as u64
+    ((l.end as u64 * 65536 + l.asked as u64) * 2 + flag(l.met)) * 256 + l.kind as u64
 }
 
 // Whether the clause at hand allows its query to be true, or not.

@@ -65,14 +65,14 @@ fn clause(q: &[u8], row: &mut [u64; 192], depth: usize, at: usize, l: Level) -> 
 }
 
 // From the end of a query that is true or not: to the next clause of the innermost Boolean that has one and is not decided.
-fn settle(q: &[u8], row: &mut [u64; 192], depth: usize, at: usize, yes: bool) -> Next
+fn settle(q: &[u8], row: &mut [u64; 192], depth: usize, at: usize, known: bool) -> Next
     requires { ⌜ Open (now q) (now row) depth at × (length (now q) ≤ selectionBytes) ⌝ }
     ensures { λ r. ⌜ ((es : List Entry) (o : Open (now (q .entry)) (now (row .entry)) depth at)
-        → Leads es (now (q .entry)) (now (row .exit)) at (outcome es o yes) r) ⌝ }
+        → Leads es (now (q .entry)) (now (row .exit)) at (outcome es o known) r) ⌝ }
 {
     let mut d = depth;
     let mut e = at;
-    let mut y = yes;
+    let mut y = known;
     while d > 0 {
         d -= 1;
         let l = unpacked(row[d]);
@@ -123,8 +123,8 @@ fn step(q: &[u8], rec: &[u8], row: &mut [u64; 192], depth: usize, at: usize, end
             end,
         },
         _ => {
-            let yes = leaf_true(x, rec);
-            settle(q, row, depth, end, yes)
+            let y = leaf_true(x, rec);
+            settle(q, row, depth, end, y)
         }
     }
 }
@@ -139,7 +139,7 @@ pub fn holds(q: &[u8], rec: &[u8], row: &mut [u64; 192]) -> bool
     let mut end = q.len();
     loop {
         match step(q, rec, row, depth, at, end) {
-            Next::Done(yes) => return yes,
+            Next::Done(y) => return y,
             Next::Query {
                 depth: d,
                 at: a,
