@@ -3,7 +3,7 @@ use mathlib.Core.Path.{_≡_, refl, sym, ap, _∙_}
 use mathlib.Core.Logic.{⊎-elim}
 use Prim.Native.Nat.{ℕ, _+_, _≤_, _<_}
 use mathlib.Core.List.{List, [], _∷_}
-use mathlib.Core.Bool.{Bool, true, false, _&&_, _||_}
+use mathlib.Core.Bool.{Bool, true, false, _&&_, _||_, and-assoc}
 use lib.ListN.{length, take, drop}
 use native.Mathlib.Omega.{arith}
 use lib.Seq.{take-all}
@@ -19,10 +19,6 @@ use Rattle.rules.proofs.Bools.{clash, and-l, and-r, either}
 use Rattle.rules.proofs.Parts.{part-is, field-is, more-empty, less-empty}
 use Rattle.rules.proofs.Rows.{first, others, some-done, some-yes, some-no}
 use Rattle.selection.specs.Entry.{isPlace, isOf, fieldOf, textOf, positionOf, bitsOf}
-
-and-assoc : (a b c : Bool) → ((a && b) && c) ≡ (a && (b && c))
-and-assoc true b c = refl
-and-assoc false b c = refl
 
 -- ---- one entry
 

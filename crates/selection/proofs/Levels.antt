@@ -2,7 +2,7 @@
 use mathlib.Core.Path.{_≡_, refl, sym, ap, _∙_}
 use Prim.Native.Nat.{ℕ, _+_, _-_, _*_, _/_, _%_, _≤_, _<_}
 use mathlib.Core.List.{List}
-use mathlib.Core.Bool.{Bool, true, false, _&&_, _||_, cond, or-false}
+use mathlib.Core.Bool.{Bool, true, false, _&&_, _||_, cond, or-false, and-assoc}
 use native.Mathlib.Omega.{arith}
 use native.Mathlib.Nat.{zero-add}
 use lib.Dec.{leb, eqb}
@@ -94,10 +94,6 @@ some-met false x should true n = or-r x (le-leb 1 (1 + n) (omega arith))
 some-met false x should false n = ap (λ (m : ℕ). x || leb 1 m) (zero-add n)
 some-met false x mustNot y n = ap (λ (m : ℕ). x || leb 1 m) (zero-add n)
 some-met false x filter y n = refl
-
-and-assoc : (a b c : Bool) → ((a && b) && c) ≡ (a && (b && c))
-and-assoc true b c = refl
-and-assoc false b c = refl
 
 module _ (es : List Entry) where
   pub carries-all : (m : ℕ) (cs : Clauses) → matches es (boolean m cs) ≡ carries es m false cs

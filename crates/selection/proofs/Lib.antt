@@ -2,3 +2,4 @@ pub mod Entries
 pub mod Orders
 pub mod Leaves
 pub mod Levels
+pub mod Walks

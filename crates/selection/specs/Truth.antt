@@ -10,9 +10,10 @@ use Rattle.rules.specs.Query.{Query, Clauses, depth, depths}
 use Rattle.rules.specs.Checked.{Is, Are, Stored}
 use Rattle.rules.specs.Lists.{Entry}
 use Rattle.rules.specs.Matching.{matches}
+use Rattle.selection.specs.declared.level.Level.{Level}
 use Rattle.selection.specs.declared.truth.Next.{Next}
 use Rattle.selection.specs.declared.truth.Next.the-variants.{Done, Query as Goes}
-use Rattle.selection.specs.Level.{levelOf, carries, after}
+use Rattle.selection.specs.Level.{levelOf, after}
 
 -- r says whether the query of s is true of es, whichever query that is
 unfoldable pub Truth : List ℕ → List Entry → Bool → Type 0
@@ -40,19 +41,17 @@ pub record StoredFor (s : List ℕ) : Type 0 where
 abbrev pub cut : List ℕ → ℕ → ℕ → List ℕ
 cut s a e = take (e - a) (drop a s)
 
-abbrev pub endAt : List ℕ → ℕ → ℕ
-endAt row d = levelOf (getD row d 0) .end
-
--- n Booleans are open around a query that ends at e, the innermost at n - 1: behind the query stand the clauses cs that it has left
+-- n Booleans are open around a query that ends at e. The innermost stands at d in the row, at the level l; behind the query stand the
+-- clauses that it has left.
 pub data Open (s row : List ℕ) : ℕ → ℕ → Type 0 where
   outside : {n e : ℕ} → n ≡ 0 → e ≡ length s → Open s row n e
-  inside : {n e : ℕ} (d : ℕ) (cs : Clauses) → n ≡ d + 1 → Are (cut s e (endAt row d)) cs → e ≤ endAt row d → depths cs + n ≤ selectionDepth
-      → Open s row d (endAt row d) → Open s row n e
+  inside : {n e : ℕ} (d : ℕ) (l : Level) (cs : Clauses) → n ≡ d + 1 → levelOf (getD row d 0) ≡ l → Are (cut s e (l .end)) cs → e ≤ l .end
+      → depths cs + n ≤ selectionDepth → Open s row d (l .end) → Open s row n e
 
 -- what the whole query is, where the query at hand is y
 unfoldable pub outcome : List Entry → {s row : List ℕ} {n e : ℕ} → Open s row n e → Bool → Bool
 outcome es (outside h k) y = y
-outcome es {row = row} (inside d cs h a l m o) y = outcome es o (after es (levelOf (getD row d 0)) y cs)
+outcome es (inside d l cs h k a f m o) y = outcome es o (after es l y cs)
 
 -- ---- the places of the walk
 

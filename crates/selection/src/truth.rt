@@ -10,14 +10,14 @@ ghost use mathlib.Core.Path.{_≡_};
 ghost use Prim.Native.Nat.{_<_, _≤_};
 ghost use mathlib.Core.Bool.{true};
 ghost use mathlib.Core.List.{List};
-ghost use Rattle.rules.specs.Numbers.{selectionBytes};
+ghost use Rattle.rules.specs.Numbers.{booleanTag, selectionBytes, selectionDepth};
 ghost use lib.ListN.{length};
 ghost use Rattle.rules.specs.Bytes.{tagOf, every, each};
 ghost use Rattle.rules.specs.Checked.{Stored};
 ghost use Rattle.rules.specs.Lists.{isEntry, entryOf, Entry};
 ghost use Rattle.rules.specs.Matching.{matches};
 ghost use Rattle.selection.specs.Level.{carries};
-ghost use Rattle.selection.specs.Truth.{IsLeaf, Truth, StoredFor, Open, outcome, AtClause, At, Leads};
+ghost use Rattle.selection.specs.Truth.{IsLeaf, Truth, StoredFor, cut, Open, outcome, AtClause, At, Leads};
 
 // Where the walk goes next: nowhere, or to the query from `at` to `end`, inside so many Booleans.
 pub enum Next {
@@ -44,29 +44,30 @@ fn leaf_true(q: &[u8], rec: &[u8]) -> bool
 }
 
 // To the clause that stands at `at` in the Boolean l, inside `depth` others.
-fn clause(q: &[u8], row: &mut [u64; 192], depth: usize, at: usize, l: Level) -> Next
-    requires { ⌜ AtClause (now q) (now row) depth at (l .end) × (l .asked < 65536) × (length (now q) ≤ selectionBytes) ⌝ }
+fn clause(q: &[u8], row: &mut [u64], depth: usize, at: usize, l: Level) -> Next
+    requires { ⌜ AtClause (now q) (now row) depth at (l .end) × (l .asked < 65536) × (length (now q) ≤ selectionBytes) × (selectionDepth ≤ length (now row)) ⌝ }
     ensures { λ r. ⌜ ((es : List Entry) (t : AtClause (now (q .entry)) (now (row .entry)) depth at (l .end))
         → Leads es (now (q .entry)) (now (row .exit)) at (outcome es (t .around) (carries es (l .asked) (l .met) (t .clauses))) r) ⌝ }
 {
-    let kind = q[at];
+    let end = l.end;
+    let t = &q[at..end];
     row[depth] = packed(Level {
-        end: l.end,
+        end,
         asked: l.asked,
         met: l.met,
-        kind,
+        kind: tag_of(t),
     });
     let next = at + 3;
     Next::Query {
         depth: depth + 1,
         at: next,
-        end: next + size_of(&q[at..]),
+        end: next + size_of(t),
     }
 }
 
 // From the end of a query that is true or not: to the next clause of the innermost Boolean that has one and is not decided.
-fn settle(q: &[u8], row: &mut [u64; 192], depth: usize, at: usize, known: bool) -> Next
-    requires { ⌜ Open (now q) (now row) depth at × (length (now q) ≤ selectionBytes) ⌝ }
+fn settle(q: &[u8], row: &mut [u64], depth: usize, at: usize, known: bool) -> Next
+    requires { ⌜ Open (now q) (now row) depth at × (length (now q) ≤ selectionBytes) × (selectionDepth ≤ length (now row)) ⌝ }
     ensures { λ r. ⌜ ((es : List Entry) (o : Open (now (q .entry)) (now (row .entry)) depth at)
         → Leads es (now (q .entry)) (now (row .exit)) at (outcome es o known) r) ⌝ }
 {
@@ -91,27 +92,38 @@ fn settle(q: &[u8], row: &mut [u64; 192], depth: usize, at: usize, known: bool) 
     Next::Done(y)
 }
 
+// Into the Boolean from `at` to `end`: to its first clause. With no clause it is false, whatever its minimum is.
+fn enter(q: &[u8], row: &mut [u64], depth: usize, at: usize, end: usize) -> Next
+    requires { ⌜ At (now q) (now row) depth at end × (tagOf (cut (now q) at end) ≡ booleanTag)
+        × (length (now q) ≤ selectionBytes) × (selectionDepth ≤ length (now row)) ⌝ }
+    ensures { λ r. ⌜ ((es : List Entry) (t : At (now (q .entry)) (now (row .entry)) depth at end)
+        → Leads es (now (q .entry)) (now (row .exit)) at (outcome es (t .around) (matches es (t .query))) r) ⌝ }
+{
+    let x = &q[at..end];
+    if x.len() > 8 {
+        let asked = big2(&x[6..]);
+        let l = Level {
+            end,
+            asked,
+            met: false,
+            kind: 0,
+        };
+        return clause(q, row, depth, at + 8, l);
+    }
+    settle(q, row, depth, end, false)
+}
+
 // From the query at hand.
-fn step(q: &[u8], rec: &[u8], row: &mut [u64; 192], depth: usize, at: usize, end: usize) -> Next
-    requires { ⌜ At (now q) (now row) depth at end × (every isEntry (now rec) ≡ true) × (length (now q) ≤ selectionBytes) ⌝ }
+fn step(q: &[u8], rec: &[u8], row: &mut [u64], depth: usize, at: usize, end: usize) -> Next
+    requires { ⌜ At (now q) (now row) depth at end × (every isEntry (now rec) ≡ true)
+        × (length (now q) ≤ selectionBytes) × (selectionDepth ≤ length (now row)) ⌝ }
     ensures { λ r. ⌜ ((t : At (now (q .entry)) (now (row .entry)) depth at end)
         → Leads (each entryOf (now (rec .entry))) (now (q .entry)) (now (row .exit)) at
             (outcome (each entryOf (now (rec .entry))) (t .around) (matches (each entryOf (now (rec .entry))) (t .query))) r) ⌝ }
 {
     let x = &q[at..end];
     match tag_of(x) {
-        3 => {
-            if at + 8 < end {
-                let l = Level {
-                    end,
-                    asked: big2(&x[6..]),
-                    met: false,
-                    kind: 0,
-                };
-                return clause(q, row, depth, at + 8, l);
-            }
-            settle(q, row, depth, end, false)
-        }
+        3 => enter(q, row, depth, at, end),
         4 => Next::Query {
             depth,
             at: at + 7,
@@ -130,8 +142,8 @@ fn step(q: &[u8], rec: &[u8], row: &mut [u64; 192], depth: usize, at: usize, end
 }
 
 // The row is the caller's, so that it is made once for all records.
-pub fn holds(q: &[u8], rec: &[u8], row: &mut [u64; 192]) -> bool
-    requires { ⌜ StoredFor (now q) × (every isEntry (now rec) ≡ true) ⌝ }
+pub fn holds(q: &[u8], rec: &[u8], row: &mut [u64]) -> bool
+    requires { ⌜ StoredFor (now q) × (every isEntry (now rec) ≡ true) × (selectionDepth ≤ length (now row)) ⌝ }
     ensures { λ r. ⌜ Truth (now (q .entry)) (each entryOf (now (rec .entry))) r ⌝ }
 {
     let mut depth: usize = 0;

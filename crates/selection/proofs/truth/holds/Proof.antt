@@ -12,31 +12,35 @@ Inv-loop q rec row₀ depth₀ at₀ end₀ row depth at end = ?
 abbrev μ-loop : tie.MeasureT-loop
 μ-loop q rec row₀ depth₀ at₀ end₀ row depth at end = ?
 
--- src/truth.rt:140:5
+-- src/truth.rt:152:5
 loop-holds : tie.Need-loop-holds Inv-loop μ-loop
 loop-holds c = search needs
 
--- src/truth.rt:141:15
+-- src/truth.rt:153:15
 step-requires : tie.Need-step-requires Inv-loop μ-loop
 step-requires c κs = search needs
 
--- src/truth.rt:142:24
+-- src/truth.rt:154:24
 enum-known-y : tie.Need-enum-known-y Inv-loop μ-loop
 enum-known-y c = search needs
 
--- src/truth.rt:142:30
+-- src/truth.rt:154:30
+same-length : tie.Need-same-length Inv-loop μ-loop
+same-length c = search needs
+
+-- src/truth.rt:154:30
 returns : tie.Need-returns Inv-loop μ-loop
 returns c = search needs
 
--- src/truth.rt:144:24
+-- src/truth.rt:156:24
 enum-known-d : tie.Need-enum-known-d Inv-loop μ-loop
 enum-known-d c = search needs
 
--- src/truth.rt:140:5
+-- src/truth.rt:152:5
 loop-less : tie.Need-loop-less Inv-loop μ-loop
 loop-less c = search needs
 
--- src/truth.rt:140:5
+-- src/truth.rt:152:5
 loop-again : tie.Need-loop-again Inv-loop μ-loop
 loop-again c = search needs
 
@@ -49,6 +53,7 @@ holds-spec =
     loop-holds
     step-requires
     enum-known-y
+    same-length
     returns
     enum-known-d
     loop-less
