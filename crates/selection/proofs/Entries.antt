@@ -54,6 +54,7 @@ viewed s h = ⊎-elim (λ k. at-place k) (λ k. at-value k) (either (isPart plac
         let p = part-is placeTag s (and-l (isPart placeTag s) _ k) in
         let i = inner isWord (bodyOf s) (and-r (isPart placeTag s) (isFieldWith isWord (bodyOf s)) k) in
         record { whole = p .0; view = rw (p .1) (v-place i) }
+
     at-value : ((isPart wholeTag s || isPart floatTag s) && isFieldWith isValue (bodyOf s)) ≡ true → Viewed s
     at-value k =
         let i = inner isValue (bodyOf s) (and-r (isPart wholeTag s || isPart floatTag s) (isFieldWith isValue (bodyOf s)) k) in
@@ -63,14 +64,16 @@ viewed s h = ⊎-elim (λ k. at-place k) (λ k. at-value k) (either (isPart plac
         (either (isPart wholeTag s) (isPart floatTag s) (and-l (isPart wholeTag s || isPart floatTag s) _ k))
 
 word-is : (w : List ℕ) → isWord w ≡ true → (wholeOf w ≡ true) × (4 ≤ length (bodyOf w))
-word-is w h =
-    (part-is wordTag w (and-l (isPart wordTag w) _ h) .0,
-    leb-true 4 (length (bodyOf w)) (and-l (leb 4 (length (bodyOf w))) _ (and-r (isPart wordTag w) (leb 4 (length (bodyOf w)) && isText (drop 4 (bodyOf w))) h)))
+word-is w h = (
+  part-is wordTag w (and-l (isPart wordTag w) _ h) .0,
+  leb-true 4 (length (bodyOf w)) (and-l (leb 4 (length (bodyOf w))) _ (and-r (isPart wordTag w) (leb 4 (length (bodyOf w)) && isText (drop 4 (bodyOf w))) h)),
+)
 
 value-is : (w : List ℕ) → isValue w ≡ true → (wholeOf w ≡ true) × (length (bodyOf w) ≡ 8)
-value-is w h =
-    (part-is valueTag w (and-l (isPart valueTag w) _ h) .0,
-    eqb-true (length (bodyOf w)) 8 (and-r (isPart valueTag w) (eqb (length (bodyOf w)) 8) h))
+value-is w h = (
+  part-is valueTag w (and-l (isPart valueTag w) _ h) .0,
+  eqb-true (length (bodyOf w)) 8 (and-r (isPart valueTag w) (eqb (length (bodyOf w)) 8) h),
+)
 
 module _ (s : List ℕ) (h : isEntry s ≡ true) where
   pub entry-whole : wholeOf s ≡ true

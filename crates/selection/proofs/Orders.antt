@@ -14,6 +14,7 @@ use mir.Val.{toZ}
 use borrow.Author.Tests.{leb-true, leb-false, le-leb, lt-leb, lt-ltb, le-ltb, ltb-true, ltb-false}
 use Rattle.rules.proofs.Bools.{clash}
 use Rattle.selection.specs.Order.{half, Turned}
+
 -- two tests that say the same
 leb-same : (x y z w : ℕ) → (x ≤ y → z ≤ w) → (y < x → w < z) → leb x y ≡ leb z w
 leb-same x y z w f g = go (leb x y) refl
@@ -95,4 +96,3 @@ le-nan-r (inf s) (fin t m e) h = clash refl (sym h)
 le-nan-r (fin s m e) nan h = refl
 le-nan-r (fin s m e) (inf t) h = clash refl (sym h)
 le-nan-r (fin s m e) (fin t n d) h = clash refl (sym h)
-

@@ -171,13 +171,19 @@ module _ {s row : List ℕ} {n at : ℕ} (l : Level) (t : AtClause s row n at (l
 
   pub clause-leads : (es : List Entry)
       → Leads es s (set row n v) at (outcome es (t .around) (carries es (l .asked) (l .met) (t .clauses))) (Goes (n + 1) (at + 3) (at + 3 + z))
-  clause-leads es = (omega arith, (record {
-    query = front .query;
-    is = record { valid = front .valid; form = front .form ∙ rw ez (cut-body s at (l .end) (front .whole) (within t)) };
-    fits = omega arith;
-    deep = deep-clauses .0;
-    around = opened;
-  }, clause-value es))
+  clause-leads es = (
+    omega arith,
+    (
+      record {
+        query = front .query;
+        is = record { valid = front .valid; form = front .form ∙ rw ez (cut-body s at (l .end) (front .whole) (within t)) };
+        fits = omega arith;
+        deep = deep-clauses .0;
+        around = opened;
+      },
+      clause-value es,
+    ),
+  )
 
 -- back to the innermost Boolean, at d in the row, with the answer y to its clause
 module _ {s row : List ℕ} {n e d : ℕ} {l : Level} {o : Open s row n e} (I : Innermost s row o d l) (y : Bool) where
@@ -268,12 +274,12 @@ module _ {s row : List ℕ} {n at end : ℕ} (t : At s row n at end) where
   at-body : bodyOf (cut s at end) ≡ cut s (at + 3) end
   at-body =
       let e : at + 3 + sizeOf (cut s at end) ≡ end =
-          (let l = length-whole (cut s at end) at-whole in
-          let r : length (restOf (cut s at end)) ≡ 0 = ap length (viewed (t .query) (cut s at end) (t .is .form) .rest) in
-          let b = length-body (cut s at end) at-whole in
-          let k = at-length in
-          let f = t .fits in
-          omega arith) in
+      (let l = length-whole (cut s at end) at-whole in
+      let r : length (restOf (cut s at end)) ≡ 0 = ap length (viewed (t .query) (cut s at end) (t .is .form) .rest) in
+      let b = length-body (cut s at end) at-whole in
+      let k = at-length in
+      let f = t .fits in
+      omega arith) in
       cut-body s at end at-whole at-end ∙ ap (cut s (at + 3)) e
 
   seen : (h : ℕ) → tagOf (cut s at end) ≡ h → View h (cut s (at + 3) end) (t .query)

@@ -66,13 +66,21 @@ fn float_lt(a: u64, b: u64) -> bool
 pub fn at_most(float: bool, a: u64, b: u64) -> bool
     ensures { λ r. ⌜ r ≡ atMost (numbers float) a b ⌝ }
 {
-    if float { float_le(a, b) } else { whole_le(a, b) }
+    if float {
+        float_le(a, b)
+    } else {
+        whole_le(a, b)
+    }
 }
 
 pub fn below(float: bool, a: u64, b: u64) -> bool
     ensures { λ r. ⌜ r ≡ below (numbers float) a b ⌝ }
 {
-    if float { float_lt(a, b) } else { whole_lt(a, b) }
+    if float {
+        float_lt(a, b)
+    } else {
+        whole_lt(a, b)
+    }
 }
 
 // Whether it can lie in a range at all.

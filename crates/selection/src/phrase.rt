@@ -1,10 +1,11 @@
 // A phrase is true of a record where some whole number, possibly negative, added to all its positions finds every one. Tried are the numbers
 // that put its first word, of position p, on an entry of its field and text, at x: then a word of position o stands at the y with
 // y + p == o + x. Positions have 32 bits, so that neither sum overflows, and no sign is needed.
-use stored::big::big4;
-use stored::part::{body, rest};
 use super::entry::position;
 use super::term::is_here;
+use stored::big::big4;
+use stored::part::body;
+use stored::part::rest;
 ghost use mathlib.Core.Path.{_≡_};
 ghost use Prim.Native.Nat.{_<_, _^_};
 ghost use mathlib.Core.Bool.{true};

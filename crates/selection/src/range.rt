@@ -1,9 +1,15 @@
 // A range is true of a record where some value of its kind and field lies inside. `float` says which kind.
+use super::entry::field;
+use super::entry::is_of;
+use super::entry::number;
+use super::order::at_most;
+use super::order::below;
+use super::order::is_number;
 use stored::big::big8;
 use stored::bytes::same;
-use stored::part::{body, rest, tag_of};
-use super::entry::{field, is_of, number};
-use super::order::{at_most, below, is_number};
+use stored::part::body;
+use stored::part::rest;
+use stored::part::tag_of;
 ghost use mathlib.Core.Path.{_≡_};
 ghost use mathlib.Core.Bool.{true};
 ghost use Rattle.rules.specs.Bytes.{every, each};
@@ -23,7 +29,11 @@ fn over_lower(float: bool, t: &[u8], x: u64) -> bool
         return true;
     }
     let b = big8(body(t));
-    if tag == 0x31 { at_most(float, b, x) } else { below(float, b, x) }
+    if tag == 0x31 {
+        at_most(float, b, x)
+    } else {
+        below(float, b, x)
+    }
 }
 
 fn under_upper(float: bool, t: &[u8], x: u64) -> bool
@@ -35,7 +45,11 @@ fn under_upper(float: bool, t: &[u8], x: u64) -> bool
         return true;
     }
     let b = big8(body(t));
-    if tag == 0x31 { at_most(float, x, b) } else { below(float, x, b) }
+    if tag == 0x31 {
+        at_most(float, x, b)
+    } else {
+        below(float, x, b)
+    }
 }
 
 fn lies_in(float: bool, l: &[u8], u: &[u8], x: u64) -> bool

@@ -1,7 +1,10 @@
 // A term is true of a record where an entry has its field and its text.
+use super::entry::field;
+use super::entry::is_place;
+use super::entry::text;
 use stored::bytes::same;
-use stored::part::{body, rest};
-use super::entry::{field, is_place, text};
+use stored::part::body;
+use stored::part::rest;
 ghost use mathlib.Core.Path.{_≡_};
 ghost use mathlib.Core.Bool.{true};
 ghost use Rattle.rules.specs.Bytes.{every, each};

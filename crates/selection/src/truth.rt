@@ -1,11 +1,17 @@
 // Whether a stored query is true of a record: a walk through the query from the left, with a row of the Booleans that are open. It does not
 // call itself, however deep the query is.
-use stored::big::big2;
-use stored::part::{size_of, tag_of};
-use super::level::{allowed, answer, is_over, packed, unpacked, Level};
+use super::level::Level;
+use super::level::allowed;
+use super::level::answer;
+use super::level::is_over;
+use super::level::packed;
+use super::level::unpacked;
 use super::phrase::phrase_true;
 use super::range::range_true;
 use super::term::term_true;
+use stored::big::big2;
+use stored::part::size_of;
+use stored::part::tag_of;
 ghost use mathlib.Core.Path.{_≡_};
 ghost use Prim.Native.Nat.{_<_, _≤_};
 ghost use mathlib.Core.Bool.{true};
@@ -22,11 +28,7 @@ ghost use Rattle.selection.specs.Truth.{IsLeaf, Truth, StoredFor, cut, O
 // Where the walk goes next: nowhere, or to the query from `at` to `end`, inside so many Booleans.
 pub enum Next {
     Done(bool),
-    Query {
-        depth: usize,
-        at: usize,
-        end: usize,
-    },
+    Query { depth: usize, at: usize, end: usize },
 }
 
 fn leaf_true(q: &[u8], rec: &[u8]) -> bool
@@ -119,7 +121,7 @@ fn step(q: &[u8], rec: &[u8], row: &mut [u64], depth: usize, at: usize, end: usi
         × (length (now q) ≤ selectionBytes) × (selectionDepth ≤ length (now row)) ⌝ }
     ensures { λ r. ⌜ ((t : At (now (q .entry)) (now (row .entry)) depth at end)
         → Leads (each entryOf (now (rec .entry))) (now (q .entry)) (now (row .exit)) at
-            (outcome (each entryOf (now (rec .entry))) (t .around) (matches (each entryOf (now (rec .entry))) (t .query))) r) ⌝ }
+        (outcome (each entryOf (now (rec .entry))) (t .around) (matches (each entryOf (now (rec .entry))) (t .query))) r) ⌝ }
 {
     let x = &q[at..end];
     match tag_of(x) {

@@ -1,33 +1,22 @@
-use Rattle.selection.proofs.Levels as levels
-use Rattle.rules.proofs.Bools as bools
-use borrow.Author.Tests.{le-leb, lt-leb, not-true, not-false}
-use mathlib.Core.Bool.{Bool, true, false, not, _&&_}
-use mathlib.Core.Path.{_≡_, refl, sym, ap, _∙_}
-use native.Mathlib.Omega.{arith}
+-- `selection::level::answer` meets its contract.
+use borrow.Author.Tests.{not-true, not-false}
 use borrow.Author.Needs.{needs}
+use Rattle.selection.proofs.Levels as levels
 use Rattle.selection.proofs.level.answer.Statement.{statement}
 use Rattle.selection.proofs.level.answer.Tie as tie
-use Rattle.selection.proofs.level.answer.Reads as reads
-use Rattle.selection.proofs.level.answer.Lts as lts
-use Rattle.selection.proofs.level.less.Reads as less-reads
 
--- src/level.rt:64:9
 returns : tie.Need-returns
 returns c = levels.answered-not (c .before .args .l) _ (c .if1 .taken)
 
--- src/level.rt:67:9
 returns-2 : tie.Need-returns-2
 returns-2 c = levels.answered-needed (c .before .before .args .l) _ (c .if2 .taken) (c .before .if1 .left)
 
--- src/level.rt:75:9
 returns-3 : tie.Need-returns-3
 returns-3 c = levels.answered-no (c .before .before .before .args .l) (c .before .before .before .args .yes) (c .before .if2 .left) (not-true _ (c .if3 .taken))
 
--- src/level.rt:79:16
 less-requires : tie.Need-less-requires
 less-requires c κs = search needs
 
--- src/level.rt:59:1
 returns-4 : tie.Need-returns-4
 returns-4 c = levels.answered-yes (c .before .before .before .before .args .l) (c .before .before .before .before .args .yes) _ (c .before .before .if2 .left) (not-false _ (c .before .if3 .left)) (c .less .ensures)
 

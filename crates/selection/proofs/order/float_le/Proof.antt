@@ -1,40 +1,29 @@
-use Rattle.selection.proofs.Orders as orders
-use lib.Ieee.{binary64, ofBits, isNan}
-use mathlib.Core.Bool.{Bool, true, false, not}
-use mathlib.Core.Path.{_≡_, refl, sym, ap, _∙_}
-use native.Mathlib.Omega.{arith}
+-- `selection::order::float_le` meets its contract.
+use mathlib.Core.Path.{refl, sym, _∙_}
+use lib.Ieee.{binary64, ofBits}
 use borrow.Author.Needs.{needs}
+use Rattle.selection.proofs.Orders as orders
 use Rattle.selection.proofs.order.float_le.Statement.{statement}
 use Rattle.selection.proofs.order.float_le.Tie as tie
-use Rattle.selection.proofs.order.float_le.Reads as reads
-use Rattle.selection.proofs.order.float_le.Lts as lts
-use Rattle.selection.proofs.order.is_nan.Reads as is-nan-reads
 
--- src/order.rt:45:8
 is-nan-requires : tie.Need-is-nan-requires
 is-nan-requires c κs = search needs
 
--- src/order.rt:46:9
 returns : tie.Need-returns
 returns c = orders.le-nan-l (ofBits binary64 (c .before .before .args .a)) (ofBits binary64 (c .before .before .args .b)) (sym (c .before .is-nan .ensures) ∙ c .if1 .taken)
 
--- src/order.rt:48:8
 is-nan-requires-2 : tie.Need-is-nan-requires-2
 is-nan-requires-2 c κs = search needs
 
--- src/order.rt:49:9
 returns-2 : tie.Need-returns-2
 returns-2 c = orders.le-nan-r (ofBits binary64 (c .before .before .before .before .args .a)) (ofBits binary64 (c .before .before .before .before .args .b)) (sym (c .before .is-nan2 .ensures) ∙ c .if2 .taken)
 
--- src/order.rt:51:5
 float-from-bits-result : tie.Need-float-from-bits-result
 float-from-bits-result c = orders.no-nan (c .before .before .before .before .args .a) (sym (c .before .before .before .is-nan .ensures) ∙ c .before .before .if1 .left)
 
--- src/order.rt:51:26
 float-from-bits-result-2 : tie.Need-float-from-bits-result-2
 float-from-bits-result-2 c = orders.no-nan (c .before .before .before .before .args .b) (sym (c .before .is-nan2 .ensures) ∙ c .if2 .left)
 
--- src/order.rt:42:1
 returns-3 : tie.Need-returns-3
 returns-3 c = refl
 

@@ -1,24 +1,15 @@
-use Rattle.selection.proofs.Orders as orders
-use lib.Ieee.{binary64, ofBits, isNan}
-use mathlib.Core.Bool.{Bool, true, false, not}
-use mathlib.Core.Path.{_≡_, refl, sym, ap, _∙_}
-use native.Mathlib.Omega.{arith}
+-- `selection::order::whole_le` meets its contract.
 use borrow.Author.Needs.{needs}
+use Rattle.selection.proofs.Orders as orders
 use Rattle.selection.proofs.order.whole_le.Statement.{statement}
 use Rattle.selection.proofs.order.whole_le.Tie as tie
-use Rattle.selection.proofs.order.whole_le.Reads as reads
-use Rattle.selection.proofs.order.whole_le.Lts as lts
-use Rattle.selection.proofs.order.turned.Reads as turned-reads
 
--- src/order.rt:26:5
 turned-requires : tie.Need-turned-requires
 turned-requires c κs = search needs
 
--- src/order.rt:26:18
 turned-requires-2 : tie.Need-turned-requires-2
 turned-requires-2 c κs = search needs
 
--- src/order.rt:23:1
 returns : tie.Need-returns
 returns c = orders.turned-le (c .before .before .args .a) (c .before .before .args .b) (c .before .turned .result) (c .turned2 .result) (c .before .turned .ensures) (c .turned2 .ensures) (c .before .before .fits .a .fits) (c .before .before .fits .b .fits)
 

@@ -1,28 +1,14 @@
-use Rattle.selection.proofs.Leaves as leaves
-use Rattle.selection.proofs.Entries as entries
-use Rattle.selection.specs.Entry.{numbers}
-use Rattle.rules.proofs.Leaves as bounds
-use Rattle.rules.proofs.Rows as rows
+-- `selection::phrase::has_start` meets its contract.
+use mathlib.Core.Path.{sym, _∙_}
+use lib.ListN.{length}
+use Rattle.rules.specs.Matching.{startsOn}
+use Rattle.rules.specs.Reading.{wordOf}
+use Rattle.rules.specs.Lists.{entryOf}
+use Rattle.rules.specs.Bytes.{each}
 use Rattle.rules.proofs.Parts as parts
-use Rattle.rules.proofs.Bools as bools
-use Rattle.rules.specs.Matching.{isHere, hasTerm, isAt, followsFrom, startsOn, isInside, liesIn, hasRange, atMost, below, overLower, underUpper}
-use Rattle.rules.specs.Reading.{isWord, wordOf, boundOf}
-use Rattle.rules.specs.Lists.{entryOf, isEntry}
-use Rattle.rules.specs.Bytes.{ofBig, bodyOf, restOf, every, each, some, all, same}
-use denote.Ref.{now}
-use lib.ListN.{length, drop, take}
-use Prim.Native.Nat.{ℕ, _+_, _*_, _-_, _<_, _≤_}
-use mathlib.Core.List.{List, _∷_}
-use mathlib.Core.Bool.{Bool, true, false, not, _&&_}
-use mathlib.Core.Path.{_≡_, refl, sym, ap, _∙_}
-use native.Mathlib.Omega.{arith}
-use borrow.Author.Needs.{needs}
+use Rattle.selection.proofs.Entries as entries
 use Rattle.selection.proofs.phrase.has_start.Statement.{statement}
 use Rattle.selection.proofs.phrase.has_start.Tie as tie
-use Rattle.selection.proofs.phrase.has_start.Reads as reads
-use Rattle.selection.proofs.phrase.has_start.Lts as lts
-use Rattle.selection.proofs.phrase.starts_on.Reads as starts-on-reads
-use Rattle.stored.proofs.part.rest.Reads as rest-reads
 
 abbrev Inv-loop : tie.InvT-loop
 Inv-loop f p t ws rec e₀ e = entries.Left (startsOn (each entryOf rec) f p t (each wordOf ws)) rec e
@@ -30,31 +16,24 @@ Inv-loop f p t ws rec e₀ e = entries.Left (startsOn (each entryOf rec) f p t (
 abbrev μ-loop : tie.MeasureT-loop
 μ-loop f p t ws rec e₀ e = length e
 
--- src/phrase.rt:77:5
 loop-holds : tie.Need-loop-holds Inv-loop μ-loop
 loop-holds c = entries.search-all (c .before .before .before .before .pre .1)
 
--- src/phrase.rt:78:12
 starts-on-requires : tie.Need-starts-on-requires Inv-loop μ-loop
 starts-on-requires c κs = (c .before .before .before .before .before .before .pre .0, c .before .before .before .before .before .before .pre .1, c .before .before .before .before .before .before .pre .2, entries.search-entry (c .before .loop .inv) (c .loop-test .taken))
 
--- src/phrase.rt:79:13
 returns : tie.Need-returns Inv-loop μ-loop
 returns c = entries.search-found (c .before .before .before .loop .inv) (c .before .before .loop-test .taken) (sym (c .before .starts-on .ensures) ∙ c .if1 .taken)
 
--- src/phrase.rt:81:13
 rest-requires : tie.Need-rest-requires Inv-loop μ-loop
 rest-requires c κs = entries.entry-whole _ (entries.search-entry (c .before .before .before .loop .inv) (c .before .before .loop-test .taken))
 
--- src/phrase.rt:77:5
 loop-less : tie.Need-loop-less Inv-loop μ-loop
 loop-less c = rw (c .rest .ensures) (parts.rest-shorter _ (c .before .before .before .loop-test .taken))
 
--- src/phrase.rt:77:5
 loop-again : tie.Need-loop-again Inv-loop μ-loop
 loop-again c = entries.search-next (c .before .before .before .before .loop .inv) (c .before .before .before .loop-test .taken) (sym (c .before .before .starts-on .ensures) ∙ c .before .if1 .left) (c .rest .ensures)
 
--- src/phrase.rt:72:1
 returns-2 : tie.Need-returns-2 Inv-loop μ-loop
 returns-2 c = entries.search-none (c .before .loop .inv) (c .loop-test .left)
 

@@ -1,32 +1,15 @@
-use Rattle.selection.specs.declared.level.Level.{Level}
-use borrow.Kind.MutSlice.{SameLen}
-use Rattle.selection.specs.Level.{isOver}
-use Rattle.selection.proofs.Leaves as leaves
-use Rattle.selection.proofs.Walks as walks
-use Rattle.selection.specs.Truth.{cut, Open, outcome, At, AtClause, Leads}
-use Rattle.rules.proofs.Parts as parts
-use Rattle.rules.proofs.Bools as bools
-use Rattle.rules.specs.Numbers.{selectionDepth}
-use Rattle.rules.specs.Matching.{matches}
-use Rattle.rules.specs.Lists.{entryOf, isEntry, Entry}
-use Rattle.rules.specs.Bytes.{every, each, tagOf, sizeOf}
-use denote.Ref.{now}
-use lib.ListN.{length, drop, take, length-set}
-use Prim.Native.Nat.{ℕ, _+_, _*_, _-_, _<_, _≤_}
-use mathlib.Core.List.{List, _∷_}
-use mathlib.Core.Bool.{Bool, true, false, not, _&&_}
+-- `selection::truth::settle` meets its contract.
 use mathlib.Core.Path.{_≡_, refl, sym, ap, _∙_}
+use Prim.Native.Nat.{_-_}
 use native.Mathlib.Omega.{arith}
+use lib.ListN.{length}
 use borrow.Author.Needs.{needs}
+use Rattle.selection.specs.Truth.{Open}
+use Rattle.selection.specs.declared.level.Level.{Level}
+use Rattle.selection.specs.Level.{isOver}
+use Rattle.selection.proofs.Walks as walks
 use Rattle.selection.proofs.truth.settle.Statement.{statement}
 use Rattle.selection.proofs.truth.settle.Tie as tie
-use Rattle.selection.proofs.truth.settle.Reads as reads
-use Rattle.selection.proofs.truth.settle.Lts as lts
-use Rattle.selection.proofs.level.allowed.Reads as allowed-reads
-use Rattle.selection.proofs.level.answer.Reads as answer-reads
-use Rattle.selection.proofs.level.is_over.Reads as is-over-reads
-use Rattle.selection.proofs.level.unpacked.Reads as unpacked-reads
-use Rattle.selection.proofs.truth.clause.Reads as clause-reads
 
 abbrev Inv-loop : tie.InvT-loop
 Inv-loop q row₀ depth at known d₀ e₀ y₀ row d e y = (length row ≡ length row₀) × ((o : Open q row₀ depth at) → walks.Back q row d e y o known)
@@ -34,71 +17,54 @@ Inv-loop q row₀ depth at known d₀ e₀ y₀ row d e y = (length row ≡ leng
 abbrev μ-loop : tie.MeasureT-loop
 μ-loop q row₀ depth at known d₀ e₀ y₀ row d e y = d
 
--- src/truth.rt:77:5
 loop-holds : tie.Need-loop-holds Inv-loop μ-loop
 loop-holds c = (refl, λ o. walks.back-start o _)
 
--- src/truth.rt:78:9
 sub-d : tie.Need-sub-d Inv-loop μ-loop
 sub-d c = search needs
 
--- src/truth.rt:79:26
 mul-unpacked : tie.Need-mul-unpacked Inv-loop μ-loop
 mul-unpacked c = omega (arith, walks.open-few (c .before .loop .inv .1 (c .before .before .before .before .pre .0) .around))
 
--- src/truth.rt:79:26
 slice-read-unpacked : tie.Need-slice-read-unpacked Inv-loop μ-loop
 slice-read-unpacked c = let g = c .before .loop-test .taken in omega (arith, c .before .before .loop .inv .0, c .before .before .before .before .before .pre .2, walks.open-few (c .before .before .loop .inv .1 (c .before .before .before .before .before .pre .0) .around))
 
--- src/truth.rt:79:13
 unpacked-requires : tie.Need-unpacked-requires Inv-loop μ-loop
 unpacked-requires c κs = search needs
 
--- src/truth.rt:81:12
 allowed-requires : tie.Need-allowed-requires Inv-loop μ-loop
 allowed-requires c κs = search needs
 
--- src/truth.rt:82:17
 answer-requires : tie.Need-answer-requires Inv-loop μ-loop
 answer-requires c κs = search needs
 
--- src/truth.rt:84:17
 clause-requires : tie.Need-clause-requires Inv-loop μ-loop
 clause-requires c κs = (walks.back-clause (c .before .before .before .before .before .before .before .before .loop .inv .1 (c .before .before .before .before .before .before .before .before .before .before .before .pre .0)) (c .before .before .before .before .before .before .before .before .loop .d - 1) (c .before .before .before .before .before .unpacked .result) (let g = c .before .before .before .before .before .before .before .loop-test .taken in omega arith) (c .before .before .before .before .before .unpacked .ensures) (c .before .before .answer .result) (c .before .before .answer .ensures) (c .before .if2 .taken) (sym (c .before .before .before .before .allowed .ensures) ∙ c .before .before .before .if1 .taken) .place, rw (c .before .before .answer .ensures) (omega (arith, ap (λ (l : Level). l .asked) (c .before .before .before .before .before .unpacked .ensures))), c .before .before .before .before .before .before .before .before .before .before .before .pre .1, omega (arith, c .before .before .before .before .before .before .before .before .loop .inv .0, c .before .before .before .before .before .before .before .before .before .before .before .pre .2))
 
--- src/truth.rt:84:17
 same-length : tie.Need-same-length Inv-loop μ-loop
 same-length c = c .before .before .clause .kept .1 .0 ∙ c .before .before .before .before .before .before .before .before .before .before .before .loop .inv .0
 
--- src/truth.rt:84:17
 returns : tie.Need-returns Inv-loop μ-loop
 returns c = λ es o. let N = walks.back-clause (c .before .before .before .before .before .before .before .before .before .before .before .loop .inv .1 o) (c .before .before .before .before .before .before .before .before .before .before .before .loop .d - 1) (c .before .before .before .before .before .before .before .before .unpacked .result) (let g = c .before .before .before .before .before .before .before .before .before .before .loop-test .taken in omega arith) (c .before .before .before .before .before .before .before .before .unpacked .ensures) (c .before .before .before .before .before .answer .result) (c .before .before .before .before .before .answer .ensures) (c .before .before .before .before .if2 .taken) (sym (c .before .before .before .before .before .before .before .allowed .ensures) ∙ c .before .before .before .before .before .before .if1 .taken) in walks.leads-on es _ _ (c .before .before .clause .result) (c .before .before .before .before .before .before .before .before .before .before .before .loop .inv .1 o .later) (N .value es) (c .before .before .clause .ensures es (N .place))
 
--- src/truth.rt:86:13
 is-over-requires : tie.Need-is-over-requires Inv-loop μ-loop
 is-over-requires c κs = search needs
 
--- src/truth.rt:77:5
 loop-less : tie.Need-loop-less Inv-loop μ-loop
 loop-less c = let g = c .before .before .before .before .before .before .before .loop-test .taken in omega arith
 
--- src/truth.rt:77:5
 loop-again : tie.Need-loop-again Inv-loop μ-loop
 loop-again c = (c .before .before .before .before .before .before .before .before .loop .inv .0, λ o. walks.back-over (c .before .before .before .before .before .before .before .before .loop .inv .1 o) (c .before .before .before .before .before .before .before .before .loop .d - 1) (c .before .before .before .before .before .unpacked .result) (let g = c .before .before .before .before .before .before .before .loop-test .taken in omega arith) (c .before .before .before .before .before .unpacked .ensures) (sym (c .before .before .before .before .allowed .ensures) ∙ c .before .before .before .if1 .taken) (c .before .if2 .left) (c .is-over .ensures ∙ ap isOver (c .before .before .answer .ensures)))
 
--- src/truth.rt:77:5
 loop-less-2 : tie.Need-loop-less-2 Inv-loop μ-loop
 loop-less-2 c = let g = c .before .before .before .before .loop-test .taken in omega arith
 
--- src/truth.rt:77:5
 loop-again-2 : tie.Need-loop-again-2 Inv-loop μ-loop
 loop-again-2 c = (c .before .before .before .before .before .loop .inv .0, λ o. walks.back-denied (c .before .before .before .before .before .loop .inv .1 o) (c .before .before .before .before .before .loop .d - 1) (c .before .before .unpacked .result) (let g = c .before .before .before .before .loop-test .taken in omega arith) (c .before .before .unpacked .ensures) (sym (c .before .allowed .ensures) ∙ c .if1 .left))
 
--- src/truth.rt:69:1
 same-length-2 : tie.Need-same-length-2 Inv-loop μ-loop
 same-length-2 c = c .before .loop .inv .0
 
--- src/truth.rt:69:1
 returns-2 : tie.Need-returns-2 Inv-loop μ-loop
 returns-2 c = λ es o. walks.back-end (c .before .loop .inv .1 o) (let g = c .loop-test .left in omega arith) es
 
