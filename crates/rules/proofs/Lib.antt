@@ -10,8 +10,11 @@ pub mod Refusals
 pub mod Steps
 pub mod Inverse
 pub mod Sound
+pub mod Accepted
+pub mod Entries
 pub mod Equal
 pub mod Faults
 pub mod Sizes
+pub mod Weights
 pub mod Views
 pub mod Cases

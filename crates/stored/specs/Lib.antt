@@ -1,2 +1,5 @@
 pub mod Laid
+pub mod List
+pub mod Measure
+pub mod Read
 pub mod Write

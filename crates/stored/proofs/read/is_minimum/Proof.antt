@@ -1,0 +1,28 @@
+-- `stored::read::is_minimum` meets its contract.
+use mathlib.Core.List.{List}
+use mathlib.Core.Path.{ap}
+use Prim.Native.Nat.{ℕ}
+use lib.Dec.{eqb}
+use lib.ListN.{length}
+use borrow.Author.Needs.{needs}
+use Rattle.rules.proofs.Parts as parts
+use Rattle.rules.proofs.Chains as chains
+use Rattle.rules.proofs.Bools as bools
+use Rattle.rules.specs.Numbers.{minimumTag}
+use Rattle.stored.proofs.read.is_minimum.Statement.{statement}
+use Rattle.stored.proofs.read.is_minimum.Tie as tie
+
+is-part-requires : tie.Need-is-part-requires
+is-part-requires c κs = search needs
+
+returns : tie.Need-returns
+returns c = chains.ends _ (c .before .is-part .ensures) (c .if1 .taken)
+
+body-requires : tie.Need-body-requires
+body-requires c κs = parts.part-is minimumTag _ (bools.told-yes (c .before .is-part .ensures) (c .if1 .left)) .0
+
+returns-2 : tie.Need-returns-2
+returns-2 c = chains.goes-on (c .before .before .is-part .ensures) (c .before .if1 .left) (ap (λ (l : List ℕ). eqb (length l) 2) (c .body .ensures))
+
+pub is-minimum-spec : {M : Type 1} → statement M
+is-minimum-spec = tie.close (tie.spec is-part-requires returns body-requires returns-2)
