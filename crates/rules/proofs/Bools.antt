@@ -11,6 +11,11 @@ pub split : (b : Bool) → (b ≡ true) ⊎ (b ≡ false)
 split true = inl refl
 split false = inr refl
 
+-- a test that can not pass
+pub fails : (b : Bool) → (b ≡ true → ⊥) → b ≡ false
+fails true h = absurd (h refl)
+fails false h = refl
+
 -- two tests that are true alike are one
 pub alike : (a b : Bool) → (a ≡ true → b ≡ true) → (b ≡ true → a ≡ true) → a ≡ b
 alike true b h k = sym (h refl)
@@ -44,6 +49,21 @@ pub and-no-r : (a : Bool) {b : Bool} → b ≡ false → a && b ≡ false
 and-no-r true h = h
 and-no-r false h = refl
 
+pub and-true : (a : Bool) → a && true ≡ a
+and-true true = refl
+and-true false = refl
+
+pub and-false : (a : Bool) → a && false ≡ false
+and-false a = and-no-r a refl
+
+pub and-same : (a b : Bool) → a && (a && b) ≡ a && b
+and-same true b = refl
+and-same false b = refl
+
+pub and-swap : (a b c : Bool) → a && (b && c) ≡ b && (a && c)
+and-swap true b c = refl
+and-swap false b c = sym (and-false b)
+
 -- four tests in a row
 pub and-four : (a b c d : Bool) → a && (b && (c && d)) ≡ true → (a ≡ true) × (b ≡ true) × (c ≡ true) × (d ≡ true)
 and-four a b c d h =
@@ -66,6 +86,36 @@ neither h k = simp (h, k)
 pub either : (a b : Bool) → a || b ≡ true → (a ≡ true) ⊎ (b ≡ true)
 either true b h = inl refl
 either false b h = inr h
+
+pub or-no-l : (a b : Bool) → a || b ≡ false → a ≡ false
+or-no-l true b h = h
+or-no-l false b h = refl
+
+pub or-no-r : (a b : Bool) → a || b ≡ false → b ≡ false
+or-no-r true b h = clash refl h
+or-no-r false b h = h
+
+pub or-false : (a : Bool) → a || false ≡ a
+or-false true = refl
+or-false false = refl
+
+pub or-assoc : (a b c : Bool) → a || (b || c) ≡ (a || b) || c
+or-assoc true b c = refl
+or-assoc false b c = refl
+
+-- a test that passes only where an earlier one does
+pub absorb : (x r y : Bool) → (y ≡ true → x ≡ true) → x || r ≡ (x || r) || y
+absorb true r y f = refl
+absorb false r true f = clash (f refl) refl
+absorb false r false f = sym (or-false r)
+
+pub or-same : (a b : Bool) → a || (a || b) ≡ a || b
+or-same true b = refl
+or-same false b = refl
+
+pub or-swap : (a b c : Bool) → a || (b || c) ≡ b || (a || c)
+or-swap true b c = sym (or-r b refl)
+or-swap false b c = refl
 
 -- ---- `cond`
 

@@ -17,4 +17,8 @@ pub mod Faults
 pub mod Sizes
 pub mod Weights
 pub mod Views
+pub mod Phrases
+pub mod Choices
+pub mod rewriting
+pub mod Demands
 pub mod Cases

@@ -11,6 +11,8 @@ pub mod Setup
 pub mod Parsing
 pub mod Floats
 pub mod Rewriting
+pub mod Tidy
+pub mod ByPlace
 pub mod Lists
 pub mod Matching
 pub mod Show

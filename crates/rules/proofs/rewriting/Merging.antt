@@ -1,0 +1,84 @@
+-- The merging of clauses: a clause is added in one way, summable or not, and merged clauses of one summable kind hold different queries. Section 'One round of rewriting'.
+use mathlib.Core.Path.{_≡_, refl}
+use Prim.Native.Nat.{ℕ}
+use mathlib.Core.Bool.{Bool, true, false, _&&_, cond}
+use lib.Ieee.{Float}
+use Rattle.rules.specs.Query.{Kind, Query, Clauses, none, clause, equal}
+use Rattle.rules.specs.Floats.{one, plus}
+use Rattle.rules.specs.Rewriting.{summable, standsFor, base, boostOf, Merged, empty, merged, put, addMerged, mergeOnto}
+use Rattle.rules.specs.ByPlace.{held}
+use Rattle.rules.proofs.Bools.{clash, both}
+use Rattle.rules.proofs.Equal.{equal-refl}
+use Rattle.rules.proofs.rewriting.Kinds.{stands-self}
+
+-- ---- a clause is added
+
+-- a merged clause of kind j that holds h takes up the clause of kind k and query q
+abbrev pub takes : ℕ → Kind → Query → Kind → Query → Bool
+takes m j h k q = standsFor j k && equal h (held m k q)
+
+-- its sum from then on
+abbrev pub raised : ℕ → Kind → Query → Float → Float
+raised m k q t = cond (summable m k) (plus t (boostOf q)) t
+
+module _ (m : ℕ) (k : Kind) (q : Query) where
+  pub add-empty : addMerged m k q empty ≡ merged k (held m k q) (cond (summable m k) (boostOf q) one) empty
+  unfolding addMerged put
+  add-empty = go (summable m k)
+    where
+      go : (b : Bool) → cond b (merged k (base q) (boostOf q) empty) (merged k q one empty) ≡ merged k (cond b (base q) q) (cond b (boostOf q) one) empty
+      go true = refl
+      go false = refl
+
+  module _ (j : Kind) (h : Query) (t : Float) (ms : Merged) where
+    pub add-merged : addMerged m k q (merged j h t ms) ≡ cond (takes m j h k q) (merged j h (raised m k q t) ms) (merged j h t (addMerged m k q ms))
+    unfolding addMerged put
+    add-merged = go (summable m k) (put (λ s. plus s (boostOf q)) (boostOf q) k (base q) ms) (put (λ s. s) one k q ms)
+      where
+        go : (b : Bool) (x y : Merged)
+            → cond b (cond (standsFor j k && equal h (base q)) (merged j h (plus t (boostOf q)) ms) (merged j h t x))
+            (cond (standsFor j k && equal h q) (merged j h t ms) (merged j h t y))
+            ≡ cond (standsFor j k && equal h (cond b (base q) q)) (merged j h (cond b (plus t (boostOf q)) t) ms) (merged j h t (cond b x y))
+        go true x y = refl
+        go false x y = refl
+
+    -- by what is added: it is taken up here, or goes on
+    pub add-by : (P : Merged → Type 0) → (takes m j h k q ≡ true → P (merged j h (raised m k q t) ms))
+        → (takes m j h k q ≡ false → P (merged j h t (addMerged m k q ms))) → P (addMerged m k q (merged j h t ms))
+    add-by P yes-taken not-taken = rw add-merged (go (takes m j h k q) yes-taken not-taken)
+      where
+        go : (b : Bool) → (b ≡ true → P (merged j h (raised m k q t) ms)) → (b ≡ false → P (merged j h t (addMerged m k q ms)))
+            → P (cond b (merged j h (raised m k q t) ms) (merged j h t (addMerged m k q ms)))
+        go true f g = f refl
+        go false f g = g refl
+
+-- ---- merged clauses of one summable kind hold different queries
+
+unfoldable pub Other : Kind → Query → Merged → Type 0
+Other k p empty = Unit {0}
+Other k p (merged j q t ms) = (k ≡ j → p ≡ q → ⊥) × Other k p ms
+
+unfoldable pub AllOther : ℕ → Merged → Type 0
+AllOther m empty = Unit {0}
+AllOther m (merged k q t ms) = (summable m k ≡ true → Other k q ms) × AllOther m ms
+
+module _ (m : ℕ) (k : Kind) (q : Query) where
+  other-add : (j : Kind) (p : Query) → takes m j p k q ≡ false → (ms : Merged) → Other j p ms → Other j p (addMerged m k q ms)
+  unfolding Other
+  other-add j p n empty h = rw add-empty (apart, tt)
+    where
+      apart : j ≡ k → p ≡ held m k q → ⊥
+      apart ej ep = let c : standsFor j k ≡ true = rw ej (stands-self k) in clash (both c (equal-refl p (held m k q) ep)) n
+  other-add j p n (merged i o t ms) h =
+      add-by m k q i o t ms (Other j p) (λ e. (h .0, h .1)) (λ e. (h .0, other-add j p n ms (h .1)))
+
+  pub all-other-add : (ms : Merged) → AllOther m ms → AllOther m (addMerged m k q ms)
+  unfolding AllOther Other
+  all-other-add empty h = rw add-empty ((λ s. tt), tt)
+  all-other-add (merged j p t ms) h =
+      add-by m k q j p t ms (AllOther m) (λ e. (h .0, h .1)) (λ e. ((λ s. other-add j p e ms (h .0 s)), all-other-add ms (h .1)))
+
+pub all-other-merge : (m : ℕ) (cs : Clauses) (ms : Merged) → AllOther m ms → AllOther m (mergeOnto m ms cs)
+unfolding mergeOnto
+all-other-merge m none ms h = h
+all-other-merge m (clause k q cs) ms h = all-other-merge m cs (addMerged m k q ms) (all-other-add m k q ms h)
