@@ -3,3 +3,4 @@ pub mod Orders
 pub mod Leaves
 pub mod Levels
 pub mod Walks
+pub mod Selections

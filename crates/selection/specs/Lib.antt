@@ -2,3 +2,4 @@ pub mod Entry
 pub mod Order
 pub mod Level
 pub mod Truth
+pub mod Select

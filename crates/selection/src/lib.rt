@@ -5,5 +5,6 @@ mod level;
 mod order;
 mod phrase;
 mod range;
+pub mod select;
 mod term;
-pub mod truth;
+mod truth;
