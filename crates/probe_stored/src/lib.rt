@@ -1,7 +1,9 @@
 // The checks of `stored` for programs in other languages: for tests alone, which link this crate's archive.
 use stored::list::check_list;
-use stored::measure::{largest, weight};
-use stored::read::{for_rewriting, for_selection};
+use stored::measure::largest;
+use stored::measure::weight;
+use stored::read::for_rewriting;
+use stored::read::for_selection;
 ghost use mathlib.Core.Path.{_≡_};
 ghost use Rattle.rules.specs.Reading.{numberOf, readForRewriting, readForSelection};
 ghost use Rattle.rules.specs.Lists.{readList};

@@ -157,7 +157,7 @@ unfolding laid
 laid-behind front before w bs e =
     let out = front ++ drop w before in
     let d : drop (w + length bs) out ≡ drop (w + length bs) before =
-        (sym (drop-drop (length bs) w out) ∙ ap (drop (length bs)) (drop-at front (drop w before) w e) ∙ drop-drop (length bs) w before) in
+    (sym (drop-drop (length bs) w out) ∙ ap (drop (length bs)) (drop-at front (drop w before) w e) ∙ drop-drop (length bs) w before) in
     rw (take-at front (drop w before) w e, d)
 
 -- `done` is written, and what is chosen is that with what is still to come
@@ -167,59 +167,93 @@ pub record Filling (code : ℕ → List ℕ) (all more before after : List ℕ) 
   pub place : length (flat code done) ≡ w
   pub row : after ≡ flat code done ++ drop w before
 
-module _ (code : ℕ → List ℕ) (all before : List ℕ) where
-  pub fill-start : Filling code all all before before 0
+module _ (code : ℕ → List ℕ) {all more before after : List ℕ} {w : ℕ} (F : Filling code all more before after w) where
+  below : length (flat code all) ≤ length before → w + length (flat code more) ≤ length before
+  below fits =
+      let p = F .place in
+      let e = ap (λ (l : List ℕ). length (flat code l)) (F .whole) in
+      omega (arith, ap length (flat-append code (F .done) more), length-append (flat code (F .done)) (flat code more))
+
+  fill-length : length (flat code all) ≤ length before → length after ≡ length before
+  fill-length fits =
+      let p = F .place in
+      omega (arith, below fits, ap length (F .row), length-append (flat code (F .done)) (drop w before), length-drop w before)
+
+  fill-room : length (flat code all) ≤ length before → (i : ℕ) (y : Bool) (later : List ℕ) → more ≡ cond y (i ∷ later) later
+      → w + length (cond y (code i) []) ≤ length after
   unfolding flat
-  fill-start = record { done = []; whole = refl; place = refl; row = refl }
+  fill-room fits i true later e =
+      let k = ap (λ (l : List ℕ). length (flat code l)) e in
+      omega (arith, below fits, fill-length fits, length-append (code i) (flat code later))
+  fill-room fits i false later e = omega (arith, below fits, fill-length fits)
 
-  module _ (fits : length (flat code all) ≤ length before) (more after : List ℕ) (w : ℕ) (F : Filling code all more before after w) where
-    below : w + length (flat code more) ≤ length before
-    below =
-        let p = F .place in
-        let e = ap (λ (l : List ℕ). length (flat code l)) (F .whole) in
-        omega (arith, ap length (flat-append code (F .done) more), length-append (flat code (F .done)) (flat code more))
+  -- the numbers ds, written as bs
+  fill-more : (ds bs later new : List ℕ) (v : ℕ) → flat code ds ≡ bs → more ≡ ds ++ later → Put after w bs v new → Filling code all later before new v
+  fill-more ds bs later new v f m P =
+      let g : flat code (F .done ++ ds) ≡ flat code (F .done) ++ bs = flat-append code (F .done) ds ∙ ap {B = List ℕ} (λ l. flat code (F .done) ++ l) f in
+      record {
+        done = F .done ++ ds;
+        whole = F .whole ∙ ap {B = List ℕ} (λ l. F .done ++ l) m ∙ sym (append-assoc (F .done) ds later);
+        place = ap length g ∙ length-append (flat code (F .done)) bs ∙ ap (λ (k : ℕ). k + length bs) (F .place) ∙ sym (P .place);
+        row =
+            P .bytes ∙ ap (λ (l : List ℕ). laid l w bs) (F .row) ∙ laid-behind (flat code (F .done)) before w bs (F .place)
+            ∙ ap {B = List ℕ} (λ l. l ++ drop (w + length bs) before) (sym g) ∙ ap {B = List ℕ} (λ k. flat code (F .done ++ ds) ++ drop k before) (sym (P .place));
+      }
 
-    pub fill-length : length after ≡ length before
-    fill-length =
-        let p = F .place in
-        omega (arith, below, ap length (F .row), length-append (flat code (F .done)) (drop w before), length-drop w before)
+  fill-next : (i : ℕ) (y : Bool) (later new : List ℕ) (v : ℕ) → more ≡ cond y (i ∷ later) later → Put after w (cond y (code i) []) v new
+      → Filling code all later before new v
+  unfolding flat
+  fill-next i true later new v e P = fill-more (i ∷ []) (code i) later new v (append-nil (code i)) e P
+  fill-next i false later new v e P = fill-more [] [] later new v refl e P
 
-    module _ (i : ℕ) (y : Bool) (later : List ℕ) (e : more ≡ cond y (i ∷ later) later) where
-      pub fill-room : w + length (cond y (code i) []) ≤ length after
-      unfolding flat
-      fill-room = go y e
-        where
-          go : (y : Bool) → more ≡ cond y (i ∷ later) later → w + length (cond y (code i) []) ≤ length after
-          go true e =
-              let k = ap (λ (l : List ℕ). length (flat code l)) e in
-              omega (arith, below, fill-length, length-append (code i) (flat code later))
-          go false e = omega (arith, below, fill-length)
+-- the loop over the records of l: those from t on, the first of which is i, are still to come
+pub record Filled (code : ℕ → List ℕ) (s l t before after : List ℕ) (w i : ℕ) : Type 0 where
+  pub records : every isRecord t ≡ true
+  pub left : i + length t ≤ length l
+  pub filling : (x : Query) → Is s x → Filling code (chosen x (each recordOf l)) (chosenFrom i x (each recordOf t)) before after w
 
-      pub fill-next : (v : ℕ) (new : List ℕ) → Put after w (cond y (code i) []) v new → Filling code all later before new v
-      unfolding flat
-      fill-next v new P = go y e P
-        where
-          made : (ds bs : List ℕ) → flat code ds ≡ bs → more ≡ ds ++ later → Put after w bs v new → Filling code all later before new v
-          made ds bs f m P =
-              let g : flat code (F .done ++ ds) ≡ flat code (F .done) ++ bs = flat-append code (F .done) ds ∙ ap {B = List ℕ} (λ l. flat code (F .done) ++ l) f in
-              record {
-                done = F .done ++ ds;
-                whole = F .whole ∙ ap {B = List ℕ} (λ l. F .done ++ l) m ∙ sym (append-assoc (F .done) ds later);
-                place = ap length g ∙ length-append (flat code (F .done)) bs ∙ ap (λ (k : ℕ). k + length bs) (F .place) ∙ sym (P .place);
-                row =
-                  P .bytes ∙ ap (λ (l : List ℕ). laid l w bs) (F .row) ∙ laid-behind (flat code (F .done)) before w bs (F .place)
-                  ∙ ap {B = List ℕ} (λ l. l ++ drop (w + length bs) before) (sym g) ∙ ap {B = List ℕ} (λ k. flat code (F .done ++ ds) ++ drop k before) (sym (P .place));
-              }
+module _ (code : ℕ → List ℕ) {s l : List ℕ} (R : Ready s l) where
+  pub filled-start : (before : List ℕ) → Filled code s l l before before 0 0
+  unfolding flat
+  filled-start before = record {
+    records = R .list .records;
+    left = omega arith;
+    filling = λ x p. record { done = []; whole = refl; place = refl; row = refl };
+  }
 
-          go : (y : Bool) → more ≡ cond y (i ∷ later) later → Put after w (cond y (code i) []) v new → Filling code all later before new v
-          go true e P = made (i ∷ []) (code i) (append-nil (code i)) e P
-          go false e P = made [] [] refl e P
+  module _ {t before after : List ℕ} {w i : ℕ} (F : Filled code s l t before after w i) where
+    of-query : Filling code (listed (selected s l)) (chosenFrom i (R .query .query) (each recordOf t)) before after w
+    of-query = rw (numbers R) (F .filling (R .query .query) (R .query .is))
 
-  pub fill-count : (after : List ℕ) (w : ℕ) → Filling code all [] before after w → w ≡ length (flat code all)
-  fill-count after w F = sym (ap (λ (l : List ℕ). length (flat code l)) (F .whole ∙ append-nil (F .done)) ∙ F .place)
+    pub filled-length : length (flat code (listed (selected s l))) ≤ length before → length after ≡ length before
+    filled-length fits = fill-length code of-query fits
 
-  pub fill-end : (after : List ℕ) (w : ℕ) → Filling code all [] before after w → after ≡ flat code all ++ drop w before
-  fill-end after w F = F .row ∙ ap {B = List ℕ} (λ l. flat code l ++ drop w before) (sym (F .whole ∙ append-nil (F .done)))
+    module _ (more : 0 < length t) {b u : List ℕ} (y : Bool) (eb : b ≡ bodyOf t) (eu : u ≡ restOf t) (T : Truth s (each entryOf b) y) where
+      pub filled-room : length (flat code (listed (selected s l))) ≤ length before → w + length (cond y (code i) []) ≤ length after
+      filled-room fits =
+          fill-room code of-query fits i y (chosenFrom (i + 1) (R .query .query) (each recordOf u))
+          (chosen-next s t y more eb eu T (R .query .query) (R .query .is) i)
+
+      pub filled-next : {new : List ℕ} {v : ℕ} → Put after w (cond y (code i) []) v new → Filled code s l u before new v (i + 1)
+      filled-next {new} {v} P = record {
+        records = rw eu (other-records t more (F .records));
+        left = let k = F .left in let e = ap length eu in omega (arith, rest-shorter t more);
+        filling = λ x p.
+            fill-next code (F .filling x p) i y (chosenFrom (i + 1) x (each recordOf u)) new v (chosen-next s t y more eb eu T x p i) P;
+      }
+
+    module _ (over : length t ≤ 0) where
+      at-end : Filling code (listed (selected s l)) [] before after w
+      at-end = rw (chosen-none t over (R .query .query) i) at of-query
+
+      written : listed (selected s l) ≡ at-end .done
+      written = at-end .whole ∙ append-nil (at-end .done)
+
+      pub filled-count : w ≡ length (flat code (listed (selected s l)))
+      filled-count = sym (ap (λ (l : List ℕ). length (flat code l)) written ∙ at-end .place)
+
+      pub filled-end : after ≡ flat code (listed (selected s l)) ++ drop w before
+      filled-end = at-end .row ∙ ap {B = List ℕ} (λ l. flat code l ++ drop w before) (sym written)
 
 -- ---- one number into the rows
 
@@ -281,6 +315,9 @@ fits-alike ns n =
     alike (leb (length (rowBytes ns)) n) (leb (length ns) (n / 4))
     (λ h. let k = leb-true (length (rowBytes ns)) n h in le-leb (length ns) (n / 4) (omega (arith, length-rows ns)))
     (λ h. let k = leb-true (length ns) (n / 4) h in le-leb (length (rowBytes ns)) n (omega (arith, length-rows ns)))
+
+pub fits-bytes : (ns : List ℕ) (n : ℕ) → leb (length ns) (n / 4) ≡ true → length (rowBytes ns) ≤ n
+fits-bytes ns n h = leb-true (length (rowBytes ns)) n (fits-alike ns n ∙ h)
 
 module _ (s l rows room : List ℕ) where
   no-room-asked : selectLeft s l rows room ≡ leave (andThen (onRead rowsReply (selected s l)) (fitting (length rows))) rows room
