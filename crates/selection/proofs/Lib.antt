@@ -1,0 +1,6 @@
+pub mod Entries
+pub mod Orders
+pub mod Leaves
+pub mod Levels
+pub mod Walks
+pub mod Selections

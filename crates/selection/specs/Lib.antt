@@ -1,0 +1,5 @@
+pub mod Entry
+pub mod Order
+pub mod Level
+pub mod Truth
+pub mod Select

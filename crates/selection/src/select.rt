@@ -1,0 +1,177 @@
+// Selection: the numbers, from 0, of the records that a query is true of, into rows that the caller lends. The query and the list are checked
+// once. Whether the rows are long enough is known at once where they hold every record; only else is it counted before anything is written.
+use super::truth::holds;
+use stored::big::put_big4;
+use stored::bytes::clear;
+use stored::list::check_list;
+use stored::part::body;
+use stored::part::rest;
+use stored::read::for_selection;
+ghost use mathlib.Core.Path.{_≡_};
+ghost use Prim.Native.Nat.{_+_, _≤_};
+ghost use mathlib.Core.Bool.{true, cond};
+ghost use mathlib.Core.List.{[], _∷_, _++_};
+ghost use lib.Dec.{leb};
+ghost use lib.ListN.{length, drop};
+ghost use Rattle.rules.specs.Bytes.{big, every, each};
+ghost use Rattle.rules.specs.Reading.{numberOf};
+ghost use Rattle.rules.specs.Lists.{isRecord, recordOf};
+ghost use Rattle.rules.specs.Matching.{bit};
+ghost use Rattle.rules.specs.Answers.{selected, rowBytes};
+ghost use Rattle.stored.specs.Laid.{Put};
+ghost use Rattle.selection.specs.Select.{listed, Selects, SelectsBytes};
+
+// A refusal by its number, or how many records were chosen.
+pub enum Selected {
+    Refused(u8),
+    Chosen(usize),
+}
+
+// 0 where both are sound.
+fn checked(query: &[u8], list: &[u8]) -> u8
+    ensures { λ r. ⌜ r ≡ numberOf (selected (now (query .entry)) (now (list .entry))) ⌝ }
+{
+    let n = for_selection(query);
+    if n != 0 {
+        return n;
+    }
+    check_list(list)
+}
+
+fn records(list: &[u8]) -> usize
+    requires { ⌜ every isRecord (now list) ≡ true ⌝ }
+    ensures { λ r. ⌜ r ≡ length (each recordOf (now (list .entry))) ⌝ }
+{
+    let mut n: usize = 0;
+    let mut t = list;
+    while t.len() > 0 {
+        n += 1;
+        let u = rest(t);
+        t = u;
+    }
+    n
+}
+
+fn one(y: bool) -> usize
+    ensures { λ r. ⌜ (r ≡ bit y) × (r ≤ 1) ⌝ }
+{
+    if y { 1 } else { 0 }
+}
+
+fn count(query: &[u8], list: &[u8]) -> usize
+    requires { ⌜ numberOf (selected (now query) (now list)) ≡ 0 ⌝ }
+    ensures { λ r. ⌜ r ≡ length (listed (selected (now (query .entry)) (now (list .entry)))) ⌝ }
+{
+    let mut row = [0u64; 192];
+    let mut n: usize = 0;
+    let mut t = list;
+    while t.len() > 0 {
+        n += one(holds(query, body(t), &mut row));
+        let u = rest(t);
+        t = u;
+    }
+    n
+}
+
+// Whether n numbers are room enough.
+fn fits(query: &[u8], list: &[u8], n: usize) -> bool
+    requires { ⌜ numberOf (selected (now query) (now list)) ≡ 0 ⌝ }
+    ensures { λ r. ⌜ r ≡ leb (length (listed (selected (now (query .entry)) (now (list .entry))))) n ⌝ }
+{
+    if records(list) <= n {
+        return true;
+    }
+    count(query, list) <= n
+}
+
+// ---- rows of 32-bit numbers
+
+// The number i goes to w where y is true; the answer is where the next one goes.
+fn put(rows: &mut [u32], w: usize, i: u32, y: bool) -> usize
+    requires { ⌜ w + length (cond y (i ∷ []) []) ≤ length (now rows) ⌝ }
+    ensures { λ r. ⌜ Put (now (rows .entry)) w (cond y (i ∷ []) []) r (now (rows .exit)) ⌝ }
+{
+    if y {
+        rows[w] = i;
+        w + 1
+    } else {
+        w
+    }
+}
+
+fn fill(query: &[u8], list: &[u8], rows: &mut [u32]) -> usize
+    requires { ⌜ (numberOf (selected (now query) (now list)) ≡ 0) × (length (listed (selected (now query) (now list))) ≤ length (now rows)) ⌝ }
+    ensures { λ r. ⌜ (r ≡ length (listed (selected (now (query .entry)) (now (list .entry)))))
+        × (now (rows .exit) ≡ listed (selected (now (query .entry)) (now (list .entry))) ++ drop r (now (rows .entry))) ⌝ }
+{
+    let mut row = [0u64; 192];
+    let mut w: usize = 0;
+    let mut i: u32 = 0;
+    let mut t = list;
+    while t.len() > 0 {
+        let y = holds(query, body(t), &mut row);
+        w = put(rows, w, i, y);
+        i += 1;
+        let u = rest(t);
+        t = u;
+    }
+    w
+}
+
+pub fn select(query: &[u8], list: &[u8], rows: &mut [u32]) -> Selected
+    ensures { λ r. ⌜ Selects (now (query .entry)) (now (list .entry)) (now (rows .entry)) (now (rows .exit)) r ⌝ }
+{
+    let n = checked(query, list);
+    if n != 0 {
+        return Selected::Refused(n);
+    }
+    if !fits(query, list, rows.len()) {
+        return Selected::Refused(18);
+    }
+    let k = fill(query, list, rows);
+    Selected::Chosen(k)
+}
+
+// ---- rows of bytes: four for each number, big-endian, as everything stored is
+
+fn put_bytes(rows: &mut [u8], w: usize, i: u32, y: bool) -> usize
+    requires { ⌜ w + length (cond y (big 4 i) []) ≤ length (now rows) ⌝ }
+    ensures { λ r. ⌜ Put (now (rows .entry)) w (cond y (big 4 i) []) r (now (rows .exit)) ⌝ }
+{
+    if y { put_big4(rows, w, i) } else { w }
+}
+
+fn fill_bytes(query: &[u8], list: &[u8], rows: &mut [u8]) -> usize
+    requires { ⌜ (numberOf (selected (now query) (now list)) ≡ 0) × (length (rowBytes (listed (selected (now query) (now list)))) ≤ length (now rows)) ⌝ }
+    ensures { λ r. ⌜ (r ≡ length (rowBytes (listed (selected (now (query .entry)) (now (list .entry))))))
+        × (now (rows .exit) ≡ rowBytes (listed (selected (now (query .entry)) (now (list .entry)))) ++ drop r (now (rows .entry))) ⌝ }
+{
+    let mut row = [0u64; 192];
+    let mut w: usize = 0;
+    let mut i: u32 = 0;
+    let mut t = list;
+    while t.len() > 0 {
+        let y = holds(query, body(t), &mut row);
+        w = put_bytes(rows, w, i, y);
+        i += 1;
+        let u = rest(t);
+        t = u;
+    }
+    w
+}
+
+// The call of programs in other languages. It needs no room, and clears what it is lent.
+pub fn select_bytes(query: &[u8], list: &[u8], rows: &mut [u8], room: &mut [u8]) -> Selected
+    ensures { λ r. ⌜ SelectsBytes (now (query .entry)) (now (list .entry)) (now (rows .entry)) (now (room .entry)) (now (rows .exit)) (now (room .exit)) r ⌝ }
+{
+    clear(room);
+    let n = checked(query, list);
+    if n != 0 {
+        return Selected::Refused(n);
+    }
+    if !fits(query, list, rows.len() / 4) {
+        return Selected::Refused(18);
+    }
+    let w = fill_bytes(query, list, rows);
+    Selected::Chosen(w / 4)
+}
