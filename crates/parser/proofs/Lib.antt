@@ -8,3 +8,6 @@ pub mod Writing
 pub mod Fronts
 pub mod Filling
 pub mod Placing
+pub mod Notes
+pub mod Entries
+pub mod Delivering

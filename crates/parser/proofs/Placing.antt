@@ -10,6 +10,7 @@ use native.Mathlib.Omega.{arith}
 use native.Mathlib.Numerals.{add-one}
 use lib.Dec.{eqb, ltb}
 use lib.ListN.{length, take, drop, length-append, length-drop}
+use lib.Seq.{length-take-le}
 use borrow.Author.Tests.{eqb-true, le-ltb, lt-ltb}
 use Rattle.rules.specs.Numbers.{Refusal, Read, got, refused, need, onRead, andThen, manyBrackets, unexpectedEnd, unexpectedToken}
 use Rattle.rules.specs.Query.{Query, Clauses, none}
@@ -206,3 +207,7 @@ mid-put out ys S start len h e l = record {
   place = omega arith;
   bytes = lent out ys start (start + len) (omega arith) h (ap length e ∙ omega arith) ∙ ap (λ (y : List ℕ). laid out start y) e;
 }
+
+-- the first len bytes
+pub first-length : (out : List ℕ) (len : ℕ) → len ≤ length out → length (take (len - 0) (drop 0 out)) ≡ len
+first-length out len h = let e : len - 0 ≡ len = omega arith in ap (λ (x : ℕ). length (take x out)) e ∙ length-take-le len out h

@@ -53,11 +53,11 @@ module _ {a : ℕ} {s : List ℕ} {each at count bytes start len : ℕ} (C : Cou
   unfolding tallied
   counting-goes n =
       let h : 0 < len = omega arith in
-      let l = cut-length a s start len (F .within) in
+      let l = cut-length a s start len (omega (arith, F .within, C .within)) in
       let y = ap length (F .one h) in
       let z = ap (tallied each) (F .one h) in
       record {
-        within = omega (arith, F .within);
+        within = omega (arith, F .within, C .within);
         counted = omega (arith, C .counted);
         size = omega (arith, C .size);
       }

@@ -144,7 +144,7 @@ module _ {a : ℕ} {s : List ℕ} {start len : ℕ} (F : Found a s 0 start len) 
   one-slice = let x : spelled a (take (start + len - start) (drop start s)) ∷ tokenTexts a (drop (start + len) s) ≡ t ∷ [] = sym (one-here F one-some) ∙ e in cc
 
   pub one-size : length t ≡ len
-  one-size = ap length (sym one-slice) ∙ spelled-length a _ ∙ slice-length s start len (F .within)
+  one-size = ap length (sym one-slice) ∙ spelled-length a _ ∙ slice-length s start len (omega (arith, F .within))
 
 -- a clause and a word fit where their bytes do
 pub clause-room : (f t out : List ℕ) (a w tag : ℕ) → w + length (part tag (encode (term f (spelled a t)))) ≤ length out → w + 12 + length f + length t ≤ length out

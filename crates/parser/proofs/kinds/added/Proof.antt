@@ -1,39 +1,29 @@
+-- `parser::kinds::added` meets its contract.
 use mathlib.Core.Path.{sym, _∙_}
 use Rattle.parser.proofs.Deciding.{added-nothing, added-made}
 use native.Mathlib.Omega.{arith}
 use borrow.Author.Needs.{needs}
 use Rattle.parser.proofs.kinds.added.Statement.{statement}
 use Rattle.parser.proofs.kinds.added.Tie as tie
-use Rattle.parser.proofs.kinds.added.Reads as reads
-use Rattle.parser.proofs.kinds.added.Lts as lts
-use Rattle.parser.proofs.kinds.tag_after.Reads as tag-after-reads
-use Rattle.parser.proofs.kinds.tag_before.Reads as tag-before-reads
 
--- src/kinds.rt:183:43
 tag-before-requires : tie.Need-tag-before-requires
 tag-before-requires c κs = search needs
 
--- src/kinds.rt:183:9
 returns : tie.Need-returns
 returns c = ((λ cs q s e. added-nothing (c .before .before .args .operator) (c .before .before .args .c) (c .before .before .args .m) cs s _ (c .tag-before .ensures cs (s .last)) q (sym (c .before .if1 .taken) ∙ e)), omega arith)
 
--- src/kinds.rt:185:18
 add-t8 : tie.Need-add-t8
 add-t8 c = search needs
 
--- src/kinds.rt:185:36
 tag-after-requires : tie.Need-tag-after-requires
 tag-after-requires c κs = search needs
 
--- src/kinds.rt:185:70
 add-t10 : tie.Need-add-t10
 add-t10 c = search needs
 
--- src/kinds.rt:185:70
 add-t11 : tie.Need-add-t11
 add-t11 c = search needs
 
--- src/kinds.rt:177:1
 returns-2 : tie.Need-returns-2
 returns-2 c = ((λ cs q s e. added-made (c .before .before .before .before .args .operator) (c .before .before .before .before .args .c) (c .before .before .before .before .args .m) cs s _ _ (c .before .before .before .if1 .left) (c .before .tag-after .ensures) q e), omega arith)
 

@@ -1,29 +1,20 @@
-use mathlib.Core.Path.{sym, _∙_}
-use native.Mathlib.Omega.{arith}
+-- `parser::kinds::is_named` meets its contract.
 use borrow.Author.Needs.{needs}
 use Rattle.parser.proofs.kinds.is_named.Statement.{statement}
 use Rattle.parser.proofs.kinds.is_named.Tie as tie
-use Rattle.parser.proofs.kinds.is_named.Reads as reads
-use Rattle.parser.proofs.kinds.is_named.Lts as lts
-use Rattle.parser.proofs.kinds.is_at.Reads as is-at-reads
 
--- src/kinds.rt:73:8
 is-at-requires : tie.Need-is-at-requires
 is-at-requires c κs = search needs
 
--- src/kinds.rt:74:34
 add-is-at : tie.Need-add-is-at
 add-is-at c = search needs
 
--- src/kinds.rt:74:9
 is-at-requires-2 : tie.Need-is-at-requires-2
 is-at-requires-2 c κs = search needs
 
--- src/kinds.rt:74:9
 returns : tie.Need-returns
 returns c = rw (← c .before .before .is-at .ensures, c .before .if1 .taken) (c .is-at2 .ensures)
 
--- src/kinds.rt:69:1
 returns-2 : tie.Need-returns-2
 returns-2 c = rw (← c .before .is-at .ensures, c .if1 .left)
 

@@ -1,30 +1,22 @@
+-- `parser::kinds::modifier_at` meets its contract.
 use Rattle.lexer.specs.Row.{tokensOf}
 use Rattle.parser.proofs.Deciding.{mod-plus, mod-minus, mod-not, mod-none}
-use native.Mathlib.Omega.{arith}
 use borrow.Author.Needs.{needs}
 use Rattle.parser.proofs.kinds.modifier_at.Statement.{statement}
 use Rattle.parser.proofs.kinds.modifier_at.Tie as tie
-use Rattle.parser.proofs.kinds.modifier_at.Reads as reads
-use Rattle.parser.proofs.kinds.modifier_at.Lts as lts
-use Rattle.lexer.proofs.row.kind_at.Reads as kind-at-reads
 
--- src/kinds.rt:101:9
 kind-at-requires : tie.Need-kind-at-requires
 kind-at-requires c κs = search needs
 
--- src/kinds.rt:103:9
 returns : tie.Need-returns
 returns c = mod-plus (tokensOf (c .before .before .before .args .room .now) (c .before .before .before .args .n)) (c .before .before .before .args .i) _ (c .before .kind-at .ensures) (c .if1 .taken)
 
--- src/kinds.rt:106:9
 returns-2 : tie.Need-returns-2
 returns-2 c = mod-minus (tokensOf (c .before .before .before .before .args .room .now) (c .before .before .before .before .args .n)) (c .before .before .before .before .args .i) _ (c .before .before .kind-at .ensures) (c .before .if1 .left) (c .if2 .taken)
 
--- src/kinds.rt:97:1
 returns-3 : tie.Need-returns-3
 returns-3 c = mod-not (tokensOf (c .before .before .before .before .before .args .room .now) (c .before .before .before .before .before .args .n)) (c .before .before .before .before .before .args .i) _ (c .before .before .before .kind-at .ensures) (c .before .before .if1 .left) (c .before .if2 .left) (c .if3 .taken)
 
--- src/kinds.rt:97:1
 returns-4 : tie.Need-returns-4
 returns-4 c = mod-none (tokensOf (c .before .before .before .before .before .args .room .now) (c .before .before .before .before .before .args .n)) (c .before .before .before .before .before .args .i) _ (c .before .before .before .kind-at .ensures) (c .before .before .if1 .left) (c .before .if2 .left) (c .if3 .left)
 

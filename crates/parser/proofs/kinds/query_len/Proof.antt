@@ -1,34 +1,26 @@
+-- `parser::kinds::query_len` meets its contract.
 use Rattle.parser.proofs.Keeping.{length-none, length-alone, length-several}
 use mathlib.Core.Path.{sym, _∙_}
 use native.Mathlib.Omega.{arith}
 use borrow.Author.Needs.{needs}
 use Rattle.parser.proofs.kinds.query_len.Statement.{statement}
 use Rattle.parser.proofs.kinds.query_len.Tie as tie
-use Rattle.parser.proofs.kinds.query_len.Reads as reads
-use Rattle.parser.proofs.kinds.query_len.Lts as lts
-use Rattle.parser.proofs.kinds.is_alone.Reads as is-alone-reads
 
--- src/kinds.rt:211:9
 returns : tie.Need-returns
 returns c = ((λ cs s. length-none cs s (c .if1 .taken)), omega arith)
 
--- src/kinds.rt:213:8
 is-alone-requires : tie.Need-is-alone-requires
 is-alone-requires c κs = search needs
 
--- src/kinds.rt:214:16
 sub-result : tie.Need-sub-result
 sub-result c = omega (arith, c .before .before .before .pre .1, c .before .before .if1 .left)
 
--- src/kinds.rt:214:9
 returns-2 : tie.Need-returns-2
 returns-2 c = ((λ cs s. length-alone cs s (sym (c .before .is-alone .ensures cs _ s) ∙ c .if2 .taken)), omega arith)
 
--- src/kinds.rt:216:5
 add-result : tie.Need-add-result
 add-result c = omega (arith, c .before .before .before .pre .0)
 
--- src/kinds.rt:205:1
 returns-3 : tie.Need-returns-3
 returns-3 c = ((λ cs s. length-several cs s (c .before .before .if1 .left) (sym (c .before .is-alone .ensures cs _ s) ∙ c .if2 .left)), omega arith)
 

@@ -1,32 +1,23 @@
+-- `parser::kinds::tag_before` meets its contract.
 use Rattle.parser.proofs.Deciding.{before-unjoined, before-first, before-not, before-and, before-or-and, before-or}
-use native.Mathlib.Omega.{arith}
-use borrow.Author.Needs.{needs}
 use Rattle.parser.proofs.kinds.tag_before.Statement.{statement}
 use Rattle.parser.proofs.kinds.tag_before.Tie as tie
-use Rattle.parser.proofs.kinds.tag_before.Reads as reads
-use Rattle.parser.proofs.kinds.tag_before.Lts as lts
 
--- src/kinds.rt:127:9
 returns : tie.Need-returns
 returns c = before-unjoined (c .before .args .operator) (c .before .args .c) (c .before .args .tag) (c .if1 .taken)
 
--- src/kinds.rt:130:9
 returns-2 : tie.Need-returns-2
 returns-2 c = before-first (c .before .before .args .operator) (c .before .before .args .c) (c .before .before .args .tag) (c .if2 .taken)
 
--- src/kinds.rt:133:9
 returns-3 : tie.Need-returns-3
 returns-3 c = before-not (c .before .before .before .args .operator) (c .before .before .before .args .c) (c .before .before .before .args .tag) (c .if3 .taken)
 
--- src/kinds.rt:136:9
 returns-4 : tie.Need-returns-4
 returns-4 c = before-and (c .before .before .before .before .args .operator) (c .before .before .before .before .args .c) (c .before .before .before .before .args .tag) (c .before .before .if2 .left) (c .before .if3 .left) (c .if4 .taken)
 
--- src/kinds.rt:123:1
 returns-5 : tie.Need-returns-5
 returns-5 c = before-or-and (c .before .before .before .before .before .args .operator) (c .before .before .before .before .before .args .c) (c .before .before .before .before .before .args .tag) (c .before .before .before .if2 .left) (c .before .before .if3 .left) (c .before .before .before .before .if1 .left) (c .before .if4 .left) (c .if5 .taken)
 
--- src/kinds.rt:123:1
 returns-6 : tie.Need-returns-6
 returns-6 c = before-or (c .before .before .before .before .before .args .operator) (c .before .before .before .before .before .args .c) (c .before .before .before .before .before .args .tag) (c .before .before .before .if2 .left) (c .before .before .if3 .left) (c .before .before .before .before .if1 .left) (c .before .if4 .left) (c .if5 .left)
 

@@ -1,3 +1,4 @@
+-- `parser::leaf::count_tokens` meets its contract.
 use Rattle.rules.specs.Analysis.{classes}
 use mathlib.Core.Path.{_≡_}
 use lib.ListN.{length}
@@ -7,10 +8,6 @@ use native.Mathlib.Omega.{arith}
 use borrow.Author.Needs.{needs}
 use Rattle.parser.proofs.leaf.count_tokens.Statement.{statement}
 use Rattle.parser.proofs.leaf.count_tokens.Tie as tie
-use Rattle.parser.proofs.leaf.count_tokens.Reads as reads
-use Rattle.parser.proofs.leaf.count_tokens.Lts as lts
-use Rattle.analysis.proofs.classes.table.Reads as table-reads
-use Rattle.analysis.proofs.tokens.next_token_in.Reads as next-token-in-reads
 
 abbrev Inv-loop : tie.InvT-loop
 Inv-loop text analyzer each table at₀ count₀ bytes₀ at count bytes = Counting analyzer text each at count bytes × (table ≡ classes)
@@ -18,43 +15,33 @@ Inv-loop text analyzer each table at₀ count₀ bytes₀ at count bytes = Count
 abbrev μ-loop : tie.MeasureT-loop
 μ-loop text analyzer each table at₀ count₀ bytes₀ at count bytes = length text - at
 
--- src/leaf.rt:32:17
 table-requires : tie.Need-table-requires Inv-loop μ-loop
 table-requires c κs = search needs
 
--- src/leaf.rt:36:5
 loop-holds : tie.Need-loop-holds Inv-loop μ-loop
 loop-holds c = (counting-starts _ _ _, c .table .ensures)
 
--- src/leaf.rt:37:13
 next-token-in-requires : tie.Need-next-token-in-requires Inv-loop μ-loop
 next-token-in-requires c κs = search needs
 
--- src/leaf.rt:39:13
 returns : tie.Need-returns Inv-loop μ-loop
 returns c = counting-ends (c .before .before .before .before .loop .inv .0) (c .before .before .next-token-in .ensures .found (c .before .before .before .before .loop .inv .1)) (c .if1 .taken)
 
--- src/leaf.rt:41:9
 add-count : tie.Need-add-count Inv-loop μ-loop
 add-count c = omega (arith, counting-few (c .before .before .before .before .loop .inv .0) (c .before .before .before .before .before .before .before .pre .0), c .before .before .before .before .before .before .before .pre .1)
 
--- src/leaf.rt:42:17
 add-bytes : tie.Need-add-bytes Inv-loop μ-loop
 add-bytes c = omega (arith, counting-most (c .before .before .before .before .loop .inv .0) (c .before .before .before .before .before .before .before .pre .0), c .before .before .before .before .before .before .before .pre .0, c .before .before .before .before .before .before .before .pre .1)
 
--- src/leaf.rt:42:17
 add-bytes-2 : tie.Need-add-bytes-2 Inv-loop μ-loop
-add-bytes-2 c = omega (arith, counting-most (c .before .before .before .before .before .loop .inv .0) (c .before .before .before .before .before .before .before .before .pre .0), c .before .before .before .before .before .before .before .before .pre .0, c .before .before .before .before .before .before .before .before .pre .1, c .before .before .before .next-token-in .ensures .found (c .before .before .before .before .before .loop .inv .1) .within)
+add-bytes-2 c = omega (arith, counting-most (c .before .before .before .before .before .loop .inv .0) (c .before .before .before .before .before .before .before .before .pre .0), c .before .before .before .before .before .before .before .before .pre .0, c .before .before .before .before .before .before .before .before .pre .1, c .before .before .before .next-token-in .ensures .found (c .before .before .before .before .before .loop .inv .1) .within, c .before .before .before .before .before .loop .inv .0 .within)
 
--- src/leaf.rt:43:14
 add-at : tie.Need-add-at Inv-loop μ-loop
-add-at c = omega (arith, c .before .before .before .before .before .before .before .before .before .pre .1, c .before .before .before .before .next-token-in .ensures .found (c .before .before .before .before .before .before .loop .inv .1) .within, c .before .before .if1 .left)
+add-at c = omega (arith, c .before .before .before .before .before .before .before .before .before .pre .1, c .before .before .before .before .next-token-in .ensures .found (c .before .before .before .before .before .before .loop .inv .1) .within, c .before .before .before .before .before .before .loop .inv .0 .within, c .before .before .if1 .left)
 
--- src/leaf.rt:36:5
 loop-less : tie.Need-loop-less Inv-loop μ-loop
-loop-less c = let F = c .before .before .before .before .next-token-in .ensures .found (c .before .before .before .before .before .before .loop .inv .1) in omega (arith, F .within, F .onward, c .before .before .if1 .left)
+loop-less c = let F = c .before .before .before .before .next-token-in .ensures .found (c .before .before .before .before .before .before .loop .inv .1) in omega (arith, F .within, F .onward, c .before .before .if1 .left, c .before .before .before .before .before .before .loop .inv .0 .within)
 
--- src/leaf.rt:36:5
 loop-again : tie.Need-loop-again Inv-loop μ-loop
 loop-again c = (counting-goes (c .before .before .before .before .before .before .loop .inv .0) (c .before .before .before .before .next-token-in .ensures .found (c .before .before .before .before .before .before .loop .inv .1)) (c .before .before .if1 .left), c .before .before .before .before .before .before .loop .inv .1)
 

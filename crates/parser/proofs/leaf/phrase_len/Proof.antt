@@ -1,44 +1,33 @@
+-- `parser::leaf::phrase_len` meets its contract.
 use Rattle.rules.proofs.Tokens.{tokens-most}
 use Rattle.parser.proofs.Tallying.{words-most, phrase-length-none, phrase-length-one, phrase-length-many}
-use Prim.Native.Nat.{_+_}
-use mathlib.Core.Path.{_≡_, sym, _∙_}
+use mathlib.Core.Path.{sym, _∙_}
 use native.Mathlib.Omega.{arith}
 use borrow.Author.Needs.{needs}
 use Rattle.parser.proofs.leaf.phrase_len.Statement.{statement}
 use Rattle.parser.proofs.leaf.phrase_len.Tie as tie
-use Rattle.parser.proofs.leaf.phrase_len.Reads as reads
-use Rattle.parser.proofs.leaf.phrase_len.Lts as lts
-use Rattle.parser.proofs.leaf.count_tokens.Reads as count-tokens-reads
 
--- src/leaf.rt:69:9
 count-tokens-requires : tie.Need-count-tokens-requires
 count-tokens-requires c κs = search needs
 
--- src/leaf.rt:71:9
 returns : tie.Need-returns
 returns c = ((λ f e. phrase-length-none f _ (sym (c .before .before .count-tokens .ensures .counted) ∙ c .if1 .taken)), omega arith)
 
--- src/leaf.rt:74:16
 add-result : tie.Need-add-result
 add-result c = omega (arith, c .before .before .before .before .before .before .before .pre .1, c .before .before .before .before .before .count-tokens .ensures .size, words-most (c .before .before .before .before .before .before .before .args .analyzer) (c .before .before .before .before .before .before .before .args .text .now))
 
--- src/leaf.rt:74:16
 add-result-2 : tie.Need-add-result-2
 add-result-2 c = omega (arith, c .before .before .before .before .before .before .before .pre .0, c .before .before .before .before .before .before .before .pre .1, c .before .before .before .before .before .count-tokens .ensures .size, words-most (c .before .before .before .before .before .before .before .args .analyzer) (c .before .before .before .before .before .before .before .args .text .now))
 
--- src/leaf.rt:74:9
 returns-2 : tie.Need-returns-2
 returns-2 c = ((λ f e. rw (c .before .before .before .before .before .count-tokens .ensures .size, ← e) (phrase-length-one f _ (sym (c .before .before .before .before .before .count-tokens .ensures .counted) ∙ c .before .if2 .taken))), omega (arith, c .before .before .before .before .before .count-tokens .ensures .size, c .before .before .before .before .before .count-tokens .ensures .counted, c .before .before .before .if1 .left, c .before .before .before .before .before .before .before .pre .0, tokens-most (c .before .before .before .before .before .before .before .args .analyzer) (c .before .before .before .before .before .before .before .args .text .now), words-most (c .before .before .before .before .before .before .before .args .analyzer) (c .before .before .before .before .before .before .before .args .text .now)))
 
--- src/leaf.rt:76:5
 add-result-3 : tie.Need-add-result-3
 add-result-3 c = search needs
 
--- src/leaf.rt:76:5
 add-result-4 : tie.Need-add-result-4
 add-result-4 c = omega (arith, c .before .before .before .before .before .before .before .pre .0, c .before .before .before .before .before .before .before .pre .1, c .before .before .before .before .before .count-tokens .ensures .size, words-most (c .before .before .before .before .before .before .before .args .analyzer) (c .before .before .before .before .before .before .before .args .text .now))
 
--- src/leaf.rt:64:1
 returns-3 : tie.Need-returns-3
 returns-3 c = ((λ f e. rw (c .before .before .before .before .before .count-tokens .ensures .size, ← e) (phrase-length-many f _ (λ z. c .before .before .before .if1 .left (c .before .before .before .before .before .count-tokens .ensures .counted ∙ z)) (λ z. c .before .if2 .left (c .before .before .before .before .before .count-tokens .ensures .counted ∙ z)))), omega (arith, c .before .before .before .before .before .count-tokens .ensures .size, c .before .before .before .before .before .count-tokens .ensures .counted, c .before .before .before .if1 .left, c .before .before .before .before .before .before .before .pre .0, tokens-most (c .before .before .before .before .before .before .before .args .analyzer) (c .before .before .before .before .before .before .before .args .text .now), words-most (c .before .before .before .before .before .before .before .args .analyzer) (c .before .before .before .before .before .before .before .args .text .now)))
 

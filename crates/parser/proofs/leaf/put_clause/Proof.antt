@@ -1,38 +1,27 @@
+-- `parser::leaf::put_clause` meets its contract.
 use Rattle.parser.proofs.Tallying.{spelled-length}
 use Rattle.stored.proofs.Laying.{put-body}
 use Rattle.analysis.specs.Tokens.{spelled}
 use Rattle.rules.proofs.Sizes.{length-term}
-use mathlib.Core.Path.{_∙_}
 use native.Mathlib.Omega.{arith}
-use borrow.Author.Needs.{needs}
 use Rattle.parser.proofs.leaf.put_clause.Statement.{statement}
 use Rattle.parser.proofs.leaf.put_clause.Tie as tie
-use Rattle.parser.proofs.leaf.put_clause.Reads as reads
-use Rattle.parser.proofs.leaf.put_clause.Lts as lts
-use Rattle.parser.proofs.leaf.put_term.Reads as put-term-reads
-use Rattle.stored.proofs.write.put_header.Reads as put-header-reads
 
--- src/leaf.rt:119:38
 add-put-header : tie.Need-add-put-header
 add-put-header c = omega (arith, c .before .before .before .before .pre .1, c .before .before .before .before .pre .2)
 
--- src/leaf.rt:119:38
 add-put-header-2 : tie.Need-add-put-header-2
 add-put-header-2 c = omega (arith, c .before .before .before .before .pre .1, c .before .before .before .before .pre .2)
 
--- src/leaf.rt:119:9
 put-header-requires : tie.Need-put-header-requires
 put-header-requires c κs = (omega (arith, c .before .before .before .before .pre .0), omega (arith, c .before .before .before .before .pre .1, c .before .before .before .before .pre .2))
 
--- src/leaf.rt:120:5
 put-term-requires : tie.Need-put-term-requires
 put-term-requires c κs = (omega (arith, c .before .before .before .put-header .ensures .place, c .before .before .before .put-header .kept .0, c .before .before .before .before .before .before .before .before .pre .0), c .before .before .before .before .before .before .before .before .pre .1, c .before .before .before .before .before .before .before .before .pre .2)
 
--- src/leaf.rt:115:1
 same-length : tie.Need-same-length
 same-length c = omega (arith, c .before .before .before .before .before .before .put-header .kept .0, c .before .before .put-term .kept .0)
 
--- src/leaf.rt:115:1
 returns : tie.Need-returns
 returns c = put-body (c .before .before .before .before .before .before .put-header .ensures) (c .before .before .put-term .ensures) (omega (arith, length-term (c .before .before .before .before .before .before .before .before .before .before .before .args .field .now) (spelled (c .before .before .before .before .before .before .before .before .before .before .before .args .analyzer) (c .before .before .before .before .before .before .before .before .before .before .before .args .s .now)), spelled-length (c .before .before .before .before .before .before .before .before .before .before .before .args .analyzer) (c .before .before .before .before .before .before .before .before .before .before .before .args .s .now))) (omega (arith, length-term (c .before .before .before .before .before .before .before .before .before .before .before .args .field .now) (spelled (c .before .before .before .before .before .before .before .before .before .before .before .args .analyzer) (c .before .before .before .before .before .before .before .before .before .before .before .args .s .now)), spelled-length (c .before .before .before .before .before .before .before .before .before .before .before .args .analyzer) (c .before .before .before .before .before .before .before .before .before .before .before .args .s .now), c .before .before .before .before .before .before .before .before .before .before .before .pre .0))
 

@@ -1,16 +1,14 @@
+-- `parser::leaf::put_spelled` meets its contract.
 use Rattle.parser.proofs.Writing.{spelled-turn, spelled-put}
 use Rattle.analysis.specs.Tokens.{spelled}
 use lib.Seq.{paste, paste-zero}
 use lib.ListN.{length, length-set}
 use Prim.Native.Nat.{_+_, _-_, _≤_}
-use mathlib.Core.Path.{_≡_, refl, sym, ap, _∙_}
+use mathlib.Core.Path.{_≡_, refl}
 use native.Mathlib.Omega.{arith}
 use borrow.Author.Needs.{needs}
 use Rattle.parser.proofs.leaf.put_spelled.Statement.{statement}
 use Rattle.parser.proofs.leaf.put_spelled.Tie as tie
-use Rattle.parser.proofs.leaf.put_spelled.Reads as reads
-use Rattle.parser.proofs.leaf.put_spelled.Lts as lts
-use Rattle.parser.proofs.leaf.spell.Reads as spell-reads
 
 abbrev Inv-loop : tie.InvT-loop
 Inv-loop out₀ at analyzer s k₀ out k =
@@ -19,47 +17,36 @@ Inv-loop out₀ at analyzer s k₀ out k =
 abbrev μ-loop : tie.MeasureT-loop
 μ-loop out₀ at analyzer s k₀ out k = length s - k
 
--- src/leaf.rt:97:5
 loop-holds : tie.Need-loop-holds Inv-loop μ-loop
 loop-holds c = (omega arith, c .before .before .pre, refl, paste-zero (c .before .before .args .out .now) (c .before .before .args .at) (spelled (c .before .before .args .analyzer) (c .before .before .args .s .now)))
 
--- src/leaf.rt:98:39
 shared-slice-read-spell : tie.Need-shared-slice-read-spell Inv-loop μ-loop
 shared-slice-read-spell c = search needs
 
--- src/leaf.rt:98:23
 spell-requires : tie.Need-spell-requires Inv-loop μ-loop
 spell-requires c κs = search needs
 
--- src/leaf.rt:98:13
 add-out : tie.Need-add-out Inv-loop μ-loop
 add-out c = omega (arith, c .before .before .before .loop .inv .1)
 
--- src/leaf.rt:98:9
 slice-write-out : tie.Need-slice-write-out Inv-loop μ-loop
 slice-write-out c = omega (arith, c .before .before .before .loop .inv .1, c .before .before .before .loop .inv .2)
 
--- src/leaf.rt:99:9
 add-k : tie.Need-add-k Inv-loop μ-loop
 add-k c = search needs
 
--- src/leaf.rt:97:5
 loop-less : tie.Need-loop-less Inv-loop μ-loop
 loop-less c = search needs
 
--- src/leaf.rt:97:5
 loop-again : tie.Need-loop-again Inv-loop μ-loop
 loop-again c = (omega arith, c .before .before .before .loop .inv .1, simp length-set (c .before .before .before .loop .inv .2), spelled-turn (c .before .before .before .before .before .before .args .analyzer) (c .before .before .before .before .before .before .args .out .now) (c .before .before .before .loop .out) (c .before .before .before .before .before .before .args .s .now) (c .before .before .before .before .before .before .args .at) (c .before .before .before .loop .k) _ (c .before .before .before .loop .inv .1) (c .before .before .loop-test .taken) (c .spell .ensures) (c .before .before .before .loop .inv .3))
 
--- src/leaf.rt:101:5
 add-result : tie.Need-add-result Inv-loop μ-loop
 add-result c = omega (arith, c .before .loop .inv .1)
 
--- src/leaf.rt:92:1
 same-length : tie.Need-same-length Inv-loop μ-loop
 same-length c = c .before .loop .inv .2
 
--- src/leaf.rt:92:1
 returns : tie.Need-returns Inv-loop μ-loop
 returns c = spelled-put (c .before .before .before .before .args .analyzer) (c .before .before .before .before .args .out .now) (c .before .loop .out) (c .before .before .before .before .args .s .now) (c .before .before .before .before .args .at) (c .before .loop .k) (c .before .loop .inv .0) (c .loop-test .left) (c .before .loop .inv .3)
 

@@ -1,21 +1,15 @@
+-- `parser::leaf::spell` meets its contract.
 use borrow.Author.Tests.{eq-eqb, ne-eqb}
-use native.Mathlib.Omega.{arith}
 use borrow.Author.Needs.{needs}
 use Rattle.parser.proofs.leaf.spell.Statement.{statement}
 use Rattle.parser.proofs.leaf.spell.Tie as tie
-use Rattle.parser.proofs.leaf.spell.Reads as reads
-use Rattle.parser.proofs.leaf.spell.Lts as lts
-use Rattle.analysis.proofs.classes.lower.Reads as lower-reads
 
--- src/leaf.rt:86:9
 lower-requires : tie.Need-lower-requires
 lower-requires c κs = search needs
 
--- src/leaf.rt:86:9
 returns : tie.Need-returns
 returns c = rw (eq-eqb _ _ (c .before .if1 .taken)) (c .lower .ensures)
 
--- src/leaf.rt:82:1
 returns-2 : tie.Need-returns-2
 returns-2 c = rw (ne-eqb _ _ (c .if1 .left))
 

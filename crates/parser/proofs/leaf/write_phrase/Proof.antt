@@ -1,54 +1,38 @@
+-- `parser::leaf::write_phrase` meets its contract.
 use Rattle.parser.proofs.Writing.{phrase-write-one, phrase-wrote-one, phrase-size, phrase-put}
-use mathlib.Core.Path.{_≡_, refl, sym, ap, _∙_}
+use mathlib.Core.Path.{refl, sym, _∙_}
 use native.Mathlib.Omega.{arith}
 use borrow.Author.Needs.{needs}
 use Rattle.parser.proofs.leaf.write_phrase.Statement.{statement}
 use Rattle.parser.proofs.leaf.write_phrase.Tie as tie
-use Rattle.parser.proofs.leaf.write_phrase.Reads as reads
-use Rattle.parser.proofs.leaf.write_phrase.Lts as lts
-use Rattle.analysis.proofs.tokens.token_count.Reads as token-count-reads
-use Rattle.parser.proofs.leaf.put_words.Reads as put-words-reads
-use Rattle.parser.proofs.leaf.write_one.Reads as write-one-reads
-use Rattle.stored.proofs.write.put_header.Reads as put-header-reads
-use Rattle.stored.proofs.write.put_part.Reads as put-part-reads
 
--- src/leaf.rt:205:8
 token-count-requires : tie.Need-token-count-requires
 token-count-requires c κs = search needs
 
--- src/leaf.rt:206:9
 write-one-requires : tie.Need-write-one-requires
 write-one-requires c κs = (phrase-write-one (c .before .before .before .before .before .before .args .field .now) (c .before .before .before .before .before .before .args .analyzer) (c .before .before .before .before .before .before .args .text .now) (c .before .before .before .before .before .before .args .out .now) (sym (c .before .before .token-count .ensures) ∙ c .before .if1 .taken) (c .before .before .before .before .before .before .pre .0), c .before .before .before .before .before .before .pre .2, c .before .before .before .before .before .before .pre .3)
 
--- src/leaf.rt:207:9
 same-length : tie.Need-same-length
 same-length c = c .before .before .write-one .kept .1 .1 .1 .0
 
--- src/leaf.rt:207:9
 returns : tie.Need-returns
 returns c = phrase-wrote-one (c .before .before .before .before .before .before .before .before .before .args .field .now) (c .before .before .before .before .before .before .before .before .before .args .analyzer) (c .before .before .before .before .before .before .before .before .before .args .text .now) _ (sym (c .before .before .before .before .before .token-count .ensures) ∙ c .before .before .before .before .if1 .taken) (c .before .before .write-one .ensures)
 
--- src/leaf.rt:209:13
 sub-n : tie.Need-sub-n
 sub-n c = let z = phrase-size (c .before .before .before .before .before .args .field .now) (c .before .before .before .before .before .args .analyzer) (c .before .before .before .before .before .args .text .now) (c .before .before .before .before .before .args .out .now) (λ e. c .if1 .left (c .before .token-count .ensures ∙ e)) (c .before .before .before .before .before .pre .1) (c .before .before .before .before .before .pre .0) in omega (arith, z)
 
--- src/leaf.rt:210:9
 put-header-requires : tie.Need-put-header-requires
 put-header-requires c κs = let z = phrase-size (c .before .before .before .before .before .before .args .field .now) (c .before .before .before .before .before .before .args .analyzer) (c .before .before .before .before .before .before .args .text .now) (c .before .before .before .before .before .before .args .out .now) (λ e. c .before .if1 .left (c .before .before .token-count .ensures ∙ e)) (c .before .before .before .before .before .before .pre .1) (c .before .before .before .before .before .before .pre .0) in (omega (arith, z), omega (arith, c .before .before .before .before .before .before .pre .4))
 
--- src/leaf.rt:211:9
 put-part-requires : tie.Need-put-part-requires
 put-part-requires c κs = let z = phrase-size (c .before .before .before .before .before .before .before .before .before .before .args .field .now) (c .before .before .before .before .before .before .before .before .before .before .args .analyzer) (c .before .before .before .before .before .before .before .before .before .before .args .text .now) (c .before .before .before .before .before .before .before .before .before .before .args .out .now) (λ e. c .before .before .before .before .before .if1 .left (c .before .before .before .before .before .before .token-count .ensures ∙ e)) (c .before .before .before .before .before .before .before .before .before .before .pre .1) (c .before .before .before .before .before .before .before .before .before .before .pre .0) in (omega (arith, z, c .before .before .before .put-header .ensures .place, c .before .before .before .put-header .kept .0), omega (arith, c .before .before .before .before .before .before .before .before .before .before .pre .2))
 
--- src/leaf.rt:212:5
 put-words-requires : tie.Need-put-words-requires
 put-words-requires c κs = let z = phrase-size (c .before .before .before .before .before .before .before .before .before .before .before .before .before .before .args .field .now) (c .before .before .before .before .before .before .before .before .before .before .before .before .before .before .args .analyzer) (c .before .before .before .before .before .before .before .before .before .before .before .before .before .before .args .text .now) (c .before .before .before .before .before .before .before .before .before .before .before .before .before .before .args .out .now) (λ e. c .before .before .before .before .before .before .before .before .before .if1 .left (c .before .before .before .before .before .before .before .before .before .before .token-count .ensures ∙ e)) (c .before .before .before .before .before .before .before .before .before .before .before .before .before .before .pre .1) (c .before .before .before .before .before .before .before .before .before .before .before .before .before .before .pre .0) in (omega (arith, z, c .before .before .before .before .before .before .before .put-header .ensures .place, c .before .before .before .before .before .before .before .put-header .kept .0, c .before .before .before .put-part .ensures .place, c .before .before .before .put-part .kept .0), c .before .before .before .before .before .before .before .before .before .before .before .before .before .before .pre .3)
 
--- src/leaf.rt:201:1
 same-length-2 : tie.Need-same-length-2
 same-length-2 c = omega (arith, c .before .before .before .before .before .before .before .before .before .before .put-header .kept .0, c .before .before .before .before .before .before .put-part .kept .0, c .before .before .put-words .kept .0)
 
--- src/leaf.rt:201:1
 returns-2 : tie.Need-returns-2
 returns-2 c = phrase-put (c .before .before .before .before .before .before .before .before .before .before .before .before .before .before .before .before .before .args .field .now) (c .before .before .before .before .before .before .before .before .before .before .before .before .before .before .before .before .before .args .analyzer) (c .before .before .before .before .before .before .before .before .before .before .before .before .before .before .before .before .before .args .text .now) (c .before .before .before .before .before .before .before .before .before .before .before .before .before .before .before .before .before .args .out .now) (λ e. c .before .before .before .before .before .before .before .before .before .before .before .before .if1 .left (c .before .before .before .before .before .before .before .before .before .before .before .before .before .token-count .ensures ∙ e)) (c .before .before .before .before .before .before .before .before .before .before .before .before .before .before .before .before .before .pre .1) (c .before .before .before .before .before .before .before .before .before .before .before .before .before .before .before .before .before .pre .0) (c .before .before .before .before .before .before .before .before .before .before .put-header .ensures) (c .before .before .before .before .before .before .put-part .ensures) (c .before .before .put-words .ensures) refl (c .before .before .before .before .before .before .before .before .before .before .put-header .kept .0)
 

@@ -1,59 +1,41 @@
+-- `parser::leaf::write_term` meets its contract.
 use Rattle.parser.proofs.Writing.{write-one, wrote-one, boolean-size, boolean-put}
-use mathlib.Core.Path.{_≡_, refl, sym, ap, _∙_}
+use mathlib.Core.Path.{refl, sym, _∙_}
 use native.Mathlib.Omega.{arith}
 use borrow.Author.Needs.{needs}
 use Rattle.parser.proofs.leaf.write_term.Statement.{statement}
 use Rattle.parser.proofs.leaf.write_term.Tie as tie
-use Rattle.parser.proofs.leaf.write_term.Reads as reads
-use Rattle.parser.proofs.leaf.write_term.Lts as lts
-use Rattle.analysis.proofs.tokens.token_count.Reads as token-count-reads
-use Rattle.parser.proofs.kinds.operator_tag.Reads as operator-tag-reads
-use Rattle.parser.proofs.leaf.put_clauses.Reads as put-clauses-reads
-use Rattle.parser.proofs.leaf.write_one.Reads as write-one-reads
-use Rattle.stored.proofs.write.put_header.Reads as put-header-reads
-use Rattle.stored.proofs.write.put_minimum.Reads as put-minimum-reads
 
--- src/leaf.rt:190:8
 token-count-requires : tie.Need-token-count-requires
 token-count-requires c κs = search needs
 
--- src/leaf.rt:191:9
 write-one-requires : tie.Need-write-one-requires
 write-one-requires c κs = (write-one (c .before .before .before .before .before .before .args .operator) (c .before .before .before .before .before .before .args .field .now) (c .before .before .before .before .before .before .args .analyzer) (c .before .before .before .before .before .before .args .text .now) (c .before .before .before .before .before .before .args .out .now) (sym (c .before .before .token-count .ensures) ∙ c .before .if1 .taken) (c .before .before .before .before .before .before .pre .0), c .before .before .before .before .before .before .pre .2, c .before .before .before .before .before .before .pre .3)
 
--- src/leaf.rt:192:9
 same-length : tie.Need-same-length
 same-length c = c .before .before .write-one .kept .1 .1 .1 .0
 
--- src/leaf.rt:192:9
 returns : tie.Need-returns
 returns c = wrote-one (c .before .before .before .before .before .before .before .before .before .args .operator) (c .before .before .before .before .before .before .before .before .before .args .field .now) (c .before .before .before .before .before .before .before .before .before .args .analyzer) (c .before .before .before .before .before .before .before .before .before .args .text .now) _ (sym (c .before .before .before .before .before .token-count .ensures) ∙ c .before .before .before .before .if1 .taken) (c .before .before .write-one .ensures)
 
--- src/leaf.rt:194:13
 sub-n : tie.Need-sub-n
 sub-n c = let z = boolean-size (c .before .before .before .before .before .args .operator) (c .before .before .before .before .before .args .field .now) (c .before .before .before .before .before .args .analyzer) (c .before .before .before .before .before .args .text .now) (c .before .before .before .before .before .args .out .now) (λ e. c .if1 .left (c .before .token-count .ensures ∙ e)) (c .before .before .before .before .before .pre .1) (c .before .before .before .before .before .pre .0) in omega (arith, z)
 
--- src/leaf.rt:195:9
 put-header-requires : tie.Need-put-header-requires
 put-header-requires c κs = let z = boolean-size (c .before .before .before .before .before .before .args .operator) (c .before .before .before .before .before .before .args .field .now) (c .before .before .before .before .before .before .args .analyzer) (c .before .before .before .before .before .before .args .text .now) (c .before .before .before .before .before .before .args .out .now) (λ e. c .before .if1 .left (c .before .before .token-count .ensures ∙ e)) (c .before .before .before .before .before .before .pre .1) (c .before .before .before .before .before .before .pre .0) in (omega (arith, z), omega (arith, c .before .before .before .before .before .before .pre .4))
 
--- src/leaf.rt:196:9
 put-minimum-requires : tie.Need-put-minimum-requires
 put-minimum-requires c κs = let z = boolean-size (c .before .before .before .before .before .before .before .before .before .before .args .operator) (c .before .before .before .before .before .before .before .before .before .before .args .field .now) (c .before .before .before .before .before .before .before .before .before .before .args .analyzer) (c .before .before .before .before .before .before .before .before .before .before .args .text .now) (c .before .before .before .before .before .before .before .before .before .before .args .out .now) (λ e. c .before .before .before .before .before .if1 .left (c .before .before .before .before .before .before .token-count .ensures ∙ e)) (c .before .before .before .before .before .before .before .before .before .before .pre .1) (c .before .before .before .before .before .before .before .before .before .before .pre .0) in (omega (arith, z, c .before .before .before .put-header .ensures .place, c .before .before .before .put-header .kept .0), omega arith)
 
--- src/leaf.rt:197:25
 operator-tag-requires : tie.Need-operator-tag-requires
 operator-tag-requires c κs = search needs
 
--- src/leaf.rt:197:5
 put-clauses-requires : tie.Need-put-clauses-requires
 put-clauses-requires c κs = let z = boolean-size (c .before .before .before .before .before .before .before .before .before .before .before .before .before .before .before .args .operator) (c .before .before .before .before .before .before .before .before .before .before .before .before .before .before .before .args .field .now) (c .before .before .before .before .before .before .before .before .before .before .before .before .before .before .before .args .analyzer) (c .before .before .before .before .before .before .before .before .before .before .before .before .before .before .before .args .text .now) (c .before .before .before .before .before .before .before .before .before .before .before .before .before .before .before .args .out .now) (λ e. c .before .before .before .before .before .before .before .before .before .before .if1 .left (c .before .before .before .before .before .before .before .before .before .before .before .token-count .ensures ∙ e)) (c .before .before .before .before .before .before .before .before .before .before .before .before .before .before .before .pre .1) (c .before .before .before .before .before .before .before .before .before .before .before .before .before .before .before .pre .0) in (rw (c .operator-tag .ensures) (omega (arith, z, c .before .before .before .before .before .before .before .before .put-header .ensures .place, c .before .before .before .before .before .before .before .before .put-header .kept .0, c .before .before .before .before .put-minimum .ensures .place, c .before .before .before .before .put-minimum .kept .0)), c .before .before .before .before .before .before .before .before .before .before .before .before .before .before .before .pre .2, c .before .before .before .before .before .before .before .before .before .before .before .before .before .before .before .pre .3)
 
--- src/leaf.rt:186:1
 same-length-2 : tie.Need-same-length-2
 same-length-2 c = omega (arith, c .before .before .before .before .before .before .before .before .before .before .before .put-header .kept .0, c .before .before .before .before .before .before .before .put-minimum .kept .0, c .before .before .put-clauses .kept .0)
 
--- src/leaf.rt:186:1
 returns-2 : tie.Need-returns-2
 returns-2 c = boolean-put (c .before .before .before .before .before .before .before .before .before .before .before .before .before .before .before .before .before .before .args .operator) (c .before .before .before .before .before .before .before .before .before .before .before .before .before .before .before .before .before .before .args .field .now) (c .before .before .before .before .before .before .before .before .before .before .before .before .before .before .before .before .before .before .args .analyzer) (c .before .before .before .before .before .before .before .before .before .before .before .before .before .before .before .before .before .before .args .text .now) (c .before .before .before .before .before .before .before .before .before .before .before .before .before .before .before .before .before .before .args .out .now) (λ e. c .before .before .before .before .before .before .before .before .before .before .before .before .before .if1 .left (c .before .before .before .before .before .before .before .before .before .before .before .before .before .before .token-count .ensures ∙ e)) (c .before .before .before .before .before .before .before .before .before .before .before .before .before .before .before .before .before .before .pre .1) (c .before .before .before .before .before .before .before .before .before .before .before .before .before .before .before .before .before .before .pre .0) (c .before .before .before .before .before .before .before .before .before .before .before .put-header .ensures) (c .before .before .before .before .before .before .before .put-minimum .ensures) (rw (c .before .before .before .operator-tag .ensures) at (c .before .before .put-clauses .ensures)) refl (c .before .before .before .before .before .before .before .before .before .before .before .put-header .kept .0)
 

@@ -1,23 +1,19 @@
-use Rattle.parser.proofs.Steps.{past-one, Bounds, Turn, Lead, Led, led, bounds-start, bounds-on, bounds-small, clause-small, turn-start, turn-end, turn-refused, turn-found}
-use Rattle.parser.proofs.Steps.{Bounds, Turn, Lead, Led, led, bounds-start, bounds-on, bounds-small, clause-small, turn-start, turn-end, turn-refused, turn-found}
+-- `parser::measure::measure_clause` and `parser::measure::measure_query` call each other and meet their contracts: unread tokens fall, then a call rank.
+use Rattle.parser.proofs.Steps.{past-one, Bounds, Turn, led, bounds-start, bounds-on, bounds-small, clause-small, turn-start, turn-end, turn-refused, turn-found}
+use Rattle.parser.proofs.Steps.{Bounds, Turn, led, bounds-start, bounds-on, bounds-small, clause-small, turn-start, turn-end, turn-refused, turn-found}
 use Rattle.parser.proofs.Bodies.{body-plain, body-open, body-deep, body-quoted, body-end, body-other, meant-start, within-start}
-use Rattle.parser.proofs.Rows.{kind-in, goes-in, place-most}
-use Rattle.parser.specs.Measured.{Tuned, Rowed}
+use Rattle.parser.proofs.Rows.{kind-in, goes-in}
+use Rattle.parser.specs.Measured.{Tuned}
 use Rattle.lexer.specs.Row.{tokensOf, nameFrom}
-use Rattle.rules.proofs.Bools.{told-no, told-yes}
-use Rattle.rules.specs.Parsing.{plainAt, quotedAt, closedAt, queryFound, parseClauses, stopsAt}
+use Rattle.rules.specs.Parsing.{plainAt, quotedAt, closedAt, queryFound}
 use Rattle.rules.specs.Setup.{Setup}
-use Rattle.rules.specs.Query.{none}
-use Rattle.rules.specs.Numbers.{onRead, andThen, refused, got, longField, manyBrackets, unexpectedEnd, unexpectedToken}
+use Rattle.rules.specs.Numbers.{onRead, andThen, refused, longField, manyBrackets, unexpectedEnd, unexpectedToken}
 use borrow.Author.Tests.{eq-eqb, not-true, not-false}
-use lib.Dec.{ltb}
-use lib.ListN.{length}
-use Prim.Native.Nat.{ℕ, suc, _+_, _-_, _*_, _≤_, _<_}
-use mathlib.Core.Bool.{true, false}
-use mathlib.Core.Path.{_≡_, refl, sym, ap, subst, _∙_}
+use Prim.Native.Nat.{ℕ, _<_, _+_, _-_, _*_}
+use mathlib.Core.Path.{refl, sym, _∙_}
 use native.Mathlib.Omega.{arith}
 use borrow.Author.Needs.{needs}
-use Prim.Native.Nat.{ℕ, _<_}
+use Prim.Native.Nat.{ℕ}
 use borrow.Fn.Kinds.{In}
 use borrow.Fn.PlainCycle.{Measures, is, falls, and}
 use Rattle.parser.proofs.measure.measure_clause.Reads as measure-clause
@@ -81,71 +77,54 @@ measure-clause-calls t = (clause-start-reads.Asked, clause-start-reads.Learnt, k
 abbrev measure-query-calls : ℕ → measure-query-lts.Claims
 measure-query-calls t = (more-at-reads.Asked, more-at-reads.Learnt, conjunction-at-reads.Asked, conjunction-at-reads.Learnt, after-reads.Asked, after-reads.Learnt, modifier-at-reads.Asked, modifier-at-reads.Learnt, measure-clause-below t, measure-clause.Post, added-reads.Asked, added-reads.Learnt)
 
--- src/measure.rt:133:11
 measure-clause-clause-start-requires : (t : ℕ) → measure-clause-lts.Need-clause-start-requires (measure-clause-calls t) (measure-clause-at t) measure-clause.Post
 measure-clause-clause-start-requires t c κs = (c .before .before .pre .1 .0, c .before .before .pre .1 .2)
 
--- src/measure.rt:134:24
 measure-clause-enum-told : (t : ℕ) → measure-clause-lts.Need-enum-told (measure-clause-calls t) (measure-clause-at t) measure-clause.Post
 measure-clause-enum-told t c = search needs
 
--- src/measure.rt:135:21
 measure-clause-enum-known-from : (t : ℕ) → measure-clause-lts.Need-enum-known-from (measure-clause-calls t) (measure-clause-at t) measure-clause.Post
 measure-clause-enum-known-from t c = search needs
 
--- src/measure.rt:136:17
 measure-clause-kind-at-requires : (t : ℕ) → measure-clause-lts.Need-kind-at-requires (measure-clause-calls t) (measure-clause-at t) measure-clause.Post
 measure-clause-kind-at-requires t c κs = (c .before .before .before .before .before .before .pre .1 .0 .few, c .before .before .before .before .before .before .pre .1 .0 .least)
 
--- src/measure.rt:138:17
 measure-clause-measure-plain-requires : (t : ℕ) → measure-clause-lts.Need-measure-plain-requires (measure-clause-calls t) (measure-clause-at t) measure-clause.Post
 measure-clause-measure-plain-requires t c κs = let S1 = rw (c .before .before .before .from .given .1) at (c .before .before .before .before .before .clause-start .ensures) in (c .before .before .before .before .before .before .before .before .pre .1 .0, S1 .fielded (c .before .before .before .before .before .before .before .before .args .default .now) (c .before .before .before .before .before .before .before .before .pre .1 .1), eq-eqb _ _ (sym (c .before .kind-at .ensures) ∙ c .if1 .taken), omega (arith, S1 .high, c .before .before .before .before .before .before .before .before .pre .1 .2))
 
--- src/measure.rt:138:17
 measure-clause-returns : (t : ℕ) → measure-clause-lts.Need-returns (measure-clause-calls t) (measure-clause-at t) measure-clause.Post
 measure-clause-returns t c = let S1 = rw (c .before .before .before .before .from .given .1) at (c .before .before .before .before .before .before .clause-start .ensures) in ((λ st T. meant-start S1 st (c .before .before .before .before .before .before .before .before .before .args .default .now) (c .before .before .before .before .before .before .before .before .before .args .depth) _ (plainAt st (tokensOf (c .before .before .before .before .before .before .before .before .before .args .room .now) (c .before .before .before .before .before .before .before .before .before .args .n)) (nameFrom (c .before .before .before .before .before .before .before .before .before .args .room .now) (c .before .before .before .before .before .before .before .before .before .args .default .now) (c .before .before .before .before .from .given .0 .0)) (c .before .before .before .before .from .given .0 .1 .1 .0)) (λ k h. body-plain st (tokensOf (c .before .before .before .before .before .before .before .before .before .args .room .now) (c .before .before .before .before .before .before .before .before .before .args .n)) _ (nameFrom (c .before .before .before .before .before .before .before .before .before .args .room .now) (c .before .before .before .before .before .before .before .before .before .args .default .now) (c .before .before .before .before .from .given .0 .0)) (c .before .before .before .before .before .before .before .before .before .args .depth) (c .before .before .before .before .from .given .0 .1 .1 .0) _ (c .before .before .kind-at .ensures) (c .before .if1 .taken)) (c .measure-plain .ensures .0 st (c .before .before .before .before .before .before .before .before .before .args .operator) (S1 .tuned st (c .before .before .before .before .before .before .before .before .before .args .operator) (c .before .before .before .before .before .before .before .before .before .args .default .now) T))), within-start S1 (c .measure-plain .result) (c .measure-plain .ensures .1))
 
--- src/measure.rt:142:87
 measure-clause-add-measure-query : (t : ℕ) → measure-clause-lts.Need-add-measure-query (measure-clause-calls t) (measure-clause-at t) measure-clause.Post
 measure-clause-add-measure-query t c = omega (arith, c .before .before .before .before .before .before .before .before .before .before .pre .1 .3)
 
--- src/measure.rt:142:98
 measure-clause-add-measure-query-2 : (t : ℕ) → measure-clause-lts.Need-add-measure-query-2 (measure-clause-calls t) (measure-clause-at t) measure-clause.Post
 measure-clause-add-measure-query-2 t c = let S1 = rw (c .before .before .before .before .before .from .given .1) at (c .before .before .before .before .before .before .before .clause-start .ensures) in omega (arith, S1 .high, c .before .before .before .before .before .before .before .before .before .before .pre .1 .2)
 
--- src/measure.rt:142:25
 measure-clause-measure-query-requires : (t : ℕ) → measure-clause-lts.Need-measure-query-requires (measure-clause-calls t) (measure-clause-at t) measure-clause.Post
 measure-clause-measure-query-requires t c κs = let S1 = rw (c .before .before .before .before .before .from .given .1) at (c .before .before .before .before .before .before .before .clause-start .ensures) in let z = kind-in (c .before .before .before .before .before .before .before .before .before .before .args .room .now) (c .before .before .before .before .before .before .before .before .before .before .args .n) 9 (c .before .before .before .before .before .from .given .0 .1 .1 .0) (λ z. omega arith) (eq-eqb _ _ (sym (c .before .before .before .kind-at .ensures) ∙ c .before .if2 .taken)) in (omega (arith, S1 .low, c .before .before .before .before .before .before .before .before .before .before .pre .0), (c .before .before .before .before .before .before .before .before .before .before .pre .1 .0, S1 .fielded (c .before .before .before .before .before .before .before .before .before .before .args .default .now) (c .before .before .before .before .before .before .before .before .before .before .pre .1 .1), omega arith, omega (arith, c .if3 .taken)))
 
--- src/measure.rt:143:21
 measure-clause-closing-requires : (t : ℕ) → measure-clause-lts.Need-closing-requires (measure-clause-calls t) (measure-clause-at t) measure-clause.Post
 measure-clause-closing-requires t c κs = (c .before .before .before .before .before .before .before .before .before .before .before .pre .1 .0, (_, c .measure-query .ensures .1))
 
--- src/measure.rt:143:21
 measure-clause-returns-2 : (t : ℕ) → measure-clause-lts.Need-returns-2 (measure-clause-calls t) (measure-clause-at t) measure-clause.Post
 measure-clause-returns-2 t c = let S1 = rw (c .before .before .before .before .before .before .before .from .given .1) at (c .before .before .before .before .before .before .before .before .before .clause-start .ensures) in let z = kind-in (c .before .before .before .before .before .before .before .before .before .before .before .before .args .room .now) (c .before .before .before .before .before .before .before .before .before .before .before .before .args .n) 9 (c .before .before .before .before .before .before .before .from .given .0 .1 .1 .0) (λ z. omega arith) (eq-eqb _ _ (sym (c .before .before .before .before .before .kind-at .ensures) ∙ c .before .before .before .if2 .taken)) in ((λ st T. let M = c .before .measure-query .ensures .0 st (S1 .tuned st (c .before .before .before .before .before .before .before .before .before .before .before .before .args .operator) (c .before .before .before .before .before .before .before .before .before .before .before .before .args .default .now) T) in meant-start S1 st (c .before .before .before .before .before .before .before .before .before .before .before .before .args .default .now) (c .before .before .before .before .before .before .before .before .before .before .before .before .args .depth) (c .closing .result) (andThen (onRead queryFound (M .answer)) (closedAt st (tokensOf (c .before .before .before .before .before .before .before .before .before .before .before .before .args .room .now) (c .before .before .before .before .before .before .before .before .before .before .before .before .args .n)))) (λ k h. body-open st (tokensOf (c .before .before .before .before .before .before .before .before .before .before .before .before .args .room .now) (c .before .before .before .before .before .before .before .before .before .before .before .before .args .n)) _ (nameFrom (c .before .before .before .before .before .before .before .before .before .before .before .before .args .room .now) (c .before .before .before .before .before .before .before .before .before .before .before .before .args .default .now) (c .before .before .before .before .before .before .before .from .given .0 .0)) (c .before .before .before .before .before .before .before .before .before .before .before .before .args .depth) (c .before .before .before .before .before .before .before .from .given .0 .1 .1 .0) _ (c .before .before .before .before .before .kind-at .ensures) (c .before .before .before .before .if1 .left) (c .before .before .before .if2 .taken) (c .before .before .if3 .taken) ∙ rw (M .says k (omega arith))) (c .closing .ensures .0 st (M .answer) (M .means))), within-start S1 (c .closing .result) (c .closing .ensures .1 (c .before .before .before .before .before .before .before .from .given .0 .1 .1 .0) z (c .before .measure-query .ensures .1)))
 
--- src/measure.rt:145:17
 measure-clause-returns-3 : (t : ℕ) → measure-clause-lts.Need-returns-3 (measure-clause-calls t) (measure-clause-at t) measure-clause.Post
 measure-clause-returns-3 t c = let S1 = rw (c .before .before .before .before .before .from .given .1) at (c .before .before .before .before .before .before .before .clause-start .ensures) in ((λ st T. meant-start S1 st (c .before .before .before .before .before .before .before .before .before .before .args .default .now) (c .before .before .before .before .before .before .before .before .before .before .args .depth) _ (refused manyBrackets) (λ k h. body-deep st (tokensOf (c .before .before .before .before .before .before .before .before .before .before .args .room .now) (c .before .before .before .before .before .before .before .before .before .before .args .n)) _ (nameFrom (c .before .before .before .before .before .before .before .before .before .before .args .room .now) (c .before .before .before .before .before .before .before .before .before .before .args .default .now) (c .before .before .before .before .before .from .given .0 .0)) (c .before .before .before .before .before .before .before .before .before .before .args .depth) (c .before .before .before .before .before .from .given .0 .1 .1 .0) _ (c .before .before .before .kind-at .ensures) (c .before .before .if1 .left) (c .before .if2 .taken) (c .if3 .left)) (manyBrackets, refl, refl)), omega arith)
 
--- src/measure.rt:148:17
 measure-clause-measure-quoted-requires : (t : ℕ) → measure-clause-lts.Need-measure-quoted-requires (measure-clause-calls t) (measure-clause-at t) measure-clause.Post
 measure-clause-measure-quoted-requires t c κs = let S1 = rw (c .before .before .before .before .before .from .given .1) at (c .before .before .before .before .before .before .before .clause-start .ensures) in (c .before .before .before .before .before .before .before .before .before .before .pre .1 .0, S1 .fielded (c .before .before .before .before .before .before .before .before .before .before .args .default .now) (c .before .before .before .before .before .before .before .before .before .before .pre .1 .1), eq-eqb _ _ (sym (c .before .before .before .kind-at .ensures) ∙ c .if4 .taken), omega (arith, S1 .high, c .before .before .before .before .before .before .before .before .before .before .pre .1 .2))
 
--- src/measure.rt:148:17
 measure-clause-returns-4 : (t : ℕ) → measure-clause-lts.Need-returns-4 (measure-clause-calls t) (measure-clause-at t) measure-clause.Post
 measure-clause-returns-4 t c = let S1 = rw (c .before .before .before .before .before .before .from .given .1) at (c .before .before .before .before .before .before .before .before .clause-start .ensures) in ((λ st T. meant-start S1 st (c .before .before .before .before .before .before .before .before .before .before .before .args .default .now) (c .before .before .before .before .before .before .before .before .before .before .before .args .depth) _ (quotedAt st (tokensOf (c .before .before .before .before .before .before .before .before .before .before .before .args .room .now) (c .before .before .before .before .before .before .before .before .before .before .before .args .n)) (nameFrom (c .before .before .before .before .before .before .before .before .before .before .before .args .room .now) (c .before .before .before .before .before .before .before .before .before .before .before .args .default .now) (c .before .before .before .before .before .before .from .given .0 .0)) (c .before .before .before .before .before .before .from .given .0 .1 .1 .0)) (λ k h. body-quoted st (tokensOf (c .before .before .before .before .before .before .before .before .before .before .before .args .room .now) (c .before .before .before .before .before .before .before .before .before .before .before .args .n)) _ (nameFrom (c .before .before .before .before .before .before .before .before .before .before .before .args .room .now) (c .before .before .before .before .before .before .before .before .before .before .before .args .default .now) (c .before .before .before .before .before .before .from .given .0 .0)) (c .before .before .before .before .before .before .before .before .before .before .before .args .depth) (c .before .before .before .before .before .before .from .given .0 .1 .1 .0) _ (c .before .before .before .before .kind-at .ensures) (c .before .before .before .if1 .left) (c .before .before .if2 .left) (c .before .if4 .taken)) (c .measure-quoted .ensures .0 st (c .before .before .before .before .before .before .before .before .before .before .before .args .operator) (S1 .tuned st (c .before .before .before .before .before .before .before .before .before .before .before .args .operator) (c .before .before .before .before .before .before .before .before .before .before .before .args .default .now) T))), within-start S1 (c .measure-quoted .result) (c .measure-quoted .ensures .1))
 
--- src/measure.rt:151:17
 measure-clause-returns-5 : (t : ℕ) → measure-clause-lts.Need-returns-5 (measure-clause-calls t) (measure-clause-at t) measure-clause.Post
 measure-clause-returns-5 t c = let S1 = rw (c .before .before .before .before .before .before .from .given .1) at (c .before .before .before .before .before .before .before .before .clause-start .ensures) in ((λ st T. meant-start S1 st (c .before .before .before .before .before .before .before .before .before .before .before .args .default .now) (c .before .before .before .before .before .before .before .before .before .before .before .args .depth) _ (refused unexpectedEnd) (λ k h. body-end st (tokensOf (c .before .before .before .before .before .before .before .before .before .before .before .args .room .now) (c .before .before .before .before .before .before .before .before .before .before .before .args .n)) _ (nameFrom (c .before .before .before .before .before .before .before .before .before .before .before .args .room .now) (c .before .before .before .before .before .before .before .before .before .before .before .args .default .now) (c .before .before .before .before .before .before .from .given .0 .0)) (c .before .before .before .before .before .before .before .before .before .before .before .args .depth) (c .before .before .before .before .before .before .from .given .0 .1 .1 .0) _ (c .before .before .before .before .kind-at .ensures) (c .before .before .before .if1 .left) (c .before .before .if2 .left) (c .before .if4 .left) (c .if5 .taken)) (unexpectedEnd, refl, refl)), omega arith)
 
--- src/measure.rt:128:1
 measure-clause-returns-6 : (t : ℕ) → measure-clause-lts.Need-returns-6 (measure-clause-calls t) (measure-clause-at t) measure-clause.Post
 measure-clause-returns-6 t c = let E = rw (c .enum-told .given .1) at (c .before .before .clause-start .ensures) in ((λ st T. record { answer = refused longField; says = λ k h. E st _ _ _; means = (longField, refl, refl) }), omega arith)
 
--- src/measure.rt:128:1
 measure-clause-returns-7 : (t : ℕ) → measure-clause-lts.Need-returns-7 (measure-clause-calls t) (measure-clause-at t) measure-clause.Post
 measure-clause-returns-7 t c = let S1 = rw (c .before .before .before .before .before .before .from .given .1) at (c .before .before .before .before .before .before .before .before .clause-start .ensures) in ((λ st T. meant-start S1 st (c .before .before .before .before .before .before .before .before .before .before .before .args .default .now) (c .before .before .before .before .before .before .before .before .before .before .before .args .depth) _ (refused unexpectedToken) (λ k h. body-other st (tokensOf (c .before .before .before .before .before .before .before .before .before .before .before .args .room .now) (c .before .before .before .before .before .before .before .before .before .before .before .args .n)) _ (nameFrom (c .before .before .before .before .before .before .before .before .before .before .before .args .room .now) (c .before .before .before .before .before .before .before .before .before .before .before .args .default .now) (c .before .before .before .before .before .before .from .given .0 .0)) (c .before .before .before .before .before .before .before .before .before .before .before .args .depth) (c .before .before .before .before .before .before .from .given .0 .1 .1 .0) _ (c .before .before .before .before .kind-at .ensures) (c .before .before .before .if1 .left) (c .before .before .if2 .left) (c .before .if4 .left) (c .if5 .left)) (unexpectedToken, refl, refl)), omega arith)
 
@@ -157,59 +136,45 @@ measure-query-Inv-loop room n default operator from analyzer depth at i₀ s₀ 
 abbrev measure-query-μ-loop : measure-query-lts.MeasureT-loop
 measure-query-μ-loop room n default operator from analyzer depth at i₀ s₀ i s = n - i
 
--- src/measure.rt:166:5
 measure-query-loop-holds : (t : ℕ) → measure-query-lts.Need-loop-holds (measure-query-calls t) (measure-query-at t) measure-query.Post measure-query-Inv-loop measure-query-μ-loop
 measure-query-loop-holds t c = (bounds-start _ _ _ (c .before .before .pre .1 .2), λ st T. turn-start st _ _ _ _ _)
 
--- src/measure.rt:166:11
 measure-query-more-at-requires : (t : ℕ) → measure-query-lts.Need-more-at-requires (measure-query-calls t) (measure-query-at t) measure-query.Post measure-query-Inv-loop measure-query-μ-loop
 measure-query-more-at-requires t c κs = (c .before .before .before .pre .1 .0 .few, c .before .before .before .pre .1 .0 .least)
 
--- src/measure.rt:167:13
 measure-query-conjunction-at-requires : (t : ℕ) → measure-query-lts.Need-conjunction-at-requires (measure-query-calls t) (measure-query-at t) measure-query.Post measure-query-Inv-loop measure-query-μ-loop
 measure-query-conjunction-at-requires t c κs = (c .before .before .before .before .before .before .pre .1 .0 .few, c .before .before .before .before .before .before .pre .1 .0 .least)
 
--- src/measure.rt:168:13
 measure-query-after-requires : (t : ℕ) → measure-query-lts.Need-after-requires (measure-query-calls t) (measure-query-at t) measure-query.Post measure-query-Inv-loop measure-query-μ-loop
 measure-query-after-requires t c κs = omega (arith, c .before .before .before .before .loop .inv .0 .upto, c .before .before .before .before .before .before .before .pre .1 .0 .few)
 
--- src/measure.rt:169:13
 measure-query-modifier-at-requires : (t : ℕ) → measure-query-lts.Need-modifier-at-requires (measure-query-calls t) (measure-query-at t) measure-query.Post measure-query-Inv-loop measure-query-μ-loop
 measure-query-modifier-at-requires t c κs = (c .before .before .before .before .before .before .before .before .pre .1 .0 .few, c .before .before .before .before .before .before .before .before .pre .1 .0 .least)
 
--- src/measure.rt:170:13
 measure-query-after-requires-2 : (t : ℕ) → measure-query-lts.Need-after-requires-2 (measure-query-calls t) (measure-query-at t) measure-query.Post measure-query-Inv-loop measure-query-μ-loop
 measure-query-after-requires-2 t c κs = omega (arith, c .before .before .before .before .before .before .loop .inv .0 .upto, c .before .before .before .before .before .before .before .before .before .pre .1 .0 .few, past-one (c .before .before .conjunction-at .result) (c .before .before .before .before .before .before .loop .i) (c .before .after .result) (c .before .after .ensures .0))
 
--- src/measure.rt:171:15
 measure-query-measure-clause-requires : (t : ℕ) → measure-query-lts.Need-measure-clause-requires (measure-query-calls t) (measure-query-at t) measure-query.Post measure-query-Inv-loop measure-query-μ-loop
 measure-query-measure-clause-requires t c κs = let L = led (c .before .before .before .conjunction-at .result) (c .before .modifier-at .result) (c .before .before .before .before .before .before .before .loop .i) (c .before .before .after .result) (c .after2 .result) (c .before .before .after .ensures .0) (c .after2 .ensures .1) in (omega (arith, L .one, L .two, c .before .before .before .before .before .before .before .loop .inv .0 .from, c .before .before .before .before .before .before .before .before .before .before .pre .0), (c .before .before .before .before .before .before .before .before .before .before .pre .1 .0, c .before .before .before .before .before .before .before .before .before .before .pre .1 .1, omega (arith, L .one, L .two, c .before .before .before .before .before .before .before .loop .inv .0 .upto, c .before .before .before .before .before .before .before .before .before .before .pre .1 .0 .few), c .before .before .before .before .before .before .before .before .before .before .pre .1 .3))
 
--- src/measure.rt:172:31
 measure-query-enum-known-e : (t : ℕ) → measure-query-lts.Need-enum-known-e (measure-query-calls t) (measure-query-at t) measure-query.Post measure-query-Inv-loop measure-query-μ-loop
 measure-query-enum-known-e t c = search needs
 
--- src/measure.rt:172:37
 measure-query-returns : (t : ℕ) → measure-query-lts.Need-returns (measure-query-calls t) (measure-query-at t) measure-query.Post measure-query-Inv-loop measure-query-μ-loop
 measure-query-returns t c = let L = led (c .before .before .before .before .before .before .before .conjunction-at .result) (c .before .before .before .before .before .modifier-at .result) (c .before .before .before .before .before .before .before .before .before .before .before .loop .i) (c .before .before .before .before .before .before .after .result) (c .before .before .before .before .after2 .result) (c .before .before .before .before .before .before .after .ensures .0) (c .before .before .before .before .after2 .ensures .1) in ((λ st T. turn-refused (c .before .before .before .before .before .before .before .before .before .before .before .loop .inv .1 st T) (not-true _ (sym (c .before .before .before .before .before .before .before .before .before .before .more-at .ensures) ∙ c .before .before .before .before .before .before .before .before .before .if1 .taken)) (goes-in (c .before .before .before .before .before .before .before .before .before .before .before .before .before .before .args .room .now) (c .before .before .before .before .before .before .before .before .before .before .before .before .before .before .args .n) (c .before .before .before .before .before .before .before .before .before .before .before .loop .i) (not-true _ (sym (c .before .before .before .before .before .before .before .before .before .before .more-at .ensures) ∙ c .before .before .before .before .before .before .before .before .before .if1 .taken))) (c .before .before .before .before .before .before .before .conjunction-at .result) (c .before .before .before .before .before .before .after .result) (c .before .before .before .before .before .modifier-at .result) (c .before .before .before .before .after2 .result) (omega (arith, L .one, L .two)) (λ cs e. record { joins = c .before .before .before .before .before .before .before .conjunction-at .ensures cs e; first = c .before .before .before .before .before .before .after .ensures .0; modifies = c .before .before .before .before .before .modifier-at .ensures; second = c .before .before .before .before .after2 .ensures .1 }) (c .before .e .given .1) (c .before .before .before .measure-clause .ensures .0 st T)), omega arith)
 
--- src/measure.rt:173:32
 measure-query-enum-known-len : (t : ℕ) → measure-query-lts.Need-enum-known-len (measure-query-calls t) (measure-query-at t) measure-query.Post measure-query-Inv-loop measure-query-μ-loop
 measure-query-enum-known-len t c = search needs
 
--- src/measure.rt:174:17
 measure-query-added-requires : (t : ℕ) → measure-query-lts.Need-added-requires (measure-query-calls t) (measure-query-at t) measure-query.Post measure-query-Inv-loop measure-query-μ-loop
 measure-query-added-requires t c κs = let W = rw (c .before .len .given .1) at (c .before .before .before .measure-clause .ensures .1) in let b = bounds-small (c .before .before .before .before .before .before .before .before .before .before .before .before .before .before .pre .1 .0) (c .before .before .before .before .before .before .before .before .before .before .before .loop .inv .0) in (omega (arith, b .1), omega (arith, b .0, clause-small (c .before .before .before .before .before .before .before .before .before .before .before .before .before .before .pre .1 .0) W))
 
--- src/measure.rt:166:5
 measure-query-loop-less : (t : ℕ) → measure-query-lts.Need-loop-less (measure-query-calls t) (measure-query-at t) measure-query.Post measure-query-Inv-loop measure-query-μ-loop
 measure-query-loop-less t c = let L = led (c .before .before .before .before .before .before .before .before .conjunction-at .result) (c .before .before .before .before .before .before .modifier-at .result) (c .before .before .before .before .before .before .before .before .before .before .before .before .loop .i) (c .before .before .before .before .before .before .before .after .result) (c .before .before .before .before .before .after2 .result) (c .before .before .before .before .before .before .before .after .ensures .0) (c .before .before .before .before .before .after2 .ensures .1) in let W = rw (c .before .before .len .given .1) at (c .before .before .before .before .measure-clause .ensures .1) in omega (arith, L .one, L .two, W .0, (goes-in (c .before .before .before .before .before .before .before .before .before .before .before .before .before .before .before .args .room .now) (c .before .before .before .before .before .before .before .before .before .before .before .before .before .before .before .args .n) (c .before .before .before .before .before .before .before .before .before .before .before .before .loop .i) (not-true _ (sym (c .before .before .before .before .before .before .before .before .before .before .before .more-at .ensures) ∙ c .before .before .before .before .before .before .before .before .before .before .if1 .taken))))
 
--- src/measure.rt:166:5
 measure-query-loop-again : (t : ℕ) → measure-query-lts.Need-loop-again (measure-query-calls t) (measure-query-at t) measure-query.Post measure-query-Inv-loop measure-query-μ-loop
 measure-query-loop-again t c = let L = led (c .before .before .before .before .before .before .before .before .conjunction-at .result) (c .before .before .before .before .before .before .modifier-at .result) (c .before .before .before .before .before .before .before .before .before .before .before .before .loop .i) (c .before .before .before .before .before .before .before .after .result) (c .before .before .before .before .before .after2 .result) (c .before .before .before .before .before .before .before .after .ensures .0) (c .before .before .before .before .before .after2 .ensures .1) in let W = rw (c .before .before .len .given .1) at (c .before .before .before .before .measure-clause .ensures .1) in (bounds-on (c .before .before .before .before .before .before .before .before .before .before .before .before .before .before .before .pre .1 .0) (c .before .before .before .before .before .before .before .before .before .before .before .before .before .before .before .args .at) (c .before .before .before .before .before .before .before .before .before .before .before .before .loop .i) (c .before .before .before .before .before .before .before .after .result) (c .before .before .before .before .before .after2 .result) (c .before .before .before .before .before .before .before .before .before .before .before .before .loop .s .count) (c .before .before .before .before .before .before .before .before .before .before .before .before .loop .s .bytes) (c .added .result .count) (c .added .result .bytes) (c .before .before .len .given .0 .0) (c .before .before .len .given .0 .1 .0) (c .before .before .before .before .before .before .before .before .before .before .before .before .loop .inv .0) L W (c .added .ensures .1), λ st T. turn-found (c .before .before .before .before .before .before .before .before .before .before .before .before .loop .inv .1 st T) (not-true _ (sym (c .before .before .before .before .before .before .before .before .before .before .before .more-at .ensures) ∙ c .before .before .before .before .before .before .before .before .before .before .if1 .taken)) (goes-in (c .before .before .before .before .before .before .before .before .before .before .before .before .before .before .before .args .room .now) (c .before .before .before .before .before .before .before .before .before .before .before .before .before .before .before .args .n) (c .before .before .before .before .before .before .before .before .before .before .before .before .loop .i) (not-true _ (sym (c .before .before .before .before .before .before .before .before .before .before .before .more-at .ensures) ∙ c .before .before .before .before .before .before .before .before .before .before .if1 .taken))) (c .before .before .before .before .before .before .before .before .conjunction-at .result) (c .before .before .before .before .before .before .before .after .result) (c .before .before .before .before .before .before .modifier-at .result) (c .before .before .before .before .before .after2 .result) (omega (arith, L .one, L .two)) (λ cs e. record { joins = c .before .before .before .before .before .before .before .before .conjunction-at .ensures cs e; first = c .before .before .before .before .before .before .before .after .ensures .0; modifies = c .before .before .before .before .before .before .modifier-at .ensures; second = c .before .before .before .before .before .after2 .ensures .1 }) (c .before .before .len .given .1) (c .before .before .before .before .measure-clause .ensures .0 st T) (W .0) (λ cs q s e. rw (T .joins) (c .added .ensures .0 cs q s e)))
 
--- src/measure.rt:159:1
 measure-query-returns-2 : (t : ℕ) → measure-query-lts.Need-returns-2 (measure-query-calls t) (measure-query-at t) measure-query.Post measure-query-Inv-loop measure-query-μ-loop
 measure-query-returns-2 t c = let B = c .before .before .loop .inv .0 in ((λ st T. turn-end (c .before .before .loop .inv .1 st T) (not-false _ (sym (c .before .more-at .ensures) ∙ c .if1 .left))), (B .from, B .upto, B .place, B .size, B .least))
 

@@ -1,56 +1,40 @@
-use Rattle.parser.proofs.Bodies.{plain-fuzzy, plain-goes, quoted-sloppy, quoted-goes, leaf-same, leaf-within}
+-- `parser::measure::measure_quoted` meets its contract.
+use Rattle.parser.proofs.Bodies.{quoted-sloppy, quoted-goes, leaf-same, leaf-within}
 use Rattle.parser.proofs.Rows.{kind-in, text-is, place-text, place-most}
 use Rattle.lexer.specs.Row.{tokensOf, nameFrom}
-use Rattle.rules.specs.Parsing.{termOf, phraseOf}
+use Rattle.rules.specs.Parsing.{phraseOf}
 use Rattle.rules.specs.Analysis.{tokenize}
 use lib.ListN.{length}
-use Prim.Native.Nat.{ℕ, _+_, _≤_}
-use mathlib.Core.Path.{_≡_, refl, sym, ap, subst, _∙_}
+use Prim.Native.Nat.{_+_}
+use mathlib.Core.Path.{refl, sym, ap, _∙_}
 use native.Mathlib.Omega.{arith}
-use borrow.Author.Needs.{needs}
 use Rattle.parser.proofs.measure.measure_quoted.Statement.{statement}
 use Rattle.parser.proofs.measure.measure_quoted.Tie as tie
-use Rattle.parser.proofs.measure.measure_quoted.Reads as reads
-use Rattle.parser.proofs.measure.measure_quoted.Lts as lts
-use Rattle.parser.proofs.kinds.is_at.Reads as is-at-reads
-use Rattle.parser.proofs.leaf.phrase_len.Reads as phrase-len-reads
-use Rattle.parser.proofs.measure.with_boost.Reads as with-boost-reads
-use Rattle.lexer.proofs.row.field_part.Reads as field-part-reads
-use Rattle.lexer.proofs.row.text_at.Reads as text-at-reads
 
--- src/measure.rt:102:27
 add-is-at : tie.Need-add-is-at
 add-is-at c = omega (arith, c .before .before .pre .3)
 
--- src/measure.rt:102:8
 is-at-requires : tie.Need-is-at-requires
 is-at-requires c κs = (c .before .before .pre .0 .few, c .before .before .pre .0 .least)
 
--- src/measure.rt:103:9
 returns : tie.Need-returns
 returns c = ((λ st o T. (_, quoted-sloppy st (tokensOf (c .before .before .before .before .args .room .now) (c .before .before .before .before .args .n)) (nameFrom (c .before .before .before .before .args .room .now) (c .before .before .before .before .args .default .now) (c .before .before .before .before .args .from)) (c .before .before .before .before .args .i) (sym (c .before .is-at .ensures) ∙ c .if1 .taken), refl)), omega arith)
 
--- src/measure.rt:105:9
 field-part-requires : tie.Need-field-part-requires
 field-part-requires c κs = (omega (arith, c .before .before .before .before .pre .1 .upto, c .before .before .before .before .pre .0 .few), (λ k h. c .before .before .before .before .pre .0 .laid k (omega (arith, c .before .before .before .before .pre .1 .upto))), c .before .before .before .before .pre .0 .least)
 
--- src/measure.rt:106:26
 text-at-requires : tie.Need-text-at-requires
 text-at-requires c κs = let z = kind-in (c .before .before .before .before .before .args .room .now) (c .before .before .before .before .before .args .n) 2 (c .before .before .before .before .before .args .i) (λ z. omega arith) (c .before .before .before .before .before .pre .2) in (omega (arith, c .before .before .before .before .before .pre .0 .few), c .before .before .before .before .before .pre .0 .laid (c .before .before .before .before .before .args .i) (omega arith), c .before .before .before .before .before .pre .0 .least)
 
--- src/measure.rt:106:9
 phrase-len-requires : tie.Need-phrase-len-requires
 phrase-len-requires c κs = let z = kind-in (c .before .before .before .before .before .before .args .room .now) (c .before .before .before .before .before .before .args .n) 2 (c .before .before .before .before .before .before .args .i) (λ z. omega arith) (c .before .before .before .before .before .before .pre .2) in (rw (c .before .field-part .ensures) (c .before .before .before .before .before .before .pre .1 .short), rw (c .text-at .ensures, ← text-is (c .before .before .before .before .before .before .args .room .now) (c .before .before .before .before .before .before .args .n) (c .before .before .before .before .before .before .args .i) z) (omega (arith, place-text (c .before .before .before .before .before .before .pre .0) (c .before .before .before .before .before .before .args .i) z, place-most (c .before .before .before .before .before .before .pre .0) (c .before .before .before .before .before .before .args .i + 1))))
 
--- src/measure.rt:107:30
 add-with-boost : tie.Need-add-with-boost
 add-with-boost c = omega (arith, c .before .before .before .before .before .before .before .pre .3)
 
--- src/measure.rt:107:5
 with-boost-requires : tie.Need-with-boost-requires
 with-boost-requires c κs = let z = kind-in (c .before .before .before .before .before .before .before .args .room .now) (c .before .before .before .before .before .before .before .args .n) 2 (c .before .before .before .before .before .before .before .args .i) (λ z. omega arith) (c .before .before .before .before .before .before .before .pre .2) in let b = rw (c .before .text-at .ensures, ← text-is (c .before .before .before .before .before .before .before .args .room .now) (c .before .before .before .before .before .before .before .args .n) (c .before .before .before .before .before .before .before .args .i) z) at (c .phrase-len .ensures .1) in (c .before .before .before .before .before .before .before .pre .0, omega arith, omega (arith, place-text (c .before .before .before .before .before .before .before .pre .0) (c .before .before .before .before .before .before .before .args .i) z, place-most (c .before .before .before .before .before .before .before .pre .0) (c .before .before .before .before .before .before .before .args .i + 1)))
 
--- src/measure.rt:97:1
 returns-2 : tie.Need-returns-2
 returns-2 c = let z = kind-in (c .before .before .before .before .before .before .before .before .args .room .now) (c .before .before .before .before .before .before .before .before .args .n) 2 (c .before .before .before .before .before .before .before .before .args .i) (λ z. omega arith) (c .before .before .before .before .before .before .before .before .pre .2) in let b = rw (c .before .before .text-at .ensures, ← text-is (c .before .before .before .before .before .before .before .before .args .room .now) (c .before .before .before .before .before .before .before .before .args .n) (c .before .before .before .before .before .before .before .before .args .i) z) at (c .before .phrase-len .ensures .1) in ((λ st o T. rw (quoted-goes st (tokensOf (c .before .before .before .before .before .before .before .before .args .room .now) (c .before .before .before .before .before .before .before .before .args .n)) (nameFrom (c .before .before .before .before .before .before .before .before .args .room .now) (c .before .before .before .before .before .before .before .before .args .default .now) (c .before .before .before .before .before .before .before .before .args .from)) (c .before .before .before .before .before .before .before .before .args .i) (sym (c .before .before .before .before .before .is-at .ensures) ∙ c .before .before .before .before .if1 .left)) (c .with-boost .ensures .0 st _ (leaf-same (λ a t. phraseOf (nameFrom (c .before .before .before .before .before .before .before .before .args .room .now) (c .before .before .before .before .before .before .before .before .args .default .now) (c .before .before .before .before .before .before .before .before .args .from)) (tokenize a t)) _ _ _ _ _ (T .force) (c .before .before .text-at .ensures ∙ sym (text-is (c .before .before .before .before .before .before .before .before .args .room .now) (c .before .before .before .before .before .before .before .before .args .n) (c .before .before .before .before .before .before .before .before .args .i) z)) (c .before .phrase-len .ensures .0 (nameFrom (c .before .before .before .before .before .before .before .before .args .room .now) (c .before .before .before .before .before .before .before .before .args .default .now) (c .before .before .before .before .before .before .before .before .args .from)) (sym (ap length (c .before .before .before .field-part .ensures))))))), leaf-within (c .before .before .before .before .before .before .before .before .pre .0) (c .before .before .before .before .before .before .before .before .args .i) _ z b (c .with-boost .result) (c .with-boost .ensures .1))
 

@@ -1,66 +1,49 @@
+-- `parser::write::put_boost_front` meets its contract.
 use Rattle.rules.specs.Parsing.{isAt}
 use Rattle.parser.proofs.Fronts.{front-put, front-nothing}
 use Rattle.parser.proofs.Rows.{kind-in}
 use Rattle.rules.proofs.Bools.{both, and-no-l, and-no-r}
 use Rattle.lexer.specs.Row.{tokensOf}
 use Prim.Native.Nat.{_+_}
-use mathlib.Core.Path.{_≡_, refl, sym, ap, _∙_}
+use mathlib.Core.Path.{sym, _∙_}
 use native.Mathlib.Omega.{arith}
 use borrow.Author.Needs.{needs}
 use Rattle.parser.proofs.write.put_boost_front.Statement.{statement}
 use Rattle.parser.proofs.write.put_boost_front.Tie as tie
-use Rattle.parser.proofs.write.put_boost_front.Reads as reads
-use Rattle.parser.proofs.write.put_boost_front.Lts as lts
-use Rattle.parser.proofs.kinds.is_at.Reads as is-at-reads
-use Rattle.parser.proofs.write.bits_at.Reads as bits-at-reads
-use Rattle.stored.proofs.big.put_big4.Reads as put-big4-reads
-use Rattle.stored.proofs.write.put_header.Reads as put-header-reads
 
--- src/write.rt:54:8
 is-at-requires : tie.Need-is-at-requires
 is-at-requires c κs = (c .before .before .pre .0 .few, c .before .before .pre .0 .least)
 
--- src/write.rt:55:30
 add-is-at : tie.Need-add-is-at
 add-is-at c = omega (arith, c .before .before .before .before .pre .1)
 
--- src/write.rt:55:12
 is-at-requires-2 : tie.Need-is-at-requires-2
 is-at-requires-2 c κs = (c .before .before .before .before .pre .0 .few, c .before .before .before .before .pre .0 .least)
 
--- src/write.rt:56:23
 sub-len : tie.Need-sub-len
 sub-len c = omega (arith, c .before .before .before .before .before .before .pre .2 (both (sym (c .before .before .before .is-at .ensures) ∙ c .before .before .if1 .taken) (sym (c .before .is-at2 .ensures) ∙ c .if2 .taken)))
 
--- src/write.rt:57:17
 put-header-requires : tie.Need-put-header-requires
 put-header-requires c κs = (omega (arith, c .before .before .before .before .before .before .before .pre .2 (both (sym (c .before .before .before .before .is-at .ensures) ∙ c .before .before .before .if1 .taken) (sym (c .before .before .is-at2 .ensures) ∙ c .before .if2 .taken))), omega (arith, c .before .before .before .before .before .before .before .pre .3))
 
--- src/write.rt:58:54
 add-bits-at : tie.Need-add-bits-at
 add-bits-at c = omega (arith, c .before .before .before .before .before .before .before .before .before .before .before .pre .1)
 
--- src/write.rt:58:37
 bits-at-requires : tie.Need-bits-at-requires
 bits-at-requires c κs = (c .before .before .before .before .before .before .before .before .before .before .before .pre .0, kind-in (c .before .before .before .before .before .before .before .before .before .before .before .args .room .now) (c .before .before .before .before .before .before .before .before .before .before .before .args .n) 1 (c .before .before .before .before .before .before .before .before .before .before .before .args .i + 1) (λ z. omega arith) (sym (c .before .before .before .before .before .before .is-at2 .ensures) ∙ c .before .before .before .before .before .if2 .taken))
 
--- src/write.rt:58:13
 put-big4-requires : tie.Need-put-big4-requires
 put-big4-requires c κs = omega (arith, c .before .before .before .before .put-header .ensures .place, c .before .before .before .before .put-header .kept .0, c .before .before .before .before .before .before .before .before .before .before .before .before .pre .2 (both (sym (c .before .before .before .before .before .before .before .before .before .is-at .ensures) ∙ c .before .before .before .before .before .before .before .before .if1 .taken) (sym (c .before .before .before .before .before .before .before .is-at2 .ensures) ∙ c .before .before .before .before .before .before .if2 .taken)))
 
--- src/write.rt:58:13
 same-length : tie.Need-same-length
 same-length c = search needs
 
--- src/write.rt:58:13
 returns : tie.Need-returns
 returns c = front-put (tokensOf (c .before .before .before .before .before .before .before .before .before .before .before .before .before .before .before .args .room .now) (c .before .before .before .before .before .before .before .before .before .before .before .before .before .before .before .args .n)) (c .before .before .before .before .before .before .before .before .before .before .before .before .before .before .before .args .i) (both (sym (c .before .before .before .before .before .before .before .before .before .before .before .before .is-at .ensures) ∙ c .before .before .before .before .before .before .before .before .before .before .before .if1 .taken) (sym (c .before .before .before .before .before .before .before .before .before .before .is-at2 .ensures) ∙ c .before .before .before .before .before .before .before .before .before .if2 .taken)) (c .before .before .before .before .before .before .before .put-header .ensures) (c .before .before .put-big4 .ensures) (c .before .before .before .bits-at .ensures) (c .before .before .before .before .before .before .before .before .before .before .before .before .before .before .before .pre .2 (both (sym (c .before .before .before .before .before .before .before .before .before .before .before .before .is-at .ensures) ∙ c .before .before .before .before .before .before .before .before .before .before .before .if1 .taken) (sym (c .before .before .before .before .before .before .before .before .before .before .is-at2 .ensures) ∙ c .before .before .before .before .before .before .before .before .before .if2 .taken)))
 
--- src/write.rt:50:1
 returns-2 : tie.Need-returns-2
 returns-2 c = front-nothing (c .before .before .before .before .before .before .args .out .now) (tokensOf (c .before .before .before .before .before .before .args .room .now) (c .before .before .before .before .before .before .args .n)) (c .before .before .before .before .before .before .args .i) (and-no-r (isAt 11 (tokensOf (c .before .before .before .before .before .before .args .room .now) (c .before .before .before .before .before .before .args .n)) (c .before .before .before .before .before .before .args .i)) (sym (c .before .is-at2 .ensures) ∙ c .if2 .left))
 
--- src/write.rt:50:1
 returns-3 : tie.Need-returns-3
 returns-3 c = front-nothing (c .before .before .before .before .args .out .now) (tokensOf (c .before .before .before .before .args .room .now) (c .before .before .before .before .args .n)) (c .before .before .before .before .args .i) (and-no-l _ (sym (c .before .is-at .ensures) ∙ c .if1 .left))
 

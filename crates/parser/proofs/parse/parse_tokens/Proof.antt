@@ -1,0 +1,57 @@
+-- `parser::parse::parse_tokens` meets its contract.
+use Rattle.parser.proofs.Delivering.{delivers-as, tokens-fault, tokens-more, tokens-kept, tokens-end, tokens-write}
+use Rattle.parser.proofs.Rows.{place-most}
+use mathlib.Core.Path.{refl, sym, _∙_}
+use native.Mathlib.Omega.{arith}
+use borrow.Author.Needs.{needs}
+use Rattle.parser.proofs.parse.parse_tokens.Statement.{statement}
+use Rattle.parser.proofs.parse.parse_tokens.Tie as tie
+
+measure-query-requires : tie.Need-measure-query-requires
+measure-query-requires c κs = (c .before .before .before .pre .0, record { upto = omega arith; short = c .before .before .before .pre .1 }, omega arith, omega arith)
+
+enum-known-e : tie.Need-enum-known-e
+enum-known-e c = search needs
+
+enum-known-count : tie.Need-enum-known-count
+enum-known-count c = search needs
+
+is-at-requires : tie.Need-is-at-requires
+is-at-requires c κs = (c .before .before .before .before .before .before .before .pre .0 .few, c .before .before .before .before .before .before .before .pre .0 .least)
+
+query-len-requires : tie.Need-query-len-requires
+query-len-requires c κs = let K = rw (c .before .before .before .count .given .1) at (c .before .before .before .before .before .measure-query .ensures .1) in (omega (arith, K .3, place-most (c .before .before .before .before .before .before .before .before .before .pre .0) (c .before .before .before .count .given .0 .1 .1 .1 .0)), K .4)
+
+is-alone-requires : tie.Need-is-alone-requires
+is-alone-requires c κs = search needs
+
+write-whole-requires : tie.Need-write-whole-requires
+write-whole-requires c κs = let K = rw (c .before .before .before .before .before .before .count .given .1) at (c .before .before .before .before .before .before .before .before .measure-query .ensures .1) in (c .before .before .before .before .before .before .before .before .before .before .before .before .pre .0, record { upto = omega arith; short = c .before .before .before .before .before .before .before .before .before .before .before .before .pre .1 }, omega (arith, c .before .before .query-len .ensures .1, K .3, place-most (c .before .before .before .before .before .before .before .before .before .before .before .before .pre .0) (c .before .before .before .before .before .before .count .given .0 .1 .1 .1 .0)), (c .before .before .before .before .before .before .before .before .before .before .before .before .pre .2 .0, tokens-kept (c .before .before .before .before .before .before .before .before .before .before .before .before .pre .2 .0) (c .before .before .before .before .before .before .before .before .before .before .before .before .args .room .now) (c .before .before .before .before .before .before .before .before .before .before .before .before .args .n) (c .before .before .before .before .before .before .before .before .before .before .before .before .args .field .now) (c .before .before .before .before .before .before .before .before .before .before .before .before .pre .2 .2) (c .before .before .before .before .before .before .before .before .measure-query .ensures .0 (c .before .before .before .before .before .before .before .before .before .before .before .before .pre .2 .0) (c .before .before .before .before .before .before .before .before .before .before .before .before .pre .2 .1)) (c .before .before .before .before .before .before .count .given .1), (c .before .before .before .before .before .before .count .given .0 .1 .1 .1 .0), tokens-write (c .before .before .before .before .before .before .before .before .before .before .before .before .pre .2 .0) (c .before .before .before .before .before .before .before .before .before .before .before .before .args .room .now) (c .before .before .before .before .before .before .before .before .before .before .before .before .args .n) (c .before .before .before .before .before .before .before .before .before .before .before .before .args .field .now) (c .before .before .before .before .before .before .before .before .before .before .before .before .pre .2 .2) (c .before .before .before .before .before .before .before .before .measure-query .ensures .0 (c .before .before .before .before .before .before .before .before .before .before .before .before .pre .2 .0) (c .before .before .before .before .before .before .before .before .before .before .before .before .pre .2 .1)) (c .before .before .before .before .before .before .count .given .1) refl (c .before .before .before .before .before .before .before .before .before .before .before .before .pre .2 .1) (c .before .is-alone .ensures) (c .before .before .query-len .ensures .0)))
+
+same-length : tie.Need-same-length
+same-length c = c .before .before .write-whole .kept .1 .1 .1 .1 .1 .1 .1 .0
+
+returns : tie.Need-returns
+returns c = λ st T ef. delivers-as (c .before .before .before .before .before .before .before .before .before .before .before .before .before .before .before .args .out .now) _ (c .before .before .write-whole .result) (tokens-end st (c .before .before .before .before .before .before .before .before .before .before .before .before .before .before .before .args .room .now) (c .before .before .before .before .before .before .before .before .before .before .before .before .before .before .before .args .n) (c .before .before .before .before .before .before .before .before .before .before .before .before .before .before .before .args .field .now) ef (c .before .before .before .before .before .before .before .before .before .before .before .measure-query .ensures .0 st T) (c .before .before .before .before .before .before .before .before .before .count .given .1) (sym (c .before .before .before .before .before .before .before .is-at .ensures) ∙ c .before .before .before .before .before .before .if1 .taken)) (c .before .before .write-whole .ensures st (tokens-kept st (c .before .before .before .before .before .before .before .before .before .before .before .before .before .before .before .args .room .now) (c .before .before .before .before .before .before .before .before .before .before .before .before .before .before .before .args .n) (c .before .before .before .before .before .before .before .before .before .before .before .before .before .before .before .args .field .now) ef (c .before .before .before .before .before .before .before .before .before .before .before .measure-query .ensures .0 st T) (c .before .before .before .before .before .before .before .before .before .count .given .1)) (c .before .before .before .before .before .before .before .before .before .count .given .0 .1 .1 .1 .0) (tokens-write st (c .before .before .before .before .before .before .before .before .before .before .before .before .before .before .before .args .room .now) (c .before .before .before .before .before .before .before .before .before .before .before .before .before .before .before .args .n) (c .before .before .before .before .before .before .before .before .before .before .before .before .before .before .before .args .field .now) ef (c .before .before .before .before .before .before .before .before .before .before .before .measure-query .ensures .0 st T) (c .before .before .before .before .before .before .before .before .before .count .given .1) refl T (c .before .before .before .before .is-alone .ensures) (c .before .before .before .before .before .query-len .ensures .0)))
+
+returns-2 : tie.Need-returns-2
+returns-2 c = λ st T ef. tokens-fault st (c .before .before .before .before .before .before .before .args .room .now) (c .before .before .before .before .before .before .before .args .n) (c .before .before .before .before .before .before .before .args .field .now) ef (c .before .before .before .measure-query .ensures .0 st T) _ (c .before .e .given .1) (c .before .before .before .before .before .before .before .args .out .now)
+
+returns-3 : tie.Need-returns-3
+returns-3 c = λ st T ef. tokens-more st (c .before .before .before .before .before .before .before .before .before .args .room .now) (c .before .before .before .before .before .before .before .before .before .args .n) (c .before .before .before .before .before .before .before .before .before .args .field .now) ef (c .before .before .before .before .before .measure-query .ensures .0 st T) (c .before .before .before .count .given .1) (sym (c .before .is-at .ensures) ∙ c .if1 .left) (c .before .before .before .before .before .before .before .before .before .args .out .now)
+
+pub parse-tokens-spec : {M : Type 1} → statement M
+parse-tokens-spec =
+    tie.close
+    (tie.spec
+    measure-query-requires
+    enum-known-e
+    enum-known-count
+    is-at-requires
+    query-len-requires
+    is-alone-requires
+    write-whole-requires
+    same-length
+    returns
+    returns-2
+    returns-3)

@@ -1,0 +1,28 @@
+-- What the public call answers, and what it leaves: the numbers and values of each of its cases.
+use mathlib.Core.Path.{_≡_}
+use Prim.Native.Nat.{ℕ}
+use mathlib.Core.List.{List, _++_}
+use lib.Dec.{leb}
+use lib.ListN.{length, drop}
+use Rattle.rules.specs.Numbers.{Refusal, number, Read, got, refused, need, andThen, longAnswer}
+use Rattle.rules.specs.Query.{Query}
+use Rattle.rules.specs.Stored.{encode}
+use Rattle.rules.specs.Answers.{Answer, Left}
+use Rattle.parser.specs.declared.parse.Parsed.{Parsed}
+use Rattle.parser.specs.declared.parse.Parsed.the-variants.{Refused, Bytes}
+
+abbrev pub answerOf : Parsed → Answer
+answerOf (Refused n) = record { refusal = n; written = 0; count = 0; rounds = 0 }
+answerOf (Bytes n) = record { refusal = 0; written = n; count = 0; rounds = 0 }
+
+abbrev pub leftOf : Parsed → List ℕ → List ℕ → Left
+leftOf p output room = record { answer = answerOf p; output = output; room = room }
+
+-- a query that an output of n bytes has room for
+abbrev pub fit : ℕ → Query → Read Query
+fit n q = need (leb (length (encode q)) n) longAnswer (got q)
+
+-- what was read goes to the output, if it fits; a refusal leaves the output as it was
+abbrev pub Delivers : Read Query → List ℕ → Parsed → List ℕ → Type 0
+Delivers r out (Refused e) out′ = (x : Refusal) × (andThen r (fit (length out)) ≡ refused x) × (e ≡ number x) × (out′ ≡ out)
+Delivers r out (Bytes n) out′ = (q : Query) × (andThen r (fit (length out)) ≡ got q) × (n ≡ length (encode q)) × (out′ ≡ encode q ++ drop n out)

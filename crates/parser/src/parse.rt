@@ -1,0 +1,169 @@
+// The public call: a text under a setup becomes the stored form of its query, or a refusal leaves the output as it was.
+// The first half measures, so that what does not fit is refused before a byte is written. The room ends all zeros in every case.
+use crate::kinds;
+use crate::kinds::Counted;
+use crate::measure::measure_query;
+use crate::setup;
+use crate::write::write_query;
+use analysis::fields::analyzer_among;
+use lexer::Lexed;
+use stored::bytes::clear;
+use stored::bytes::is_text;
+use stored::write::put_header;
+ghost use mathlib.Core.Path.{_≡_};
+ghost use mathlib.Core.List.{List};
+ghost use Prim.Native.Nat.{ℕ, _+_, _*_, _≤_, _<_};
+ghost use lib.ListN.{length};
+ghost use Rattle.rules.specs.Numbers.{fieldMost, got, andThen};
+ghost use Rattle.rules.specs.Query.{Clauses};
+ghost use Rattle.rules.specs.Setup.{Setup, readSetup};
+ghost use Rattle.rules.specs.Parsing.{queryOf, orMatchNone, parse, parseTokens};
+ghost use Rattle.rules.specs.Answers.{parseLeft};
+ghost use Rattle.lexer.specs.Row.{roomLeast, tokensOf};
+ghost use Rattle.parser.specs.Measured.{Rowed, Fielded, Tuned};
+ghost use Rattle.parser.specs.Parsed.{leftOf, Delivers};
+ghost use Rattle.parser.specs.Written.{QueryToWrite};
+
+// What a call answers: a refusal by its number, or how many bytes it wrote.
+pub enum Parsed {
+    Refused(u8),
+    Bytes(usize),
+}
+
+// The query of kept clauses, which has `len` bytes, goes to the output, if it fits; where none is kept, `len` is 0.
+fn write_whole<'a>(
+    operator: u8,
+    analyzer: u8,
+    field: &'a [u8],
+    n: usize,
+    room: &'a [u8],
+    alone: bool,
+    len: usize,
+    out: &mut [u8],
+) -> Parsed
+    requires { ⌜ (Rowed (now room) n) × (Fielded (now room) n (now field) 0) × (len ≤ 65000) × ((st : Setup) × (cs : Clauses) × (j : ℕ) × QueryToWrite (now room) n (now field) operator 0 analyzer 0 0 alone len st cs j) ⌝ }
+    ensures { λ r. ⌜ ((st : Setup) (cs : Clauses) (j : ℕ) → QueryToWrite (now (room .entry)) n (now (field .entry)) operator 0 analyzer 0 0 alone len st cs j → Delivers (got (orMatchNone (queryOf cs))) (now (out .entry)) r (now (out .exit))) ⌝ }
+{
+    if len == 0 {
+        if out.len() < 3 {
+            return Parsed::Refused(18);
+        }
+        put_header(out, 0, 0x07, 0);
+        return Parsed::Bytes(3);
+    }
+    if out.len() < len {
+        return Parsed::Refused(18);
+    }
+    write_query(
+        room,
+        n,
+        field,
+        operator,
+        0,
+        analyzer,
+        0,
+        0,
+        alone,
+        &mut out[0..len],
+    );
+    Parsed::Bytes(len)
+}
+
+// The tokens in the room, to their end, in the default field.
+fn parse_tokens<'a>(
+    operator: u8,
+    analyzer: u8,
+    field: &'a [u8],
+    n: usize,
+    room: &'a [u8],
+    out: &mut [u8],
+) -> Parsed
+    requires { ⌜ (Rowed (now room) n) × (length (now field) ≤ fieldMost) × ((st : Setup) × Tuned st operator (now room) n (now field) 0 analyzer × (st .field ≡ now field)) ⌝ }
+    ensures { λ r. ⌜ ((st : Setup) → Tuned st operator (now (room .entry)) n (now (field .entry)) 0 analyzer → st .field ≡ now (field .entry) → Delivers (parseTokens st (tokensOf (now (room .entry)) n)) (now (out .entry)) r (now (out .exit))) ⌝ }
+{
+    match measure_query(room, n, field, operator, 0, analyzer, 0, 0) {
+        Counted::Fault(e) => Parsed::Refused(e),
+        Counted::Clauses {
+            count,
+            tag,
+            bytes,
+            next,
+        } => {
+            if kinds::is_at(room, n, 0, next) {
+                let len = kinds::query_len(count, tag, bytes);
+                return write_whole(
+                    operator,
+                    analyzer,
+                    field,
+                    n,
+                    room,
+                    kinds::is_alone(count, tag),
+                    len,
+                    out,
+                );
+            }
+            Parsed::Refused(11)
+        }
+    }
+}
+
+// The same from a text, with a room that is long enough.
+fn parse_text(
+    operator: u8,
+    analyzer: u8,
+    field: &[u8],
+    fields: &[u8],
+    text: &[u8],
+    out: &mut [u8],
+    room: &mut [u8],
+) -> Parsed
+    requires { ⌜ roomLeast ≤ length (now room) ⌝ }
+    ensures { λ r. ⌜ Delivers (andThen (readSetup operator analyzer (now (field .entry)) (now (fields .entry))) (λ st. parse st (now (text .entry)))) (now (out .entry)) r (now (out .exit)) ⌝ }
+{
+    let mut names = [[0u8; 32]; 8];
+    let mut lengths = [0u8; 8];
+    let mut analyzers = [0u8; 8];
+    let count = setup::read_entries(fields, &mut names, &mut lengths, &mut analyzers);
+    if 8 < count {
+        return Parsed::Refused(3);
+    }
+    if !setup::is_plain(operator, analyzer, field) {
+        return Parsed::Refused(3);
+    }
+    if 1024 < text.len() {
+        return Parsed::Refused(1);
+    }
+    if !is_text(text) {
+        return Parsed::Refused(2);
+    }
+    match lexer::lex(text, room) {
+        Lexed::Refused(e) => Parsed::Refused(e),
+        Lexed::Tokens(n) => {
+            setup::note_fields(room, n, &names, &lengths, &analyzers, count, analyzer);
+            let a = analyzer_among(&names, &lengths, &analyzers, count, analyzer, field);
+            parse_tokens(operator, a, field, n, room, out)
+        }
+    }
+}
+
+// Parses a text under a setup: operator (0 Or, 1 And), default analyzer (1 to 3), default field, and the entries of further fields.
+// The answer, the output and the room afterwards are those of the definition, whatever is lent.
+pub fn parse(
+    operator: u8,
+    analyzer: u8,
+    field: &[u8],
+    fields: &[u8],
+    text: &[u8],
+    out: &mut [u8],
+    room: &mut [u8],
+) -> Parsed
+    ensures { λ r. ⌜ leftOf r (now (out .exit)) (now (room .exit)) ≡ parseLeft operator analyzer (now (field .entry)) (now (fields .entry)) (now (text .entry)) (now (out .entry)) (now (room .entry)) ⌝ }
+{
+    if room.len() < 9216 {
+        clear(room);
+        return Parsed::Refused(32);
+    }
+    let p = parse_text(operator, analyzer, field, fields, text, out, room);
+    clear(room);
+    p
+}
