@@ -1,22 +1,23 @@
 -- What the checked bytes of an entry show of it, and a search through a record's entries.
 use mathlib.Core.Path.{_≡_, refl, sym, ap, _∙_}
-use mathlib.Core.Logic.{⊎-elim}
+use mathlib.Core.Logic.{_⊎_, inl, inr, ⊎-elim}
 use Prim.Native.Nat.{ℕ, _+_, _≤_, _<_}
 use mathlib.Core.List.{List, [], _∷_}
 use mathlib.Core.Bool.{Bool, true, false, _&&_, _||_, and-assoc}
-use lib.ListN.{length, take, drop}
+use lib.ListN.{length, take, drop, length-drop}
 use native.Mathlib.Omega.{arith}
 use lib.Seq.{take-all}
 use lib.Dec.{leb, eqb}
 use borrow.Author.Tests.{leb-true, eqb-true}
 use Rattle.rules.specs.Numbers.{wordTag, placeTag, wholeTag, floatTag, valueTag}
-use Rattle.rules.specs.Bytes.{ofBig, isEmpty, isText, tagOf, bodyOf, restOf, wholeOf, isPart, isFieldPart, every, each, some, all, same}
+use Rattle.rules.specs.Bytes.{ofBig, isEmpty, isText, tagOf, sizeOf, bodyOf, restOf, wholeOf, isPart, isFieldPart, every, each, some, all, same}
 use Rattle.rules.specs.Query.{Word, Numbers, whole, float, Bound}
 use Rattle.rules.specs.Reading.{isWord}
 use Rattle.rules.specs.Lists.{Entry, place, value, isValue, isFieldWith, isEntry, entryOf}
 use Rattle.rules.specs.Matching.{isHere, isAt, followsFrom, startsOn, sameNumbers, liesIn, isInside}
-use Rattle.rules.proofs.Bools.{clash, and-l, and-r, either}
-use Rattle.rules.proofs.Parts.{part-is, field-is, more-empty, less-empty}
+use Rattle.rules.proofs.Bools.{clash, split, and-l, and-r, either}
+use Rattle.rules.proofs.Parts.{empty-nil, length-body, length-whole, part-is, field-is, more-empty, less-empty}
+use Rattle.rules.proofs.Equal.{same-eq}
 use Rattle.rules.proofs.Rows.{first, others, some-done, some-yes, some-no}
 use Rattle.selection.specs.Entry.{isPlace, isOf, fieldOf, textOf, positionOf, bitsOf}
 
@@ -26,6 +27,7 @@ use Rattle.selection.specs.Entry.{isPlace, isOf, fieldOf, textOf, positi
 pub record Inner (P : List ℕ → Bool) (b : List ℕ) : Type 0 where
   pub front : wholeOf b ≡ true
   pub second : P (restOf b) ≡ true
+  pub last : isEmpty (restOf (restOf b)) ≡ true
 
 inner : (P : List ℕ → Bool) (b : List ℕ) → isFieldWith P b ≡ true → Inner P b
 inner P b h =
@@ -33,6 +35,7 @@ inner P b h =
     record {
       front = part-is _ b (field-is b (and-l (isFieldPart b) (P (restOf b) && isEmpty (restOf (restOf b))) h) .0) .0;
       second = and-l (P (restOf b)) (isEmpty (restOf (restOf b))) k;
+      last = and-r (P (restOf b)) (isEmpty (restOf (restOf b))) k;
     }
 
 -- by its tag and its body
@@ -199,6 +202,32 @@ module _ (n : Numbers) (f : List ℕ) (l u : Bound) where
 pub of-value : (n : Numbers) (e : Entry) → isOf n e ≡ true → isPlace e ≡ false
 of-value n (place f y t) h = clash h refl
 of-value n (value k f x) h = refl
+
+-- an entry with this field and this text has this length
+place-size : (b : List ℕ) → Inner isWord b → 10 + length (bodyOf b) + length (drop 4 (bodyOf (restOf b))) ≡ length b
+place-size b i =
+    let w = word-is (restOf b) (i .second) in
+    let l = w .1 in
+    let z = ap length (empty-nil (restOf (restOf b)) (i .last)) in
+    omega (arith, length-whole b (i .front), length-whole (restOf b) (w .0), length-drop 4 (bodyOf (restOf b)))
+
+pub here-size : (f t s : List ℕ) → isEntry s ≡ true → isHere f t (entryOf s) ≡ true → sizeOf s ≡ 10 + length f + length t
+here-size f t s h k = sym (length-body s (viewed s h .whole)) ∙ go (viewed s h .view) k
+  where
+    go : {n : ℕ} {b : List ℕ} {e : Entry} → View n b e → isHere f t e ≡ true → length b ≡ 10 + length f + length t
+    go (v-place {b = b} i) k =
+        let x = ap length (same-eq f (bodyOf b) (and-l (same f (bodyOf b)) _ k)) in
+        let y = ap length (same-eq t (drop 4 (bodyOf (restOf b))) (and-r (same f (bodyOf b)) (same t (drop 4 (bodyOf (restOf b)))) k)) in
+        omega (arith, place-size b i)
+    go (v-whole i) k = clash k refl
+    go (v-float i) k = clash k refl
+
+pub other-size : (f t s : List ℕ) → isEntry s ≡ true → (sizeOf s ≡ 10 + length f + length t → ⊥) → false ≡ isHere f t (entryOf s)
+other-size f t s h n = go (split (isHere f t (entryOf s)))
+  where
+    go : (isHere f t (entryOf s) ≡ true) ⊎ (isHere f t (entryOf s) ≡ false) → false ≡ isHere f t (entryOf s)
+    go (inl k) = absurd (n (here-size f t s h k))
+    go (inr k) = sym k
 
 -- ---- a search through a record's entries
 

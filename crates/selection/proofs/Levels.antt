@@ -13,9 +13,9 @@ use Rattle.rules.specs.Reading.{kindOf}
 use Rattle.rules.specs.Lists.{Entry}
 use Rattle.rules.specs.Rewriting.{isNeeded}
 use Rattle.rules.specs.Matching.{bit, allows, countsFor, anyNeeded, matches, allAllow, shouldsTrue}
-use Rattle.rules.proofs.Bools.{alike, or-r}
+use Rattle.rules.proofs.Bools.{alike, and-l, and-r, or-r}
 use Rattle.selection.specs.declared.level.Level.{Level}
-use Rattle.selection.specs.Level.{levelOf, meets, answered, carries, after}
+use Rattle.selection.specs.Level.{levelOf, meets, answered, isOver, carries, after}
 
 -- ---- the number of a level
 
@@ -77,6 +77,9 @@ module _ (l : Level) where
       → record { end = l .end; asked = a; met = true; kind = l .kind } ≡ answered l y
   answered-yes y a e f h = answered-by l y a true (rw (e, f) (sym h)) (rw (e, f) (or-r (l .met) refl))
 
+pub over-parts : (l : Level) → isOver l ≡ true → (l .asked ≡ 0) × (l .met ≡ true)
+over-parts l h = (let k = leb-true (l .asked) 0 (and-l (leb (l .asked) 0) (l .met) h) in omega arith, and-r (leb (l .asked) 0) (l .met) h)
+
 -- ---- the clauses that are left
 
 less-leb : (a c n : ℕ) → leb a (c + n) ≡ leb (a - c) n
@@ -115,3 +118,8 @@ module _ (es : List Entry) where
   unfolding matches carries anyNeeded
   carries-none asked true = refl
   carries-none asked false = refl
+
+  -- nothing more is asked for, and what is needed was met: a Should clause changes nothing
+  pub carries-should : (q : Query) (cs : Clauses) → carries es 0 true (clause should q cs) ≡ carries es 0 true cs
+  unfolding matches carries anyNeeded
+  carries-should q cs = ap (λ (b : Bool). allAllow es cs && (b && true)) (le-leb 0 (bit (matches es q) + shouldsTrue es cs) (omega arith) ∙ sym (le-leb 0 (shouldsTrue es cs) (omega arith)))

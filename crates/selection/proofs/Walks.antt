@@ -8,12 +8,12 @@ use native.Mathlib.Nat.{add-sub-cancel-left}
 use lib.ListN.{length, getD, take, drop, set, length-take, length-drop}
 use lib.Seq.{take-nil, take-take, take-all, drop-drop, getD-set-same, getD-set-other}
 use lib.Dec.{leb}
-use Rattle.rules.specs.Numbers.{booleanTag, boostTag, constantScoreTag, minimumTag, selectionDepth}
+use Rattle.rules.specs.Numbers.{booleanTag, boostTag, constantScoreTag, minimumTag, shouldTag, selectionDepth}
 use Rattle.rules.specs.Bytes.{ofBig, isEmpty, tagOf, sizeOf, bodyOf, restOf, wholeOf}
-use Rattle.rules.specs.Query.{Kind, Query, boolean, boost, constantScore, Clauses, none, clause, depth, depths}
+use Rattle.rules.specs.Query.{Kind, should, Query, boolean, boost, constantScore, Clauses, none, clause, depth, depths}
 use Rattle.rules.specs.Stored.{kindTag, encode, encodes, Valid, Valids}
 use Rattle.rules.specs.Reading.{kindOf}
-use Rattle.rules.specs.Checked.{Is, Are, Stored}
+use Rattle.rules.specs.Checked.{Is, Are, StoredClauses}
 use Rattle.rules.specs.Lists.{Entry}
 use Rattle.rules.specs.Matching.{allows, matches}
 use Rattle.rules.proofs.Bools.{and-no-l}
@@ -25,8 +25,8 @@ use Rattle.selection.specs.declared.level.Level.{Level}
 use Rattle.selection.specs.declared.truth.Next.{Next}
 use Rattle.selection.specs.declared.truth.Next.the-variants.{Done, Query as Goes}
 use Rattle.selection.specs.Level.{levelOf, answered, isOver, carries, after}
-use Rattle.selection.specs.Truth.{Truth, StoredFor, cut, Open, outside, inside, outcome, At, AtClause, Leads}
-use Rattle.selection.proofs.Levels.{carries-all, carries-clause, carries-none}
+use Rattle.selection.specs.Truth.{Truth, StoredFor, cut, Open, outside, inside, outcome, At, AtClause, Leads, Past}
+use Rattle.selection.proofs.Levels.{carries-all, carries-clause, carries-none, carries-should}
 
 -- ---- stretches of a list
 
@@ -185,6 +185,42 @@ module _ {s row : List ℕ} {n at : ℕ} (l : Level) (t : AtClause s row n at (l
     ),
   )
 
+-- past clauses that change nothing
+pub past-none : (s : List ℕ) (at end asked : ℕ) (met : Bool) → at ≤ end → Past s at end asked met at
+past-none s at end asked met h = record { later = omega arith; fits = h; left = λ cs a. (cs, a, omega arith, λ es. refl) }
+
+module _ {s : List ℕ} {at end p : ℕ} (P : Past s at end 0 true p) (more : p < end) (h : end ≤ length s) where
+  past-front : (cs : Clauses) (a : Are (cut s at end) cs) → Front (cut s p end) (P .left cs a .0)
+  past-front cs a =
+      let L = P .left cs a in
+      let l : 0 < length (cut s p end) = let k = cut-length s p end h in omega arith in
+      front-of (cut s p end) (L .0) (more-empty (cut s p end) l) (L .1 .form) (L .1 .valid)
+
+  module _ (c : StoredClauses (cut s at end)) where
+    pub past-whole : wholeOf (cut s p end) ≡ true
+    past-whole = past-front (c .clauses) (c .are) .whole
+
+    pub past-ends : p + 3 + sizeOf (cut s p end) ≤ end
+    past-ends = part-ends s p end past-whole h
+
+    pub past-next : {n : ℕ} → tagOf (cut s p end) ≡ shouldTag → n ≡ p + 3 + sizeOf (cut s p end) → Past s at end 0 true n
+    unfolding depth
+    past-next t en = rw en (record {
+      later = let k = P .later in omega arith;
+      fits = past-ends;
+      left = λ cs a.
+          let L = P .left cs a in
+          let F = past-front cs a in
+          let k : F .kind ≡ should = sym (kind-back (F .kind)) ∙ ap kindOf (sym (F .tag) ∙ t) in
+          let e : L .0 ≡ clause should (F .query) (F .others) = F .split ∙ ap (λ (x : Kind). clause x (F .query) (F .others)) k in
+          let d = rw e at (L .2) in (
+            F .others,
+            record { valid = F .valid-others; form = F .form-others ∙ cut-rest s p end (F .whole) h },
+            omega arith,
+            λ es. L .3 es ∙ ap (carries es 0 true) e ∙ carries-should es (F .query) (F .others),
+          );
+    })
+
 -- back to the innermost Boolean, at d in the row, with the answer y to its clause
 module _ {s row : List ℕ} {n e d : ℕ} {l : Level} {o : Open s row n e} (I : Innermost s row o d l) (y : Bool) where
   denied-value : allows (kindOf (l .kind)) y ≡ false → (es : List Entry) → outcome es o y ≡ outcome es (I .around) false
@@ -193,13 +229,6 @@ module _ {s row : List ℕ} {n e d : ℕ} {l : Level} {o : Open s row n e} (I : 
   next-value : allows (kindOf (l .kind)) y ≡ true → (es : List Entry)
       → outcome es o y ≡ outcome es (I .around) (carries es (answered l y .asked) (answered l y .met) (I .clauses))
   next-value h es = I .value es y ∙ ap (outcome es (I .around)) (rw h)
-
-  over-value : allows (kindOf (l .kind)) y ≡ true → l .end ≤ e → (es : List Entry) → outcome es o y ≡ outcome es (I .around) (isOver (answered l y))
-  over-value h k es =
-      let i : length (cut s e (l .end)) ≤ 0 = let j = cut-length s e (l .end) (open-end (I .around)) in omega arith in
-      let c : I .clauses ≡ none = no-front (cut s e (l .end)) (I .clauses) (less-empty (cut s e (l .end)) i) (I .are .form) in
-      next-value h es ∙ ap (outcome es (I .around))
-      (ap (carries es (answered l y .asked) (answered l y .met)) c ∙ carries-none es (answered l y .asked) (answered l y .met))
 
 -- on the way back from o, where the query was x: the query that ends at e is y
 pub record Back (s row : List ℕ) (n e : ℕ) (y : Bool) {old : List ℕ} {m a : ℕ} (o : Open s old m a) (x : Bool) : Type 0 where
@@ -227,27 +256,44 @@ module _ {s old row : List ℕ} {m a : ℕ} {o : Open s old m a} {x : Bool} {n e
     value = λ es. B .value es ∙ denied-value inner y h es;
   }
 
-  pub back-over : {r : Bool} → allows (kindOf (l .kind)) y ≡ true → l .end ≤ e → r ≡ isOver (answered l y) → Back s row d e r o x
-  back-over h k er =
-      let z : l .end ≡ e = let f = inner .fits in omega arith in
-      rw (er, ← z) (record {
-        around = inner .around;
-        later = let f = inner .fits in let g = B .later in omega arith;
-        value = λ es. B .value es ∙ over-value inner y h k es;
-      })
+  -- its clauses, from the end of the query that was answered on
+  pub back-clauses : {k : Level} → k ≡ answered l y → StoredClauses (cut s e (k .end)) × (e ≤ k .end) × (k .end ≤ length s)
+  back-clauses ek = rw ek (record { clauses = inner .clauses; are = inner .are }, inner .fits, open-end (inner .around))
 
-  -- to its next clause
-  pub back-clause : (k : Level) → k ≡ answered l y → e < l .end → allows (kindOf (l .kind)) y ≡ true → Next-clause s row d e k (λ es. outcome es o x)
-  back-clause k ek h t = rw ek (record {
-    place = record {
-      clauses = inner .clauses;
-      are = inner .are;
-      fits = h;
-      deep = let g = inner .deep in omega arith;
-      around = inner .around;
-    };
-    value = λ es. B .value es ∙ next-value inner y t es;
-  })
+  module _ {k : Level} (ek : k ≡ answered l y) {g : ℕ} (P : Past s e (k .end) (k .asked) (k .met) g) (t : allows (kindOf (l .kind)) y ≡ true) where
+    past : Past s e (l .end) (answered l y .asked) (answered l y .met) g
+    past = rw ek at P
+
+    kept : (ds : Clauses) × Are (cut s g (l .end)) ds × (depths ds ≤ depths (inner .clauses))
+        × ((es : List Entry) → carries es (answered l y .asked) (answered l y .met) (inner .clauses) ≡ carries es (answered l y .asked) (answered l y .met) ds)
+    kept = past .left (inner .clauses) (inner .are)
+
+    past-value : (es : List Entry) → outcome es o x ≡ outcome es (inner .around) (carries es (answered l y .asked) (answered l y .met) (kept .0))
+    past-value es = B .value es ∙ next-value inner y t es ∙ ap (outcome es (inner .around)) (kept .3 es)
+
+    pub back-over : {r : Bool} → l .end ≤ g → r ≡ isOver (answered l y) → Back s row d (l .end) r o x
+    back-over h er =
+        let i : length (cut s g (l .end)) ≤ 0 = let j = cut-length s g (l .end) (open-end (inner .around)) in omega arith in
+        let c : kept .0 ≡ none = no-front (cut s g (l .end)) (kept .0) (less-empty (cut s g (l .end)) i) (kept .1 .form) in
+        rw er (record {
+          around = inner .around;
+          later = let f = inner .fits in let b = B .later in omega arith;
+          value = λ es. past-value es ∙ ap (outcome es (inner .around))
+              (ap (carries es (answered l y .asked) (answered l y .met)) c ∙ carries-none es (answered l y .asked) (answered l y .met));
+        })
+
+    -- to its next clause
+    pub back-clause : g < l .end → Next-clause s row d g k (λ es. outcome es o x)
+    back-clause h = rw ek (record {
+      place = record {
+        clauses = kept .0;
+        are = kept .1;
+        fits = h;
+        deep = let m = inner .deep in let f = kept .2 in omega arith;
+        around = inner .around;
+      };
+      value = past-value;
+    })
 
 pub back-end : {s old row : List ℕ} {m a : ℕ} {o : Open s old m a} {x : Bool} {n e : ℕ} {y : Bool} (B : Back s row n e y o x) → n ≡ 0
     → (es : List Entry) → outcome es o x ≡ y

@@ -13,7 +13,7 @@ use Rattle.rules.specs.Matching.{matches}
 use Rattle.selection.specs.declared.level.Level.{Level}
 use Rattle.selection.specs.declared.truth.Next.{Next}
 use Rattle.selection.specs.declared.truth.Next.the-variants.{Done, Query as Goes}
-use Rattle.selection.specs.Level.{levelOf, after}
+use Rattle.selection.specs.Level.{levelOf, carries, after}
 
 -- r says whether the query of s is true of es, whichever query that is
 unfoldable pub Truth : List ℕ → List Entry → Bool → Type 0
@@ -52,6 +52,15 @@ pub data Open (s row : List ℕ) : ℕ → ℕ → Type 0 where
 unfoldable pub outcome : List Entry → {s row : List ℕ} {n e : ℕ} → Open s row n e → Bool → Bool
 outcome es (outside h k) y = y
 outcome es (inside d l cs h k a f m o) y = outcome es o (after es l y cs)
+
+-- ---- clauses that change nothing
+
+-- of the clauses from `at` to `end`, those from p on decide, with so many Should clauses asked for
+pub record Past (s : List ℕ) (at end : ℕ) (asked : ℕ) (met : Bool) (p : ℕ) : Type 0 where
+  pub later : at ≤ p
+  pub fits : p ≤ end
+  pub left : (cs : Clauses) → Are (cut s at end) cs
+      → (ds : Clauses) × Are (cut s p end) ds × (depths ds ≤ depths cs) × ((es : List Entry) → carries es asked met cs ≡ carries es asked met ds)
 
 -- ---- the places of the walk
 

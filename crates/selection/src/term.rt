@@ -5,6 +5,7 @@ use super::entry::text;
 use stored::bytes::same;
 use stored::part::body;
 use stored::part::rest;
+use stored::part::size_of;
 ghost use mathlib.Core.Path.{_≡_};
 ghost use mathlib.Core.Bool.{true};
 ghost use Rattle.rules.specs.Bytes.{every, each};
@@ -13,8 +14,7 @@ ghost use Rattle.rules.specs.Matching.{isHere, hasTerm};
 ghost use Rattle.rules.specs.Numbers.{termTag};
 ghost use Rattle.selection.specs.Truth.{StoredAs, Truth};
 
-// Whether the entry has this field and this text.
-pub fn is_here(f: &[u8], t: &[u8], e: &[u8]) -> bool
+fn has_both(f: &[u8], t: &[u8], e: &[u8]) -> bool
     requires { ⌜ isEntry (now e) ≡ true ⌝ }
     ensures { λ r. ⌜ r ≡ isHere (now (f .entry)) (now (t .entry)) (entryOf (now (e .entry))) ⌝ }
 {
@@ -25,6 +25,21 @@ pub fn is_here(f: &[u8], t: &[u8], e: &[u8]) -> bool
         return false;
     }
     same(t, text(e))
+}
+
+// Whether the entry has this field and this text. Its length alone tells most others apart, and a search goes past those with no call.
+pub fn is_here(f: &[u8], t: &[u8], e: &[u8]) -> bool
+    requires { ⌜ isEntry (now e) ≡ true ⌝ }
+    ensures { λ r. ⌜ r ≡ isHere (now (f .entry)) (now (t .entry)) (entryOf (now (e .entry))) ⌝ }
+{
+    let n = size_of(e);
+    if n < f.len() {
+        return false;
+    }
+    if n - f.len() != t.len() + 10 {
+        return false;
+    }
+    has_both(f, t, e)
 }
 
 fn has_term(f: &[u8], t: &[u8], rec: &[u8]) -> bool

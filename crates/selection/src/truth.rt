@@ -19,11 +19,11 @@ ghost use mathlib.Core.List.{List};
 ghost use Rattle.rules.specs.Numbers.{booleanTag, selectionBytes, selectionDepth};
 ghost use lib.ListN.{length};
 ghost use Rattle.rules.specs.Bytes.{tagOf, every, each};
-ghost use Rattle.rules.specs.Checked.{Stored};
+ghost use Rattle.rules.specs.Checked.{Stored, StoredClauses};
 ghost use Rattle.rules.specs.Lists.{isEntry, entryOf, Entry};
 ghost use Rattle.rules.specs.Matching.{matches};
 ghost use Rattle.selection.specs.Level.{carries};
-ghost use Rattle.selection.specs.Truth.{IsLeaf, Truth, StoredFor, cut, Open, outcome, AtClause, At, Leads};
+ghost use Rattle.selection.specs.Truth.{IsLeaf, Truth, StoredFor, cut, Open, outcome, AtClause, At, Leads, Past};
 
 // Where the walk goes next: nowhere, or to the query from `at` to `end`, inside so many Booleans.
 pub enum Next {
@@ -67,6 +67,34 @@ fn clause(q: &[u8], row: &mut [u64], depth: usize, at: usize, l: Level) -> Next
     }
 }
 
+// The place of the first clause from `at` on that is no Should, or the end. In a Boolean that asks for no more Should clauses and has met
+// what it needs, those change nothing.
+fn past_shoulds(q: &[u8], at: usize, end: usize) -> usize
+    requires { ⌜ StoredClauses (cut (now q) at end) × (at ≤ end) × (end ≤ length (now q)) ⌝ }
+    ensures { λ r. ⌜ Past (now (q .entry)) at end 0 true r ⌝ }
+{
+    let mut p = at;
+    while p < end {
+        let t = &q[p..end];
+        if tag_of(t) != 0x21 {
+            return p;
+        }
+        p += 3 + size_of(t);
+    }
+    p
+}
+
+// Where the next clause that can change the Boolean l stands, from `at` on.
+fn next_clause(q: &[u8], at: usize, l: Level) -> usize
+    requires { ⌜ StoredClauses (cut (now q) at (l .end)) × (at ≤ l .end) × (l .end ≤ length (now q)) ⌝ }
+    ensures { λ r. ⌜ Past (now (q .entry)) at (l .end) (l .asked) (l .met) r ⌝ }
+{
+    if is_over(l) {
+        return past_shoulds(q, at, l.end);
+    }
+    at
+}
+
 // From the end of a query that is true or not: to the next clause of the innermost Boolean that has one and is not decided.
 fn settle(q: &[u8], row: &mut [u64], depth: usize, at: usize, known: bool) -> Next
     requires { ⌜ Open (now q) (now row) depth at × (length (now q) ≤ selectionBytes) × (selectionDepth ≤ length (now row)) ⌝ }
@@ -82,9 +110,11 @@ fn settle(q: &[u8], row: &mut [u64], depth: usize, at: usize, known: bool) -> Ne
         let end = l.end;
         if allowed(l, y) {
             let m = answer(l, y);
-            if e < end {
-                return clause(q, row, d, e, m);
+            let p = next_clause(q, e, m);
+            if p < end {
+                return clause(q, row, d, p, m);
             }
+            e = end;
             y = is_over(m);
         } else {
             e = end;

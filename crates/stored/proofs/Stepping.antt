@@ -2,25 +2,38 @@
 use mathlib.Core.Path.{_≡_, sym, ap, _∙_}
 use Prim.Native.Nat.{ℕ, _+_, _-_, _≤_, _<_}
 use mathlib.Core.List.{List}
-use mathlib.Core.Bool.{true, false}
+use mathlib.Core.Bool.{Bool, true, false, not}
 use native.Mathlib.Omega.{arith}
 use lib.ListN.{length, take, drop}
 use lib.Seq.{drop-drop}
-use borrow.Author.Tests.{eq-eqb, ne-eqb}
-use Rattle.rules.specs.Numbers.{malformedQuery, number, Read, got, refused}
-use Rattle.rules.specs.Bytes.{tagOf, sizeOf, bodyOf, restOf, wholeOf}
-use Rattle.rules.specs.Reading.{isKind, decode}
-use Rattle.rules.proofs.Bools.{and-l}
-use Rattle.rules.proofs.Parts.{more-empty, whole-le, length-body}
-use Rattle.rules.proofs.Refusals.{number-some}
-use Rattle.stored.specs.Read.{verdict, isClause, cut, rowOf, after, IsFault, Within, HoldsRow, IsLeafRecord, PastClause, IntoClause, LastClause}
-use Rattle.stored.proofs.Reader.{clauses-are-bad, clause-fault, clause-good, clause-after}
+use lib.Dec.{eqb}
+use borrow.Author.Tests.{eq-eqb, ne-eqb, eqb-false, not-true}
+use Rattle.rules.specs.Numbers.{termTag, malformedQuery, number, Read, got, refused}
+use Rattle.rules.specs.Bytes.{isEmpty, tagOf, sizeOf, bodyOf, restOf, wholeOf, isPart}
+use Rattle.rules.specs.Reading.{isKind, isQuery, termIn, bodyIn, decode}
+use Rattle.rules.proofs.Bools.{and-l, and-four, both}
+use Rattle.rules.proofs.Parts.{more-empty, part-is, whole-le, length-body}
+use Rattle.rules.proofs.Refusals.{number-some, need-yes}
+use Rattle.rules.proofs.Steps.{in-term}
+use Rattle.stored.specs.Read.{verdict, said, isTerm, isClause, isSimple, cut, rowOf, after, IsFault, Within, HoldsRow, IsLeafRecord, PastClause, IntoClause, LastClause}
+use Rattle.stored.proofs.Reader.{clauses-are-bad, clause-fault, clause-good, clause-after, record-in}
 use Rattle.stored.proofs.Opening.{cut-cut}
 
 -- no verdict is a success where sound bytes are not
 pub verdict-some : {A : Type 0} (o : Read A) → verdict (number malformedQuery) o ≡ 0 → ⊥
 verdict-some (got a) z = number-some malformedQuery z
 verdict-some (refused r) z = number-some r z
+
+-- one sound Term and nothing more is sound
+simple-good : (d : ℕ) (q : List ℕ) → isSimple d q ≡ true → verdict 0 (decode d q) ≡ 0
+unfolding termIn
+simple-good d q s =
+    let c = and-four (not (eqb d 0)) (isPart termTag q) (isTerm (bodyOf q)) (isEmpty (restOf q)) s in
+    let i = part-is termTag q (c .1) in
+    let n : d ≡ 0 → ⊥ = eqb-false d 0 (not-true (eqb d 0) (c .0)) in
+    record-in 0 d q n (both (i .0) (ap isQuery (i .1)))
+    ∙ ap (λ (b : Bool). verdict (said b 0) (bodyIn (decode (d - 1)) (tagOf q) (bodyOf q))) (c .3)
+    ∙ ap (verdict 0) (in-term (decode (d - 1)) (bodyOf q) (tagOf q) (i .1) ∙ need-yes malformedQuery _ (c .2))
 
 pub clause-bad : (d : ℕ) (t : List ℕ) → 0 < length t → isClause t ≡ false → IsFault (rowOf d t) (number malformedQuery)
 clause-bad d t h k = record { some = number-some malformedQuery; is = λ g. clauses-are-bad g (decode d) t (more-empty t h) k }
@@ -58,14 +71,20 @@ module _ (d : ℕ) (t q : List ℕ) (h : 0 < length t) (ok : isClause t ≡ true
   pub step-fault : (r : ℕ) → IsFault (decode d q) r → IsFault (rowOf d t) r
   step-fault r F = faulty r (λ z. F .some (sym (F .is 0) ∙ z)) (F .is 0)
 
-  pub step-past : (e : ℕ) → IsLeafRecord d q e → e ≡ length q → PastClause d t (3 + length q)
-  step-past e L f =
-      let x : verdict 0 (decode d (bodyOf t)) ≡ 0 = ap (λ (l : List ℕ). verdict 0 (decode d l)) (sym eq) ∙ L .is 0 ∙ rw (eq-eqb e (length q) f) in
+  step-good : verdict 0 (decode d q) ≡ 0 → PastClause d t (3 + length q)
+  step-good z =
+      let x : verdict 0 (decode d (bodyOf t)) ≡ 0 = ap (λ (l : List ℕ). verdict 0 (decode d l)) (sym eq) ∙ z in
       record {
         some = omega arith;
         end = fits;
         is = λ g. clause-good g (decode d) t (more-empty t h) ok x ∙ ap (λ (l : List ℕ). verdict g (rowOf d l)) rest-at;
       }
+
+  pub step-simple : isSimple d q ≡ true → PastClause d t (3 + length q)
+  step-simple s = step-good (simple-good d q s)
+
+  pub step-past : (e : ℕ) → IsLeafRecord d q e → e ≡ length q → PastClause d t (3 + length q)
+  step-past e L f = step-good (L .is 0 ∙ rw (eq-eqb e (length q) f))
 
   pub step-more : (e : ℕ) → IsLeafRecord d q e → (e ≡ length q → ⊥) → IsFault (rowOf d t) (number malformedQuery)
   step-more e L f =

@@ -2,7 +2,7 @@
 use mathlib.Core.Path.{_≡_}
 use Prim.Native.Nat.{ℕ, zero, suc, _+_, _-_, _≤_, _<_}
 use mathlib.Core.List.{List}
-use mathlib.Core.Bool.{Bool, _&&_, cond}
+use mathlib.Core.Bool.{Bool, not, _&&_, cond}
 use lib.ListN.{length, take, drop}
 use lib.Dec.{leb, eqb}
 use Rattle.rules.specs.Numbers.{termTag, phraseTag, matchAllTag, matchNoneTag, textTag, minimumTag, number, malformedQuery, Read, got, refused}
@@ -56,6 +56,10 @@ isRecord s = wholeOf s && isQuery (tagOf s)
 
 abbrev pub isBoosted : List ℕ → Bool
 isBoosted b = leb 4 (length b) && isBoost (ofBig (take 4 b))
+
+-- one sound Term and nothing more, where a record may stand
+abbrev pub isSimple : ℕ → List ℕ → Bool
+isSimple d q = not (eqb d 0) && (isPart termTag q && (isTerm (bodyOf q) && isEmpty (restOf q)))
 
 -- ---- what nests, as code goes through it
 

@@ -1,12 +1,51 @@
-// Stretches of bytes: texts and fields, comparison, copy, clear. No loop here has a way out before its end, so that a compiler widens it.
+// Stretches of bytes: texts and fields, comparison, copy, clear. Up to sixteen bytes are tested in two words, the last one and the first,
+// which may overlap; more go by a loop without a way out before its end, which a compiler widens.
+use super::big::big4;
+use super::big::big8;
 ghost use mathlib.Core.Path.{_≡_};
-ghost use Prim.Native.Nat.{_+_, _≤_};
-ghost use lib.ListN.{length, replicate};
+ghost use Prim.Native.Nat.{_+_, _≤_, _<_};
+ghost use lib.ListN.{length, take, replicate};
+ghost use lib.Dec.{eqb};
 ghost use Rattle.rules.specs.Bytes.{isText, isField, same};
 ghost use Rattle.stored.specs.Laid.{Put};
 
-// Whether every byte is ASCII: the bytes are joined by `|`, and the top bit of what comes out is the answer.
-pub fn is_text(s: &[u8]) -> bool
+// ---- texts
+
+// The top bits of the first eight bytes and of the first four: 0 exactly where these bytes are ASCII.
+fn tops8(s: &[u8]) -> u64
+    requires { ⌜ 8 ≤ length (now s) ⌝ }
+    ensures { λ r. ⌜ eqb r 0 ≡ isText (take 8 (now (s .entry))) ⌝ }
+{
+    big8(s) & 0x8080_8080_8080_8080
+}
+
+fn tops4(s: &[u8]) -> u32
+    requires { ⌜ 4 ≤ length (now s) ⌝ }
+    ensures { λ r. ⌜ eqb r 0 ≡ isText (take 4 (now (s .entry))) ⌝ }
+{
+    big4(s) & 0x8080_8080
+}
+
+// Most texts are short: two words of four bytes that may overlap, or the first, the middle and the last byte.
+fn is_short_text(s: &[u8]) -> bool
+    requires { ⌜ length (now s) < 8 ⌝ }
+    ensures { λ r. ⌜ r ≡ isText (now (s .entry)) ⌝ }
+{
+    let n = s.len();
+    if n >= 4 {
+        let e = n - 4;
+        if tops4(&s[e..]) != 0 {
+            return false;
+        }
+        return tops4(s) == 0;
+    }
+    if n == 0 {
+        return true;
+    }
+    (s[0] | s[n / 2] | s[n - 1]) <= 127
+}
+
+fn is_long_text(s: &[u8]) -> bool
     ensures { λ r. ⌜ r ≡ isText (now (s .entry)) ⌝ }
 {
     let mut seen: u8 = 0;
@@ -18,6 +57,31 @@ pub fn is_text(s: &[u8]) -> bool
     seen <= 127
 }
 
+fn is_longer_text(s: &[u8]) -> bool
+    requires { ⌜ 8 ≤ length (now s) ⌝ }
+    ensures { λ r. ⌜ r ≡ isText (now (s .entry)) ⌝ }
+{
+    let n = s.len();
+    if n > 16 {
+        return is_long_text(s);
+    }
+    let e = n - 8;
+    if tops8(&s[e..]) != 0 {
+        return false;
+    }
+    tops8(s) == 0
+}
+
+// Whether every byte is ASCII.
+pub fn is_text(s: &[u8]) -> bool
+    ensures { λ r. ⌜ r ≡ isText (now (s .entry)) ⌝ }
+{
+    if s.len() < 8 {
+        return is_short_text(s);
+    }
+    is_longer_text(s)
+}
+
 pub fn is_field(s: &[u8]) -> bool
     ensures { λ r. ⌜ r ≡ isField (now (s .entry)) ⌝ }
 {
@@ -27,13 +91,47 @@ pub fn is_field(s: &[u8]) -> bool
     is_text(s)
 }
 
-// Whether two stretches are the same, lengths first.
-pub fn same(a: &[u8], b: &[u8]) -> bool
+// ---- comparison
+
+// What the first eight bytes of two stretches differ by, and the first four.
+fn differ8(a: &[u8], b: &[u8]) -> u64
+    requires { ⌜ (8 ≤ length (now a)) × (8 ≤ length (now b)) ⌝ }
+    ensures { λ r. ⌜ eqb r 0 ≡ same (take 8 (now (a .entry))) (take 8 (now (b .entry))) ⌝ }
+{
+    big8(a) ^ big8(b)
+}
+
+fn differ4(a: &[u8], b: &[u8]) -> u32
+    requires { ⌜ (4 ≤ length (now a)) × (4 ≤ length (now b)) ⌝ }
+    ensures { λ r. ⌜ eqb r 0 ≡ same (take 4 (now (a .entry))) (take 4 (now (b .entry))) ⌝ }
+{
+    big4(a) ^ big4(b)
+}
+
+fn same_short(a: &[u8], b: &[u8]) -> bool
+    requires { ⌜ (length (now a) ≡ length (now b)) × (length (now a) < 8) ⌝ }
     ensures { λ r. ⌜ r ≡ same (now (a .entry)) (now (b .entry)) ⌝ }
 {
-    if a.len() != b.len() {
-        return false;
+    let n = a.len();
+    if n >= 4 {
+        let e = n - 4;
+        if differ4(&a[e..], &b[e..]) != 0 {
+            return false;
+        }
+        return differ4(a, b) == 0;
     }
+    if n == 0 {
+        return true;
+    }
+    let m = n / 2;
+    let l = n - 1;
+    ((a[0] ^ b[0]) | (a[m] ^ b[m]) | (a[l] ^ b[l])) == 0
+}
+
+fn same_long(a: &[u8], b: &[u8]) -> bool
+    requires { ⌜ length (now a) ≡ length (now b) ⌝ }
+    ensures { λ r. ⌜ r ≡ same (now (a .entry)) (now (b .entry)) ⌝ }
+{
     let mut seen: u8 = 0;
     let mut i = 0;
     while i < a.len() {
@@ -42,6 +140,36 @@ pub fn same(a: &[u8], b: &[u8]) -> bool
     }
     seen == 0
 }
+
+fn same_longer(a: &[u8], b: &[u8]) -> bool
+    requires { ⌜ (length (now a) ≡ length (now b)) × (8 ≤ length (now a)) ⌝ }
+    ensures { λ r. ⌜ r ≡ same (now (a .entry)) (now (b .entry)) ⌝ }
+{
+    let n = a.len();
+    if n > 16 {
+        return same_long(a, b);
+    }
+    let e = n - 8;
+    if differ8(&a[e..], &b[e..]) != 0 {
+        return false;
+    }
+    differ8(a, b) == 0
+}
+
+// Whether two stretches are the same, lengths first.
+pub fn same(a: &[u8], b: &[u8]) -> bool
+    ensures { λ r. ⌜ r ≡ same (now (a .entry)) (now (b .entry)) ⌝ }
+{
+    if a.len() != b.len() {
+        return false;
+    }
+    if a.len() < 8 {
+        return same_short(a, b);
+    }
+    same_longer(a, b)
+}
+
+// ---- copy and clear
 
 // Lays the bytes of s at a place of out, and gives the place behind them.
 pub fn copy(out: &mut [u8], at: usize, s: &[u8]) -> usize

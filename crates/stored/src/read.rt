@@ -14,7 +14,7 @@ ghost use lib.ListN.{length};
 ghost use Rattle.rules.specs.Bytes.{every};
 ghost use Rattle.rules.specs.Stored.{isBoost};
 ghost use Rattle.rules.specs.Reading.{numberOf, isWord, isBound, readWithin, readForRewriting, readForSelection};
-ghost use Rattle.stored.specs.Read.{verdict, said, rowOf, isTerm, isPhrase, isRange, isLeaf, isMinimum, isClause, isRecord, isBoosted, OfFront, OfOpened, OfNext};
+ghost use Rattle.stored.specs.Read.{verdict, said, rowOf, isTerm, isPhrase, isRange, isLeaf, isMinimum, isClause, isRecord, isBoosted, isSimple, OfFront, OfOpened, OfNext};
 
 // ---- what holds no query
 
@@ -257,6 +257,22 @@ enum Next {
     Last(usize, usize, usize),
 }
 
+// Most clauses hold one term: this test of them needs no call and no enum, and what does not pass it is looked at in full.
+fn is_simple(q: &[u8], left: usize) -> bool
+    ensures { λ r. ⌜ r ≡ isSimple left (now (q .entry)) ⌝ }
+{
+    if left == 0 {
+        return false;
+    }
+    if !is_part(q, 1) {
+        return false;
+    }
+    if !is_term(body(q)) {
+        return false;
+    }
+    rest(q).len() == 0
+}
+
 fn step(t: &[u8], left: usize) -> Next
     requires { ⌜ 0 < length (now t) ⌝ }
     ensures { λ r. ⌜ OfNext left (now (t .entry)) r ⌝ }
@@ -266,6 +282,9 @@ fn step(t: &[u8], left: usize) -> Next
     }
     let q = body(t);
     let n = q.len();
+    if is_simple(q, left) {
+        return Next::Past(3 + n);
+    }
     match unwrap(q, left) {
         Opened::Fault(r) => Next::Fault(r),
         Opened::Leaf(e) => {
@@ -276,10 +295,12 @@ fn step(t: &[u8], left: usize) -> Next
             }
         }
         Opened::Row(a, e, l) => {
+            let from = 3 + a;
+            let to = 3 + e;
             if e == n {
-                Next::Into(3 + a, 3 + e, l)
+                Next::Into(from, to, l)
             } else {
-                Next::Last(3 + a, 3 + e, l)
+                Next::Last(from, to, l)
             }
         }
     }

@@ -1,47 +1,34 @@
 -- `selection::term::is_here` meets its contract.
-use mathlib.Core.Path.{sym, ap, _∙_}
+use native.Mathlib.Omega.{arith}
 use denote.Ref.{now}
 use borrow.Author.Needs.{needs}
-use Rattle.rules.specs.Lists.{entryOf}
-use Rattle.rules.specs.Bytes.{same}
-use Rattle.rules.proofs.Bools as bools
+use Rattle.rules.proofs.Parts as parts
 use Rattle.selection.proofs.Entries as entries
 use Rattle.selection.proofs.term.is_here.Statement.{statement}
 use Rattle.selection.proofs.term.is_here.Tie as tie
 
-is-place-requires : tie.Need-is-place-requires
-is-place-requires c κs = c .before .before .before .pre
+size-of-requires : tie.Need-size-of-requires
+size-of-requires c κs = omega (arith, parts.whole-le _ (entries.entry-whole _ (c .before .before .before .pre)))
 
 returns : tie.Need-returns
-returns c = sym (entries.here-parts (now (c .before .before .before .before .before .args .f)) (now (c .before .before .before .before .before .args .t)) (entryOf (now (c .before .before .before .before .before .args .e))) ∙ bools.and-no-l _ (bools.told-no (c .before .is-place .ensures) (c .if1 .taken)))
+returns c = entries.other-size (now (c .before .before .before .before .before .args .f)) (now (c .before .before .before .before .before .args .t)) (now (c .before .before .before .before .before .args .e)) (c .before .before .before .before .before .pre) (λ z. let g = c .if1 .taken in let n = c .before .size-of .ensures .0 in omega arith)
 
-field-requires : tie.Need-field-requires
-field-requires c κs = c .before .before .before .before .before .pre
+sub-if2 : tie.Need-sub-if2
+sub-if2 c = search needs
 
-same-requires : tie.Need-same-requires
-same-requires c κs = search needs
+add-if2 : tie.Need-add-if2
+add-if2 c = search needs
 
 returns-2 : tie.Need-returns-2
-returns-2 c = sym (entries.here-parts (now (c .before .before .before .before .before .before .before .before .args .f)) (now (c .before .before .before .before .before .before .before .before .args .t)) (entryOf (now (c .before .before .before .before .before .before .before .before .args .e))) ∙ simp (bools.told-yes (c .before .before .before .before .is-place .ensures) (c .before .before .before .if1 .left), bools.told-no (c .before .same .ensures ∙ ap (same (now (c .before .before .before .before .before .before .before .before .args .f))) (c .before .before .field .ensures)) (c .if2 .taken)))
+returns-2 c = entries.other-size (now (c .before .before .before .before .before .before .args .f)) (now (c .before .before .before .before .before .before .args .t)) (now (c .before .before .before .before .before .before .args .e)) (c .before .before .before .before .before .before .pre) (λ z. c .if2 .taken (let g = c .before .if1 .left in let n = c .before .before .size-of .ensures .0 in omega arith))
 
-text-requires : tie.Need-text-requires
-text-requires c κs = (c .before .before .before .before .before .before .before .before .pre, bools.told-yes (c .before .before .before .before .is-place .ensures) (c .before .before .before .if1 .left))
-
-same-requires-2 : tie.Need-same-requires-2
-same-requires-2 c κs = search needs
+has-both-requires : tie.Need-has-both-requires
+has-both-requires c κs = c .before .before .before .before .before .before .pre
 
 returns-3 : tie.Need-returns-3
-returns-3 c = c .same2 .ensures ∙ ap (same (now (c .before .before .before .before .before .before .before .before .before .before .args .t))) (c .before .text .ensures) ∙ sym (entries.here-parts (now (c .before .before .before .before .before .before .before .before .before .before .args .f)) (now (c .before .before .before .before .before .before .before .before .before .before .args .t)) (entryOf (now (c .before .before .before .before .before .before .before .before .before .before .args .e))) ∙ simp (bools.told-yes (c .before .before .before .before .before .before .is-place .ensures) (c .before .before .before .before .before .if1 .left), bools.told-yes (c .before .before .before .same .ensures ∙ ap (same (now (c .before .before .before .before .before .before .before .before .before .before .args .f))) (c .before .before .before .before .field .ensures)) (c .before .before .if2 .left)))
+returns-3 c = c .has-both .ensures
 
 pub is-here-spec : {M : Type 1} → statement M
 is-here-spec =
     tie.close
-    (tie.spec
-    is-place-requires
-    returns
-    field-requires
-    same-requires
-    returns-2
-    text-requires
-    same-requires-2
-    returns-3)
+    (tie.spec size-of-requires returns sub-if2 add-if2 returns-2 has-both-requires returns-3)

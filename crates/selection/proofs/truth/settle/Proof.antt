@@ -4,8 +4,8 @@ use Prim.Native.Nat.{_-_}
 use native.Mathlib.Omega.{arith}
 use lib.ListN.{length}
 use borrow.Author.Needs.{needs}
-use Rattle.selection.specs.Truth.{Open}
 use Rattle.selection.specs.declared.level.Level.{Level}
+use Rattle.selection.specs.Truth.{Open}
 use Rattle.selection.specs.Level.{isOver}
 use Rattle.selection.proofs.Walks as walks
 use Rattle.selection.proofs.truth.settle.Statement.{statement}
@@ -38,23 +38,26 @@ allowed-requires c κs = search needs
 answer-requires : tie.Need-answer-requires Inv-loop μ-loop
 answer-requires c κs = search needs
 
+next-clause-requires : tie.Need-next-clause-requires Inv-loop μ-loop
+next-clause-requires c κs = walks.back-clauses (c .before .before .before .before .before .before .loop .inv .1 (c .before .before .before .before .before .before .before .before .before .pre .0)) (c .before .before .before .before .before .before .loop .d - 1) (c .before .before .before .unpacked .result) (let g = c .before .before .before .before .before .loop-test .taken in omega arith) (c .before .before .before .unpacked .ensures) (c .answer .ensures)
+
 clause-requires : tie.Need-clause-requires Inv-loop μ-loop
-clause-requires c κs = (walks.back-clause (c .before .before .before .before .before .before .before .before .loop .inv .1 (c .before .before .before .before .before .before .before .before .before .before .before .pre .0)) (c .before .before .before .before .before .before .before .before .loop .d - 1) (c .before .before .before .before .before .unpacked .result) (let g = c .before .before .before .before .before .before .before .loop-test .taken in omega arith) (c .before .before .before .before .before .unpacked .ensures) (c .before .before .answer .result) (c .before .before .answer .ensures) (c .before .if2 .taken) (sym (c .before .before .before .before .allowed .ensures) ∙ c .before .before .before .if1 .taken) .place, rw (c .before .before .answer .ensures) (omega (arith, ap (λ (l : Level). l .asked) (c .before .before .before .before .before .unpacked .ensures))), c .before .before .before .before .before .before .before .before .before .before .before .pre .1, omega (arith, c .before .before .before .before .before .before .before .before .loop .inv .0, c .before .before .before .before .before .before .before .before .before .before .before .pre .2))
+clause-requires c κs = (walks.back-clause (c .before .before .before .before .before .before .before .before .before .loop .inv .1 (c .before .before .before .before .before .before .before .before .before .before .before .before .pre .0)) (c .before .before .before .before .before .before .before .before .before .loop .d - 1) (c .before .before .before .before .before .before .unpacked .result) (let g = c .before .before .before .before .before .before .before .before .loop-test .taken in omega arith) (c .before .before .before .before .before .before .unpacked .ensures) (c .before .before .before .answer .ensures) (c .before .before .next-clause .ensures) (sym (c .before .before .before .before .before .allowed .ensures) ∙ c .before .before .before .before .if1 .taken) (c .before .if2 .taken) .place, rw (c .before .before .before .answer .ensures) (omega (arith, ap (λ (l : Level). l .asked) (c .before .before .before .before .before .before .unpacked .ensures))), c .before .before .before .before .before .before .before .before .before .before .before .before .pre .1, omega (arith, c .before .before .before .before .before .before .before .before .before .loop .inv .0, c .before .before .before .before .before .before .before .before .before .before .before .before .pre .2))
 
 same-length : tie.Need-same-length Inv-loop μ-loop
-same-length c = c .before .before .clause .kept .1 .0 ∙ c .before .before .before .before .before .before .before .before .before .before .before .loop .inv .0
+same-length c = c .before .before .clause .kept .1 .0 ∙ c .before .before .before .before .before .before .before .before .before .before .before .before .loop .inv .0
 
 returns : tie.Need-returns Inv-loop μ-loop
-returns c = λ es o. let N = walks.back-clause (c .before .before .before .before .before .before .before .before .before .before .before .loop .inv .1 o) (c .before .before .before .before .before .before .before .before .before .before .before .loop .d - 1) (c .before .before .before .before .before .before .before .before .unpacked .result) (let g = c .before .before .before .before .before .before .before .before .before .before .loop-test .taken in omega arith) (c .before .before .before .before .before .before .before .before .unpacked .ensures) (c .before .before .before .before .before .answer .result) (c .before .before .before .before .before .answer .ensures) (c .before .before .before .before .if2 .taken) (sym (c .before .before .before .before .before .before .before .allowed .ensures) ∙ c .before .before .before .before .before .before .if1 .taken) in walks.leads-on es _ _ (c .before .before .clause .result) (c .before .before .before .before .before .before .before .before .before .before .before .loop .inv .1 o .later) (N .value es) (c .before .before .clause .ensures es (N .place))
+returns c = λ es o. let N = walks.back-clause (c .before .before .before .before .before .before .before .before .before .before .before .before .loop .inv .1 o) (c .before .before .before .before .before .before .before .before .before .before .before .before .loop .d - 1) (c .before .before .before .before .before .before .before .before .before .unpacked .result) (let g = c .before .before .before .before .before .before .before .before .before .before .before .loop-test .taken in omega arith) (c .before .before .before .before .before .before .before .before .before .unpacked .ensures) (c .before .before .before .before .before .before .answer .ensures) (c .before .before .before .before .before .next-clause .ensures) (sym (c .before .before .before .before .before .before .before .before .allowed .ensures) ∙ c .before .before .before .before .before .before .before .if1 .taken) (c .before .before .before .before .if2 .taken) in walks.leads-on es _ _ (c .before .before .clause .result) (let a = c .before .before .before .before .before .before .before .before .before .before .before .before .loop .inv .1 o .later in let b = c .before .before .before .before .before .next-clause .ensures .later in omega arith) (N .value es) (c .before .before .clause .ensures es (N .place))
 
 is-over-requires : tie.Need-is-over-requires Inv-loop μ-loop
 is-over-requires c κs = search needs
 
 loop-less : tie.Need-loop-less Inv-loop μ-loop
-loop-less c = let g = c .before .before .before .before .before .before .before .loop-test .taken in omega arith
+loop-less c = let g = c .before .before .before .before .before .before .before .before .loop-test .taken in omega arith
 
 loop-again : tie.Need-loop-again Inv-loop μ-loop
-loop-again c = (c .before .before .before .before .before .before .before .before .loop .inv .0, λ o. walks.back-over (c .before .before .before .before .before .before .before .before .loop .inv .1 o) (c .before .before .before .before .before .before .before .before .loop .d - 1) (c .before .before .before .before .before .unpacked .result) (let g = c .before .before .before .before .before .before .before .loop-test .taken in omega arith) (c .before .before .before .before .before .unpacked .ensures) (sym (c .before .before .before .before .allowed .ensures) ∙ c .before .before .before .if1 .taken) (c .before .if2 .left) (c .is-over .ensures ∙ ap isOver (c .before .before .answer .ensures)))
+loop-again c = (c .before .before .before .before .before .before .before .before .before .loop .inv .0, λ o. walks.back-over (c .before .before .before .before .before .before .before .before .before .loop .inv .1 o) (c .before .before .before .before .before .before .before .before .before .loop .d - 1) (c .before .before .before .before .before .before .unpacked .result) (let g = c .before .before .before .before .before .before .before .before .loop-test .taken in omega arith) (c .before .before .before .before .before .before .unpacked .ensures) (c .before .before .before .answer .ensures) (c .before .before .next-clause .ensures) (sym (c .before .before .before .before .before .allowed .ensures) ∙ c .before .before .before .before .if1 .taken) (c .before .if2 .left) (c .is-over .ensures ∙ ap isOver (c .before .before .before .answer .ensures)))
 
 loop-less-2 : tie.Need-loop-less-2 Inv-loop μ-loop
 loop-less-2 c = let g = c .before .before .before .before .loop-test .taken in omega arith
@@ -81,6 +84,7 @@ settle-spec =
     unpacked-requires
     allowed-requires
     answer-requires
+    next-clause-requires
     clause-requires
     same-length
     returns

@@ -1,58 +1,25 @@
 -- `stored::bytes::same` meets its contract.
-use mathlib.Core.Bool.{_&&_}
-use mathlib.Core.Path.{_≡_}
-use Prim.Native.Nat.{_-_, _≤_}
-use native.Mathlib.Omega.{arith}
-use lib.Dec.{eqb}
-use lib.ListN.{length, drop}
 use denote.Ref.{now}
 use borrow.Author.Needs.{needs}
-use Rattle.rules.specs.Bytes.{same}
 use Rattle.stored.proofs.Joining as joining
 use Rattle.stored.proofs.bytes.same.Statement.{statement}
 use Rattle.stored.proofs.bytes.same.Tie as tie
 
-abbrev Inv-loop : tie.InvT-loop
-Inv-loop a b seen₀ i₀ seen i = (i ≤ length a) × (length a ≡ length b) × (same a b ≡ (eqb seen 0 && same (drop i a) (drop i b)))
+returns : tie.Need-returns
+returns c = joining.same-length (now (c .before .before .before .args .a)) (now (c .before .before .before .args .b)) (c .if1 .taken)
 
-abbrev μ-loop : tie.MeasureT-loop
-μ-loop a b seen₀ i₀ seen i = length a - i
+same-short-requires : tie.Need-same-short-requires
+same-short-requires c κs = search needs
 
-returns : tie.Need-returns Inv-loop μ-loop
-returns c = joining.same-length (now (c .before .args .a)) (now (c .before .args .b)) (c .if1 .taken)
+returns-2 : tie.Need-returns-2
+returns-2 c = c .same-short .ensures
 
-loop-holds : tie.Need-loop-holds Inv-loop μ-loop
-loop-holds c = search needs
+same-longer-requires : tie.Need-same-longer-requires
+same-longer-requires c κs = search needs
 
-shared-slice-read-seen : tie.Need-shared-slice-read-seen Inv-loop μ-loop
-shared-slice-read-seen c = search needs
-
-shared-slice-read-seen-2 : tie.Need-shared-slice-read-seen-2 Inv-loop μ-loop
-shared-slice-read-seen-2 c = search needs
-
-add-i : tie.Need-add-i Inv-loop μ-loop
-add-i c = search needs
-
-loop-less : tie.Need-loop-less Inv-loop μ-loop
-loop-less c = search needs
-
-loop-again : tie.Need-loop-again Inv-loop μ-loop
-loop-again c = (omega arith, c .before .before .before .loop .inv .1, joining.same-turn (now (c .before .before .before .before .before .args .a)) (now (c .before .before .before .before .before .args .b)) (c .before .before .before .loop .i) (c .before .before .before .loop .seen) (omega arith) (omega arith) (c .before .before .before .loop .inv .2))
-
-returns-2 : tie.Need-returns-2 Inv-loop μ-loop
-returns-2 c = joining.same-end (now (c .before .before .before .args .a)) (now (c .before .before .before .args .b)) (c .before .loop .i) (c .before .loop .seen) (omega arith) (omega arith) (c .before .loop .inv .2)
+returns-3 : tie.Need-returns-3
+returns-3 c = c .same-longer .ensures
 
 pub same-spec : {M : Type 1} → statement M
 same-spec =
-    tie.close
-    (tie.spec
-    Inv-loop
-    μ-loop
-    returns
-    loop-holds
-    shared-slice-read-seen
-    shared-slice-read-seen-2
-    add-i
-    loop-less
-    loop-again
-    returns-2)
+    tie.close (tie.spec returns same-short-requires returns-2 same-longer-requires returns-3)

@@ -1,4 +1,4 @@
--- `stored::bytes::is_text` meets its contract.
+-- `stored::bytes::is_long_text` meets its contract.
 use mathlib.Core.Bool.{_&&_}
 use mathlib.Core.Path.{_≡_}
 use Prim.Native.Nat.{_-_, _≤_}
@@ -9,8 +9,8 @@ use denote.Ref.{now}
 use borrow.Author.Needs.{needs}
 use Rattle.rules.specs.Bytes.{isText}
 use Rattle.stored.proofs.Joining as joining
-use Rattle.stored.proofs.bytes.is_text.Statement.{statement}
-use Rattle.stored.proofs.bytes.is_text.Tie as tie
+use Rattle.stored.proofs.bytes.is_long_text.Statement.{statement}
+use Rattle.stored.proofs.bytes.is_long_text.Tie as tie
 
 abbrev Inv-loop : tie.InvT-loop
 Inv-loop s seen₀ i₀ seen i = (i ≤ length s) × (isText s ≡ (leb seen 127 && isText (drop i s)))
@@ -36,7 +36,7 @@ loop-again c = (omega arith, joining.text-turn (now (c .before .before .before .
 returns : tie.Need-returns Inv-loop μ-loop
 returns c = joining.text-end (now (c .before .before .args .s)) (c .before .loop .i) (c .before .loop .seen) (c .loop-test .left) (c .before .loop .inv .1)
 
-pub is-text-spec : {M : Type 1} → statement M
-is-text-spec =
+pub is-long-text-spec : {M : Type 1} → statement M
+is-long-text-spec =
     tie.close
     (tie.spec Inv-loop μ-loop loop-holds shared-slice-read-seen add-i loop-less loop-again returns)
