@@ -8,7 +8,7 @@ use native.Mathlib.Omega.{arith}
 use lib.Dec.{leb}
 use lib.ListN.{length, take, drop, getD, replicate, List·getD-eq-default}
 use borrow.Author.Tests.{le-leb, lt-leb, leb-true}
-use Rattle.rules.specs.Numbers.{Refusal, number, Read, got, refused, need, onRead, andThen, longText, notAscii, badSetup, unexpectedToken, longAnswer, textMost, fieldMost}
+use Rattle.rules.specs.Numbers.{Refusal, number, Read, got, refused, need, onRead, andThen, longText, notAscii, badSetup, unexpectedToken, longAnswer, textMost, fieldMost, selectionBytes}
 use Rattle.rules.specs.Bytes.{isText, isField, all}
 use Rattle.rules.specs.Query.{Query, matchNone, Clauses, none}
 use Rattle.rules.specs.Stored.{encode}
@@ -28,7 +28,7 @@ use Rattle.parser.specs.Kinds.{isAlone, madeBytes, madeLength, Sums}
 use Rattle.parser.specs.Measured.{Says, placeAt, Spaced, Rowed, Fielded, Tuned, clausesRun, MeansKept, MeantClauses}
 use Rattle.parser.specs.Written.{QueryToWrite}
 use Rattle.parser.specs.Noted.{Entered, Noted}
-use Rattle.parser.specs.Parsed.{answerOf, leftOf, fit, Delivers}
+use Rattle.parser.specs.Parsed.{answerOf, leftOf, fit, Delivers, Parses}
 use Rattle.parser.specs.declared.parse.Parsed.{Parsed}
 use Rattle.parser.specs.declared.parse.Parsed.the-variants.{Refused, Bytes}
 use Rattle.parser.specs.declared.kinds.Counted.{Counted}
@@ -49,17 +49,24 @@ reply-fit (got q) n = by (leb (length (encode q)) n)
 left-is : (X : Read Query) (out room out′ room′ : List ℕ) (p : Parsed) → Delivers X out p out′ → room′ ≡ replicate (length room) 0
     → leftOf p out′ room′ ≡ leave (andThen (onRead storedReply X) (fitting (length out))) out room
 left-is X out room out′ room′ (Refused e) (x, d, n, o) z = rw (reply-fit X (length out), d, n, o, z)
-left-is X out room out′ room′ (Bytes n) (q, d, m, o) z = rw (reply-fit X (length out), d, o, z, m)
+left-is X out room out′ room′ (Bytes n) (q, d, m, o, b) z = rw (reply-fit X (length out), d, o, z, m)
+
+delivers-short : (X : Read Query) (out out′ : List ℕ) (p : Parsed) → Delivers X out p out′ → answerOf p .written ≤ selectionBytes
+delivers-short X out out′ (Refused e) D = omega arith
+delivers-short X out out′ (Bytes n) (q, d, m, o, b) = b
 
 module _ (o a : ℕ) (f es text out room : List ℕ) where
-  pub parse-short : length room < 9216 → (room′ : List ℕ) → room′ ≡ replicate (length room) 0 → leftOf (Refused 32) out room′ ≡ parseLeft o a f es text out room
+  pub parse-short : length room < 9216 → (room′ : List ℕ) → room′ ≡ replicate (length room) 0 → Parses o a f es text out room out room′ (Refused 32)
   unfolding parseLeft call
-  parse-short h room′ z = rw (lt-leb 9216 (length room) h, z)
+  parse-short h room′ z = record { is = rw (lt-leb 9216 (length room) h, z); short = omega arith }
 
   pub parse-whole : 9216 ≤ length room → (p : Parsed) (out′ room′ : List ℕ) → Delivers (andThen (readSetup o a f es) (λ st. parse st text)) out p out′
-      → room′ ≡ replicate (length room) 0 → leftOf p out′ room′ ≡ parseLeft o a f es text out room
+      → room′ ≡ replicate (length room) 0 → Parses o a f es text out room out′ room′ p
   unfolding parseLeft call parseReply
-  parse-whole h p out′ room′ D z = rw (le-leb 9216 (length room) h) (left-is (andThen (readSetup o a f es) (λ st. parse st text)) out room out′ room′ p D z)
+  parse-whole h p out′ room′ D z = record {
+    is = rw (le-leb 9216 (length room) h) (left-is (andThen (readSetup o a f es) (λ st. parse st text)) out room out′ room′ p D z);
+    short = delivers-short (andThen (readSetup o a f es) (λ st. parse st text)) out out′ p D;
+  }
 
 -- ---- refusals
 
@@ -169,8 +176,8 @@ row-of text room n {ts} h l e k W =
 pub fits-not : (out : List ℕ) (q : Query) → length out < length (encode q) → Delivers (got q) out (Refused 18) out
 fits-not out q h = (longAnswer, rw (lt-leb (length (encode q)) (length out) h), refl, refl)
 
-pub fits : (out out′ : List ℕ) (q : Query) (n : ℕ) → n ≡ length (encode q) → n ≤ length out → out′ ≡ encode q ++ drop n out → Delivers (got q) out (Bytes n) out′
-fits out out′ q n e h o = (q, rw (le-leb (length (encode q)) (length out) (omega arith)), e, o)
+pub fits : (out out′ : List ℕ) (q : Query) (n : ℕ) → n ≡ length (encode q) → n ≤ length out → out′ ≡ encode q ++ drop n out → n ≤ 65000 → Delivers (got q) out (Bytes n) out′
+fits out out′ q n e h o m = (q, rw (le-leb (length (encode q)) (length out) (omega arith)), e, o, omega arith)
 
 none-made : (m : Made) → 0 ≡ madeLength m → m ≡ nothing
 none-made nothing e = refl
@@ -186,19 +193,19 @@ module _ (cs : Clauses) (len : ℕ) (e : len ≡ madeLength (queryOf cs)) (out :
 
   pub none-fits : len ≡ 0 → 3 ≤ length out → {r : ℕ} {out′ : List ℕ} → Put out 0 (header 7 0) r out′ → Delivers (got (orMatchNone (queryOf cs))) out (Bytes 3) out′
   unfolding encode
-  none-fits z h {out′ = out′} P = rw (none-made (queryOf cs) (sym z ∙ e)) (fits out out′ matchNone 3 refl h (P .bytes ∙ laid-front out (header 7 0)))
+  none-fits z h {out′ = out′} P = rw (none-made (queryOf cs) (sym z ∙ e)) (fits out out′ matchNone 3 refl h (P .bytes ∙ laid-front out (header 7 0)) (omega arith))
 
   pub some-short : (len ≡ 0 → ⊥) → length out < len → Delivers (got (orMatchNone (queryOf cs))) out (Refused 18) out
   some-short z h = let q = some-made (queryOf cs) len e z in rw (q .1) (fits-not out (q .0) (omega (arith, e ∙ ap madeLength (q .1))))
 
-  pub some-fits : (len ≡ 0 → ⊥) → len ≤ length out → (ys : List ℕ) → ys ≡ madeBytes (queryOf cs)
+  pub some-fits : (len ≡ 0 → ⊥) → len ≤ length out → len ≤ 65000 → (ys : List ℕ) → ys ≡ madeBytes (queryOf cs)
       → Delivers (got (orMatchNone (queryOf cs))) out (Bytes len) (take 0 out ++ (ys ++ drop (len - 0) (drop 0 out)))
-  some-fits z h ys y =
+  some-fits z h b ys y =
       let q = some-made (queryOf cs) len e z in
       let l : len ≡ length (encode (q .0)) = e ∙ ap madeLength (q .1) in
       let w : ys ≡ encode (q .0) = y ∙ ap madeBytes (q .1) in
       let m : len - 0 ≡ len = omega arith in
-      rw (q .1) (fits out _ (q .0) len l h (ap (λ (y : List ℕ). y ++ drop (len - 0) out) w ∙ ap (λ (k : ℕ). encode (q .0) ++ drop k out) m))
+      rw (q .1) (fits out _ (q .0) len l h (ap (λ (y : List ℕ). y ++ drop (len - 0) out) w ∙ ap (λ (k : ℕ). encode (q .0) ++ drop k out) m) b)
 
 -- ---- the tokens
 

@@ -1,13 +1,13 @@
 -- What the public call answers, and what it leaves: the numbers and values of each of its cases.
 use mathlib.Core.Path.{_≡_}
-use Prim.Native.Nat.{ℕ}
+use Prim.Native.Nat.{ℕ, _≤_}
 use mathlib.Core.List.{List, _++_}
 use lib.Dec.{leb}
 use lib.ListN.{length, drop}
-use Rattle.rules.specs.Numbers.{Refusal, number, Read, got, refused, need, andThen, longAnswer}
+use Rattle.rules.specs.Numbers.{Refusal, number, Read, got, refused, need, andThen, longAnswer, selectionBytes}
 use Rattle.rules.specs.Query.{Query}
 use Rattle.rules.specs.Stored.{encode}
-use Rattle.rules.specs.Answers.{Answer, Left}
+use Rattle.rules.specs.Answers.{Answer, Left, parseLeft}
 use Rattle.parser.specs.declared.parse.Parsed.{Parsed}
 use Rattle.parser.specs.declared.parse.Parsed.the-variants.{Refused, Bytes}
 
@@ -22,7 +22,12 @@ leftOf p output room = record { answer = answerOf p; output = output; room = roo
 abbrev pub fit : ℕ → Query → Read Query
 fit n q = need (leb (length (encode q)) n) longAnswer (got q)
 
--- what was read goes to the output, if it fits; a refusal leaves the output as it was
+-- what was read goes to the output, if it fits; a refusal leaves the output as it was; and a bound on the length, for a caller that narrows it
 abbrev pub Delivers : Read Query → List ℕ → Parsed → List ℕ → Type 0
 Delivers r out (Refused e) out′ = (x : Refusal) × (andThen r (fit (length out)) ≡ refused x) × (e ≡ number x) × (out′ ≡ out)
-Delivers r out (Bytes n) out′ = (q : Query) × (andThen r (fit (length out)) ≡ got q) × (n ≡ length (encode q)) × (out′ ≡ encode q ++ drop n out)
+Delivers r out (Bytes n) out′ = (q : Query) × (andThen r (fit (length out)) ≡ got q) × (n ≡ length (encode q)) × (out′ ≡ encode q ++ drop n out) × (n ≤ selectionBytes)
+
+-- the whole answer of the call, and the bound
+pub record Parses (o a : ℕ) (f es text out room out-after room-after : List ℕ) (r : Parsed) : Type 0 where
+  pub is : leftOf r out-after room-after ≡ parseLeft o a f es text out room
+  pub short : answerOf r .written ≤ selectionBytes

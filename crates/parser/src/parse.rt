@@ -18,10 +18,9 @@ ghost use Rattle.rules.specs.Numbers.{fieldMost, got, andThen};
 ghost use Rattle.rules.specs.Query.{Clauses};
 ghost use Rattle.rules.specs.Setup.{Setup, readSetup};
 ghost use Rattle.rules.specs.Parsing.{queryOf, orMatchNone, parse, parseTokens};
-ghost use Rattle.rules.specs.Answers.{parseLeft};
 ghost use Rattle.lexer.specs.Row.{roomLeast, tokensOf};
 ghost use Rattle.parser.specs.Measured.{Rowed, Fielded, Tuned};
-ghost use Rattle.parser.specs.Parsed.{leftOf, Delivers};
+ghost use Rattle.parser.specs.Parsed.{Delivers, Parses};
 ghost use Rattle.parser.specs.Written.{QueryToWrite};
 
 // What a call answers: a refusal by its number, or how many bytes it wrote.
@@ -157,7 +156,7 @@ pub fn parse(
     out: &mut [u8],
     room: &mut [u8],
 ) -> Parsed
-    ensures { λ r. ⌜ leftOf r (now (out .exit)) (now (room .exit)) ≡ parseLeft operator analyzer (now (field .entry)) (now (fields .entry)) (now (text .entry)) (now (out .entry)) (now (room .entry)) ⌝ }
+    ensures { λ r. ⌜ Parses operator analyzer (now (field .entry)) (now (fields .entry)) (now (text .entry)) (now (out .entry)) (now (room .entry)) (now (out .exit)) (now (room .exit)) r ⌝ }
 {
     if room.len() < 9216 {
         clear(room);

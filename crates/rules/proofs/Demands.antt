@@ -32,15 +32,15 @@ pub record Demand (s l : List ℕ) (q : Query) (rs : List (List Entry)) : Type 0
   pub these : (k : ℕ) → List·Memᴰ k rows ↔ IsChosen q rs k
   pub in-order : RisingFrom 0 rows
 
-reply-bytes : (r : Rewritten) → rewrittenReply r .bytes ≡ encode (resultOf r)
+pub reply-bytes : (r : Rewritten) → rewrittenReply r .bytes ≡ encode (resultOf r)
 reply-bytes (rewritten q n) = refl
 
-reply-rounds : (r : Rewritten) → rewrittenReply r .rounds ≡ countOf r
+pub reply-rounds : (r : Rewritten) → rewrittenReply r .rounds ≡ countOf r
 reply-rounds (rewritten q n) = refl
 
 -- a stored query that the rewriter accepts
 module _ (s : List ℕ) (B : Bytes s) (q : Query) (read : readForRewriting s ≡ got q) where
-  was-short : length (encode q) ≤ rewriterBytes
+  pub was-short : length (encode q) ≤ rewriterBytes
   was-short = let r = read-sound rewriterBytes rewriterDepth s q B read in rw (r .1 .form) (r .0)
 
   was-flat : depth q ≤ rewriterDepth

@@ -21,6 +21,7 @@ pub mod Phrases
 pub mod Choices
 pub mod rewriting
 pub mod Demands
+pub mod Spans
 pub mod Cases
 pub mod Classes
 pub mod Pieces

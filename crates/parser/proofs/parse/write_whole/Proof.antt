@@ -38,7 +38,7 @@ same-length-2 : tie.Need-same-length-2
 same-length-2 c = let r = first-length (c .before .before .before .before .before .before .before .before .before .args .out .now) (c .before .before .before .before .before .before .before .before .before .args .len) (c .before .before .before .before .if3 .left) in mid-length (c .before .before .before .before .before .before .before .before .before .args .out .now) (c .before .before .write-query .last .1 .1 .1 .1 .1 .1 .1 .1 .1 .0) 0 (c .before .before .before .before .before .before .before .before .before .args .len) (omega arith) (c .before .before .before .before .if3 .left) (c .before .before .write-query .kept .1 .1 .1 .1 .1 .1 .1 .1 .1 .0 ∙ r ∙ omega arith)
 
 returns-4 : tie.Need-returns-4
-returns-4 c = let r = first-length (c .before .before .before .before .before .before .before .before .before .args .out .now) (c .before .before .before .before .before .before .before .before .before .args .len) (c .before .before .before .before .if3 .left) in λ st cs j W. some-fits cs (c .before .before .before .before .before .before .before .before .before .args .len) (W .fills) (c .before .before .before .before .before .before .before .before .before .args .out .now) (c .before .before .before .before .before .if1 .left) (c .before .before .before .before .if3 .left) (c .before .before .write-query .last .1 .1 .1 .1 .1 .1 .1 .1 .1 .0) (c .before .before .write-query .ensures st cs j (record { tuned = W .tuned; is = W .is; alone-is = W .alone-is; fills = r ∙ W .fills }))
+returns-4 c = let r = first-length (c .before .before .before .before .before .before .before .before .before .args .out .now) (c .before .before .before .before .before .before .before .before .before .args .len) (c .before .before .before .before .if3 .left) in λ st cs j W. some-fits cs (c .before .before .before .before .before .before .before .before .before .args .len) (W .fills) (c .before .before .before .before .before .before .before .before .before .args .out .now) (c .before .before .before .before .before .if1 .left) (c .before .before .before .before .if3 .left) (c .before .before .before .before .before .before .before .before .before .pre .2) (c .before .before .write-query .last .1 .1 .1 .1 .1 .1 .1 .1 .1 .0) (c .before .before .write-query .ensures st cs j (record { tuned = W .tuned; is = W .is; alone-is = W .alone-is; fills = r ∙ W .fills }))
 
 pub write-whole-spec : {M : Type 1} → statement M
 write-whole-spec =

@@ -1,0 +1,11 @@
+-- What an exported call leaves, by the four numbers of its answer.
+use Prim.Native.Nat.{ℕ}
+use mathlib.Core.List.{List}
+use Rattle.rules.specs.Answers.{Left}
+
+abbrev pub left : ℕ → ℕ → ℕ → ℕ → List ℕ → List ℕ → Left
+left refusal len count rounds output room = record {
+  answer = record { refusal = refusal; written = len; count = count; rounds = rounds };
+  output = output;
+  room = room;
+}
