@@ -44,9 +44,10 @@ module _ (s : List ℕ) (B : Bytes s) where
   reply-small a e = by (readForRewriting s) refl e
     where
       made : (q : Query) → readForRewriting s ≡ got q → Small selectionBytes rewriterBytes (rewrittenReply (rewrite q))
-      made q read =
-          ( rw (reply-bytes (rewrite q)) (within-bytes q (weight q) (was-short s B q read))
-          , rw (reply-rounds (rewrite q)) (omega (arith, rounds-bounded s B q read, weight-length q, was-short s B q read)))
+      made q read = (
+        rw (reply-bytes (rewrite q)) (within-bytes q (weight q) (was-short s B q read)),
+        rw (reply-rounds (rewrite q)) (omega (arith, rounds-bounded s B q read, weight-length q, was-short s B q read)),
+      )
 
       by : (o : Read Query) → readForRewriting s ≡ o → onRead (λ (q : Query). rewrittenReply (rewrite q)) o ≡ got a → Small selectionBytes rewriterBytes a
       by (refused x) read e = no-got e
