@@ -8,14 +8,8 @@ export ARCHIVE
 test:
 	.ci/run
 
-# Until crates/gorbihesh is here, a first look is the proof of the rules.
-ifeq ($(wildcard crates/gorbihesh $(ARCHIVE)),)
-run:
-	rt check rules
-else
 run: $(ARCHIVE)
 	examples/night/run
-endif
 
 bench: $(ARCHIVE)
 	tests/rust/bench
