@@ -170,56 +170,49 @@ module _ {pre : List ℕ} {m k : ℕ} {h t : List ℕ} (g : Seeking pre m k h t)
 
 -- one clause more
 module _ (k : ℕ) (x : Float) (j : ℕ) (s h : List ℕ) where
-  abbrev Sums : Float → Type 0
-  Sums x′ = (i l : Kind) (p q : Query) → kindTag i ≡ j → kindTag l ≡ k → Is s p → Is h q → x′ ≡ cond (sameKind i l && equal (base p) q) (plus x (boostOf p)) x
-
   same-base : (v : List ℕ) → ((p : Query) → Is s p → Is v (base p)) → (r : Bool) → r ≡ same v h → (p q : Query) → Is s p → Is h q → equal (base p) q ≡ r
   same-base v ev r er p q i l =
       equal-bytes (base p) q (ev p i .valid) (l .valid) ∙ ap (λ (t : List ℕ). same t (encode q)) (ev p i .form) ∙ ap (same v) (l .form) ∙ sym er
 
   pub sums-alike : j ≡ k → (v : List ℕ) → ((p : Query) → Is s p → Is v (base p)) → (r : Bool) → r ≡ same v h → r ≡ true
-      → (n : ℕ) → ((p : Query) → Is s p → widened n ≡ boostOf p) → (x′ : Float) → x′ ≡ plus x (widened n) → Sums x′
+      → (n : ℕ) → ((p : Query) → Is s p → widened n ≡ boostOf p) → (x′ : Float) → x′ ≡ plus x (widened n) → TakenUp k x j s h x′
   sums-alike e v ev r er t n en x′ ex i l p q ei el is il =
       let a : sameKind i l ≡ true = eq-eqb (kindTag i) (kindTag l) (ei ∙ e ∙ sym el) in
       ex ∙ ap (plus x) (en p is) ∙ rw (both a (same-base v ev r er p q is il ∙ t))
 
-  pub sums-other : (v : List ℕ) → ((p : Query) → Is s p → Is v (base p)) → (r : Bool) → r ≡ same v h → r ≡ false → Sums x
+  pub sums-other : (v : List ℕ) → ((p : Query) → Is s p → Is v (base p)) → (r : Bool) → r ≡ same v h → r ≡ false → TakenUp k x j s h x
   sums-other v ev r er t i l p q ei el is il = rw (and-no-r (sameKind i l) (same-base v ev r er p q is il ∙ t))
 
-  pub sums-unlike : (j ≡ k → ⊥) → Sums x
+  pub sums-unlike : (j ≡ k → ⊥) → TakenUp k x j s h x
   sums-unlike n i l p q ei el is il = rw (and-no-l (equal (base p) q) (ne-eqb (kindTag i) (kindTag l) (λ z. n (sym ei ∙ z ∙ el))))
 
-pub record Summing (s : List ℕ) (b k : ℕ) (x : Float) (h t : List ℕ) (b′ k′ : ℕ) (x′ : Float) : Type 0 where
+pub record Summing (s : List ℕ) (k : ℕ) (x : Float) (h t : List ℕ) (x′ : Float) : Type 0 where
   pub all : StoredClauses s
   pub left : StoredClauses t
-  pub base : b′ ≡ b
-  pub kind : k′ ≡ k
   pub sum : (l : Kind) (q : Query) → kindTag l ≡ k → Is h q → total x l q (all .clauses) ≡ total x′ l q (left .clauses)
 
-module _ {s : List ℕ} {b k : ℕ} {x : Float} {h t : List ℕ} {b′ k′ : ℕ} {x′ : Float} (g : Summing s b k x h t b′ k′ x′) where
+module _ {s : List ℕ} {k : ℕ} {x : Float} {h t : List ℕ} {x′ : Float} (g : Summing s k x h t x′) where
   pub sum-front : 0 < length t → Front t (g .left .clauses)
   sum-front p = front (g .left .are) p
 
-  pub sum-next : (p : 0 < length t) (u : List ℕ) → u ≡ restOf t → (b₂ k₂ : ℕ) (x₂ : Float) → TakenUp b′ k′ x′ (getD t 0 0) (bodyOf t) h b₂ k₂ x₂
-      → Summing s b k x h u b₂ k₂ x₂
+  pub sum-next : (p : 0 < length t) (u : List ℕ) → u ≡ restOf t → (x₂ : Float) → TakenUp k x′ (getD t 0 0) (bodyOf t) h x₂
+      → Summing s k x h u x₂
   unfolding total
-  sum-next p u eu b₂ k₂ x₂ T =
+  sum-next p u eu x₂ T =
       let f = sum-front p in
       record {
         all = g .all;
         left = record { clauses = f .others; are = rw eu (front-are f) };
-        base = T .base ∙ g .base;
-        kind = T .kind ∙ g .kind;
         sum = λ l q e i.
             g .sum l q e i ∙ ap (total x′ l q) (f .split)
-            ∙ ap (λ (y : Float). total y l q (f .others)) (sym (T .sum (f .kind) l (f .query) q (sym (f .tag)) (e ∙ sym (g .kind)) (front-is f) i));
+            ∙ ap (λ (y : Float). total y l q (f .others)) (sym (T (f .kind) l (f .query) q (sym (f .tag)) e (front-is f) i));
       }
 
-  pub sum-end : length t ≤ 0 → Summed s b k x h b′ k′ x′
+  pub sum-end : length t ≤ 0 → (b : ℕ) → Summed s b k x h b k x′
   unfolding total
-  sum-end p = record {
-    base = g .base;
-    kind = g .kind;
+  sum-end p b = record {
+    base = refl;
+    kind = refl;
     sum = λ cs l q a e i.
         sym (ap (total x l q) (are-same a (g .all .are)) ∙ g .sum l q e i ∙ ap (total x′ l q) (no-clause (g .left .are) p));
   }

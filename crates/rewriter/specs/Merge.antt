@@ -15,14 +15,12 @@ use Rattle.rules.specs.Rewriting.{base, boostOf}
 use Rattle.rules.specs.ByPlace.{held, sameKind, total, sumFrom, mergedByPlace}
 use Rattle.rewriter.specs.Within.{within, Stands}
 
--- a merged clause, of which b, k and x are place, kind and sum, after q in s, of kind j, was met: its sum takes up the boost of an equal base
-pub record TakenUp (b k : ℕ) (x : Float) (j : ℕ) (s h : List ℕ) (b′ k′ : ℕ) (x′ : Float) : Type 0 where
-  pub base : b′ ≡ b
-  pub kind : k′ ≡ k
-  pub sum : (i l : Kind) (p q : Query) → kindTag i ≡ j → kindTag l ≡ k → Is s p → Is h q
-      → x′ ≡ cond (sameKind i l && equal (Rattle.rules.specs.Rewriting.base p) q) (plus x (boostOf p)) x
+-- the sum x of a merged clause of kind k, after q in s, of kind j, was met: it takes up the boost of an equal base
+abbrev pub TakenUp : ℕ → Float → ℕ → List ℕ → List ℕ → Float → Type 0
+TakenUp k x j s h x′ = (i l : Kind) (p q : Query) → kindTag i ≡ j → kindTag l ≡ k → Is s p → Is h q
+    → x′ ≡ cond (sameKind i l && equal (base p) q) (plus x (boostOf p)) x
 
--- the same of all the clauses in s
+-- a merged clause, of which b, k and x are place, kind and sum, after all the clauses in s were met
 pub record Summed (s : List ℕ) (b k : ℕ) (x : Float) (h : List ℕ) (b′ k′ : ℕ) (x′ : Float) : Type 0 where
   pub base : b′ ≡ b
   pub kind : k′ ≡ k

@@ -111,21 +111,17 @@ pub fn seen(clauses: &[u8], least: usize, k: u8, h: &[u8]) -> bool
     false
 }
 
-// One clause more: its boost is added where it is of the kind, and is h without its boost.
-fn taken_up(m: Merged, j: u8, q: &[u8], h: &[u8]) -> Merged
+// One clause more: its boost is added where it is of the kind k, and is h without its boost.
+fn taken_up(sum: f64, k: u8, j: u8, q: &[u8], h: &[u8]) -> f64
     requires { ⌜ Stored (now q) ⌝ }
-    ensures { λ r. ⌜ TakenUp (m .base) (m .kind) (m .sum) j (now (q .entry)) (now (h .entry)) (r .base) (r .kind) (r .sum) ⌝ }
+    ensures { λ r. ⌜ TakenUp k sum j (now (q .entry)) (now (h .entry)) r ⌝ }
 {
-    if j == m.kind {
+    if j == k {
         if same(base(q), h) {
-            return Merged {
-                base: m.base,
-                kind: m.kind,
-                sum: add(m.sum, boost_of(q)),
-            };
+            return add(sum, boost_of(q));
         }
     }
-    m
+    sum
 }
 
 // The sum, gathered from clauses in their order: those of its kind that are h without their boost.
@@ -134,14 +130,18 @@ pub fn total(clauses: &[u8], first: Merged, h: &[u8]) -> Merged
     ensures { λ r. ⌜ Summed (now (clauses .entry)) (first .base) (first .kind) (first .sum) (now (h .entry)) (r .base) (r .kind) (r .sum) ⌝ }
 {
     let mut t = clauses;
-    let mut m = first;
+    let mut sum = first.sum;
     while t.len() > 0 {
-        let n = taken_up(m, t[0], body(t), h);
-        m = n;
+        let x = taken_up(sum, first.kind, t[0], body(t), h);
+        sum = x;
         let u = rest(t);
         t = u;
     }
-    m
+    Merged {
+        base: first.base,
+        kind: first.kind,
+        sum,
+    }
 }
 
 // The first of the clauses in s, which stand at a place, merged with those behind it.

@@ -9,13 +9,13 @@ use Rattle.rewriter.proofs.merge.total.Statement.{statement}
 use Rattle.rewriter.proofs.merge.total.Tie as tie
 
 abbrev Inv-loop : tie.InvT-loop
-Inv-loop clauses h t₀ m₀ t m = seeking.Summing clauses (m₀ .base) (m₀ .kind) (m₀ .sum) h t (m .base) (m .kind) (m .sum)
+Inv-loop clauses first h t₀ sum₀ t sum = seeking.Summing clauses (first .kind) sum₀ h t sum
 
 abbrev μ-loop : tie.MeasureT-loop
-μ-loop clauses h t₀ m₀ t m = length t
+μ-loop clauses first h t₀ sum₀ t sum = length t
 
 loop-holds : tie.Need-loop-holds Inv-loop μ-loop
-loop-holds c = record { all = c .before .before .pre; left = c .before .before .pre; base = refl; kind = refl; sum = λ l q e i. refl }
+loop-holds c = record { all = c .before .before .pre; left = c .before .before .pre; sum = λ l q e i. refl }
 
 shared-slice-read-taken-up : tie.Need-shared-slice-read-taken-up Inv-loop μ-loop
 shared-slice-read-taken-up c = omega arith
@@ -33,10 +33,10 @@ loop-less : tie.Need-loop-less Inv-loop μ-loop
 loop-less c = let l = ap length (c .rest .ensures) in omega (arith, parts.rest-shorter (c .before .before .before .before .before .loop .t .now) (c .before .before .before .before .loop-test .taken))
 
 loop-again : tie.Need-loop-again Inv-loop μ-loop
-loop-again c = seeking.sum-next (c .before .before .before .before .before .loop .inv) (c .before .before .before .before .loop-test .taken) _ (c .rest .ensures) _ _ _ (rw (c .before .before .body .ensures) at (c .before .taken-up .ensures))
+loop-again c = seeking.sum-next (c .before .before .before .before .before .loop .inv) (c .before .before .before .before .loop-test .taken) _ (c .rest .ensures) _ (rw (c .before .before .body .ensures) at (c .before .taken-up .ensures))
 
 returns : tie.Need-returns Inv-loop μ-loop
-returns c = seeking.sum-end (c .before .loop .inv) (c .loop-test .left)
+returns c = seeking.sum-end (c .before .loop .inv) (c .loop-test .left) _
 
 pub total-spec : {M : Type 1} → statement M
 total-spec =
