@@ -9,15 +9,13 @@ ghost use Rattle.rules.specs.Matching.{atMost, below, isNumber};
 ghost use Rattle.selection.specs.Entry.{numbers};
 ghost use Rattle.selection.specs.Order.{Turned};
 
+const TOP: u64 = 0x8000_0000_0000_0000;
+
 // With its top bit turned: the signed order of x is the unsigned order of the answer.
 fn turned(x: u64) -> u64
     ensures { λ r. ⌜ Turned x r ⌝ }
 {
-    if x < 0x8000_0000_0000_0000 {
-        x + 0x8000_0000_0000_0000
-    } else {
-        x - 0x8000_0000_0000_0000
-    }
+    if x < TOP { x + TOP } else { x - TOP }
 }
 
 fn whole_le(a: u64, b: u64) -> bool
