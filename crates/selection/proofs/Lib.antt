@@ -4,3 +4,4 @@ pub mod Leaves
 pub mod Levels
 pub mod Walks
 pub mod Selections
+pub mod Exactness

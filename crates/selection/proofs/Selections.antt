@@ -305,7 +305,7 @@ module _ (s l : List ℕ) where
 
 -- ---- the answers in bytes
 
-length-rows : (ns : List ℕ) → length (rowBytes ns) ≡ 4 * length ns
+pub length-rows : (ns : List ℕ) → length (rowBytes ns) ≡ 4 * length ns
 unfolding rowBytes
 length-rows [] = refl
 length-rows (n ∷ ns) = length-append (big 4 n) (rowBytes ns) ∙ (let i = length-rows ns in omega (arith, length-big 4 n))

@@ -1,133 +1,97 @@
-use Rattle.selection.specs.declared.select.Selected.{Selected}
-use Rattle.rules.specs.Answers.{zeros}
-use lib.ListN.{replicate}
+-- `rewritten_selection::rewrite_and_select` meets its contract.
 use mathlib.Core.Path.{refl, sym, ap, _∙_}
-use Rattle.rewritten_selection.proofs.Choosing as choosing
-use denote.Ref.{now}
-use lib.ListN.{length, replicate}
-use mathlib.Core.List.{List}
 use Prim.Native.Nat.{ℕ}
-use mathlib.Core.Path.{sym, ap, _∙_}
 use native.Mathlib.Omega.{arith}
+use lib.ListN.{replicate}
+use denote.Ref.{now}
 use borrow.Author.Needs.{needs}
+use Rattle.rules.specs.Answers.{zeros}
+use Rattle.selection.specs.declared.select.Selected.{Selected}
+use Rattle.rewritten_selection.proofs.Choosing as choosing
 use Rattle.rewritten_selection.proofs.rewrite_and_select.Statement.{statement}
 use Rattle.rewritten_selection.proofs.rewrite_and_select.Tie as tie
-use Rattle.rewritten_selection.proofs.rewrite_and_select.Reads as reads
-use Rattle.rewritten_selection.proofs.rewrite_and_select.Lts as lts
-use Rattle.rewriter.proofs.rounds.rewrite.Reads as rewrite-reads
-use Rattle.rewritten_selection.proofs.refuse.Reads as refuse-reads
-use Rattle.selection.proofs.select.select.Reads as select-reads
-use Rattle.stored.proofs.bytes.clear.Reads as clear-reads
 
--- src/lib.rt:41:9
 clear-requires : tie.Need-clear-requires
 clear-requires c κs = search needs
 
--- src/lib.rt:42:9
 clear-requires-2 : tie.Need-clear-requires-2
 clear-requires-2 c κs = search needs
 
--- src/lib.rt:43:9
 refuse-requires : tie.Need-refuse-requires
 refuse-requires c κs = search needs
 
--- src/lib.rt:43:9
 same-length : tie.Need-same-length
 same-length c = search needs
 
--- src/lib.rt:43:9
 same-length-2 : tie.Need-same-length-2
 same-length-2 c = search needs
 
--- src/lib.rt:43:9
 returns : tie.Need-returns
 returns c = choosing.concluded (now (c .before .before .before .before .before .before .before .before .before .before .before .before .before .before .before .args .query)) (now (c .before .before .before .before .before .before .before .before .before .before .before .before .before .before .before .args .list)) (now (c .before .before .before .before .before .before .before .before .before .before .before .before .before .before .before .args .rows)) (now (c .before .before .before .before .before .before .before .before .before .before .before .before .before .before .before .args .held)) (now (c .before .before .before .before .before .before .before .before .before .before .before .before .before .before .before .args .room)) (λ i. omega (arith, c .before .before .before .before .before .before .before .before .before .before .before .before .before .before .shared-slice-known .given i)) (c .refuse .ensures .0) (c .refuse .ensures .1) (c .refuse .ensures .2) (c .before .before .before .before .before .before .before .clear .ensures) (c .before .before .before .clear2 .ensures) (choosing.short-held (now (c .before .before .before .before .before .before .before .before .before .before .before .before .before .before .before .args .query)) (now (c .before .before .before .before .before .before .before .before .before .before .before .before .before .before .before .args .list)) (now (c .before .before .before .before .before .before .before .before .before .before .before .before .before .before .before .args .rows)) (now (c .before .before .before .before .before .before .before .before .before .before .before .before .before .before .before .args .held)) (now (c .before .before .before .before .before .before .before .before .before .before .before .before .before .before .before .args .room)) (c .before .before .before .before .before .before .before .before .before .if1 .taken))
 
--- src/lib.rt:45:9
 rewrite-requires : tie.Need-rewrite-requires
 rewrite-requires c κs = search needs
 
--- src/lib.rt:47:9
 clear-requires-3 : tie.Need-clear-requires-3
 clear-requires-3 c κs = search needs
 
--- src/lib.rt:48:9
 refuse-requires-2 : tie.Need-refuse-requires-2
 refuse-requires-2 c κs = search needs
 
--- src/lib.rt:48:9
 same-length-3 : tie.Need-same-length-3
 same-length-3 c = search needs
 
--- src/lib.rt:48:9
 same-length-4 : tie.Need-same-length-4
 same-length-4 c = search needs
 
--- src/lib.rt:48:9
 returns-2 : tie.Need-returns-2
 returns-2 c = choosing.concluded (now (c .before .before .before .before .before .before .before .before .before .before .before .before .before .before .before .before .before .before .before .before .args .query)) (now (c .before .before .before .before .before .before .before .before .before .before .before .before .before .before .before .before .before .before .before .before .args .list)) (now (c .before .before .before .before .before .before .before .before .before .before .before .before .before .before .before .before .before .before .before .before .args .rows)) (now (c .before .before .before .before .before .before .before .before .before .before .before .before .before .before .before .before .before .before .before .before .args .held)) (now (c .before .before .before .before .before .before .before .before .before .before .before .before .before .before .before .before .before .before .before .before .args .room)) (λ i. omega (arith, c .before .before .before .before .before .before .before .before .before .before .before .before .before .before .before .before .before .before .before .shared-slice-known .given i)) (c .refuse2 .ensures .0) (c .refuse2 .ensures .1) (c .refuse2 .ensures .2) (c .before .before .before .clear3 .ensures ∙ ap (λ (n : ℕ). replicate n 0) (c .before .before .before .before .before .before .before .before .before .before .before .rewrite .kept .1 .0)) refl (choosing.refused-query (now (c .before .before .before .before .before .before .before .before .before .before .before .before .before .before .before .before .before .before .before .before .args .query)) (now (c .before .before .before .before .before .before .before .before .before .before .before .before .before .before .before .before .before .before .before .before .args .list)) (now (c .before .before .before .before .before .before .before .before .before .before .before .before .before .before .before .before .before .before .before .before .args .rows)) (now (c .before .before .before .before .before .before .before .before .before .before .before .before .before .before .before .before .before .before .before .before .args .held)) (now (c .before .before .before .before .before .before .before .before .before .before .before .before .before .before .before .before .before .before .before .before .args .room)) (λ i. omega (arith, c .before .before .before .before .before .before .before .before .before .before .before .before .before .before .before .before .before .before .before .shared-slice-known .given i)) (c .before .before .before .before .before .before .before .before .before .before .before .before .before .before .if1 .left) (c .before .before .before .before .before .before .before .before .before .before .before .rewrite .ensures) (c .before .before .before .before .before .if2 .taken))
 
--- src/lib.rt:51:20
 sub-select : tie.Need-sub-select
 sub-select c = search needs
 
--- src/lib.rt:51:20
 part-select-start : tie.Need-part-select-start
 part-select-start c = search needs
 
--- src/lib.rt:51:20
 part-select-end : tie.Need-part-select-end
 part-select-end c = choosing.held-long (now (c .before .before .before .before .before .before .before .before .before .before .before .before .before .before .before .before .args .query)) (now (c .before .before .before .before .before .before .before .before .before .before .before .before .before .before .before .before .args .list)) (now (c .before .before .before .before .before .before .before .before .before .before .before .before .before .before .before .before .args .rows)) (now (c .before .before .before .before .before .before .before .before .before .before .before .before .before .before .before .before .args .held)) (now (c .before .before .before .before .before .before .before .before .before .before .before .before .before .before .before .before .args .room)) (λ i. omega (arith, c .before .before .before .before .before .before .before .before .before .before .before .before .before .before .before .shared-slice-known .given i)) (c .before .before .before .before .before .before .before .before .before .before .if1 .left) (c .before .before .before .before .before .before .before .rewrite .ensures) (c .before .if2 .left)
 
--- src/lib.rt:51:9
 select-requires : tie.Need-select-requires
 select-requires c κs = search needs
 
--- src/lib.rt:52:5
 clear-requires-4 : tie.Need-clear-requires-4
 clear-requires-4 c κs = search needs
 
--- src/lib.rt:54:27
 enum-known-c : tie.Need-enum-known-c
 enum-known-c c = search needs
 
--- src/lib.rt:54:33
 refuse-requires-3 : tie.Need-refuse-requires-3
 refuse-requires-3 c κs = search needs
 
--- src/lib.rt:55:26
 enum-known-c-2 : tie.Need-enum-known-c-2
 enum-known-c-2 c = search needs
 
--- src/lib.rt:28:1
 same-length-5 : tie.Need-same-length-5
 same-length-5 c = search needs
 
--- src/lib.rt:28:1
 same-length-6 : tie.Need-same-length-6
 same-length-6 c = search needs
 
--- src/lib.rt:28:1
 same-length-7 : tie.Need-same-length-7
 same-length-7 c = search needs
 
--- src/lib.rt:28:1
 returns-3 : tie.Need-returns-3
 returns-3 c = choosing.concluded (now (c .before .before .before .before .before .before .before .before .before .before .before .before .before .before .before .before .before .before .before .before .before .before .before .before .before .before .before .before .before .args .query)) (now (c .before .before .before .before .before .before .before .before .before .before .before .before .before .before .before .before .before .before .before .before .before .before .before .before .before .before .before .before .before .args .list)) (now (c .before .before .before .before .before .before .before .before .before .before .before .before .before .before .before .before .before .before .before .before .before .before .before .before .before .before .before .before .before .args .rows)) (now (c .before .before .before .before .before .before .before .before .before .before .before .before .before .before .before .before .before .before .before .before .before .before .before .before .before .before .before .before .before .args .held)) (now (c .before .before .before .before .before .before .before .before .before .before .before .before .before .before .before .before .before .before .before .before .before .before .before .before .before .before .before .before .before .args .room)) (λ i. omega (arith, c .before .before .before .before .before .before .before .before .before .before .before .before .before .before .before .before .before .before .before .before .before .before .before .before .before .before .before .before .shared-slice-known .given i)) (c .refuse3 .ensures .0) (c .refuse3 .ensures .1) (c .refuse3 .ensures .2) (c .before .before .before .before .before .before .clear4 .ensures ∙ ap (λ (n : ℕ). replicate n 0) (c .before .before .before .before .before .before .before .before .before .before .before .before .before .before .before .before .before .before .before .before .rewrite .kept .1 .0)) refl (ap (λ (r : Selected). choosing.answered r (c .before .before .before .before .before .before .before .before .before .before .before .before .before .before .before .before .before .before .before .before .rewrite .result .rounds) (c .before .before .before .before .before .before .before .before .before .before .select .last .1 .1 .0) (zeros (now (c .before .before .before .before .before .before .before .before .before .before .before .before .before .before .before .before .before .before .before .before .before .before .before .before .before .before .before .before .before .args .held))) (c .before .before .before .before .before .before .before .before .before .before .before .before .before .before .before .before .before .before .before .before .rewrite .last .1 .1 .0)) (sym (c .before .before .c .given .1)) ∙ choosing.selects (now (c .before .before .before .before .before .before .before .before .before .before .before .before .before .before .before .before .before .before .before .before .before .before .before .before .before .before .before .before .before .args .query)) (now (c .before .before .before .before .before .before .before .before .before .before .before .before .before .before .before .before .before .before .before .before .before .before .before .before .before .before .before .before .before .args .list)) (now (c .before .before .before .before .before .before .before .before .before .before .before .before .before .before .before .before .before .before .before .before .before .before .before .before .before .before .before .before .before .args .rows)) (now (c .before .before .before .before .before .before .before .before .before .before .before .before .before .before .before .before .before .before .before .before .before .before .before .before .before .before .before .before .before .args .held)) (now (c .before .before .before .before .before .before .before .before .before .before .before .before .before .before .before .before .before .before .before .before .before .before .before .before .before .before .before .before .before .args .room)) (λ i. omega (arith, c .before .before .before .before .before .before .before .before .before .before .before .before .before .before .before .before .before .before .before .before .before .before .before .before .before .before .before .before .shared-slice-known .given i)) (c .before .before .before .before .before .before .before .before .before .before .before .before .before .before .before .before .before .before .before .before .before .before .before .if1 .left) (c .before .before .before .before .before .before .before .before .before .before .before .before .before .before .before .before .before .before .before .before .rewrite .ensures) (c .before .before .before .before .before .before .before .before .before .before .before .before .before .before .if2 .left) (c .before .before .before .before .before .before .before .before .before .before .select .ensures))
 
--- src/lib.rt:28:1
 same-length-8 : tie.Need-same-length-8
 same-length-8 c = search needs
 
--- src/lib.rt:28:1
 same-length-9 : tie.Need-same-length-9
 same-length-9 c = search needs
 
--- src/lib.rt:28:1
 same-length-10 : tie.Need-same-length-10
 same-length-10 c = search needs
 
--- src/lib.rt:28:1
 returns-4 : tie.Need-returns-4
 returns-4 c = choosing.concluded (now (c .before .before .before .before .before .before .before .before .before .before .before .before .before .before .before .before .before .before .before .before .before .before .before .before .before .before .before .before .args .query)) (now (c .before .before .before .before .before .before .before .before .before .before .before .before .before .before .before .before .before .before .before .before .before .before .before .before .before .before .before .before .args .list)) (now (c .before .before .before .before .before .before .before .before .before .before .before .before .before .before .before .before .before .before .before .before .before .before .before .before .before .before .before .before .args .rows)) (now (c .before .before .before .before .before .before .before .before .before .before .before .before .before .before .before .before .before .before .before .before .before .before .before .before .before .before .before .before .args .held)) (now (c .before .before .before .before .before .before .before .before .before .before .before .before .before .before .before .before .before .before .before .before .before .before .before .before .before .before .before .before .args .room)) (λ i. omega (arith, c .before .before .before .before .before .before .before .before .before .before .before .before .before .before .before .before .before .before .before .before .before .before .before .before .before .before .before .shared-slice-known .given i)) refl refl refl (c .before .before .before .before .before .clear4 .ensures ∙ ap (λ (n : ℕ). replicate n 0) (c .before .before .before .before .before .before .before .before .before .before .before .before .before .before .before .before .before .before .before .rewrite .kept .1 .0)) refl (ap (λ (r : Selected). choosing.answered r (c .before .before .before .before .before .before .before .before .before .before .before .before .before .before .before .before .before .before .before .rewrite .result .rounds) (c .before .before .before .before .before .before .before .before .before .select .last .1 .1 .0) (zeros (now (c .before .before .before .before .before .before .before .before .before .before .before .before .before .before .before .before .before .before .before .before .before .before .before .before .before .before .before .before .args .held))) (c .before .before .before .before .before .before .before .before .before .before .before .before .before .before .before .before .before .before .before .rewrite .last .1 .1 .0)) (sym (c .before .c2 .given .1)) ∙ choosing.selects (now (c .before .before .before .before .before .before .before .before .before .before .before .before .before .before .before .before .before .before .before .before .before .before .before .before .before .before .before .before .args .query)) (now (c .before .before .before .before .before .before .before .before .before .before .before .before .before .before .before .before .before .before .before .before .before .before .before .before .before .before .before .before .args .list)) (now (c .before .before .before .before .before .before .before .before .before .before .before .before .before .before .before .before .before .before .before .before .before .before .before .before .before .before .before .before .args .rows)) (now (c .before .before .before .before .before .before .before .before .before .before .before .before .before .before .before .before .before .before .before .before .before .before .before .before .before .before .before .before .args .held)) (now (c .before .before .before .before .before .before .before .before .before .before .before .before .before .before .before .before .before .before .before .before .before .before .before .before .before .before .before .before .args .room)) (λ i. omega (arith, c .before .before .before .before .before .before .before .before .before .before .before .before .before .before .before .before .before .before .before .before .before .before .before .before .before .before .before .shared-slice-known .given i)) (c .before .before .before .before .before .before .before .before .before .before .before .before .before .before .before .before .before .before .before .before .before .before .if1 .left) (c .before .before .before .before .before .before .before .before .before .before .before .before .before .before .before .before .before .before .before .rewrite .ensures) (c .before .before .before .before .before .before .before .before .before .before .before .before .before .if2 .left) (c .before .before .before .before .before .before .before .before .before .select .ensures))
 
