@@ -2,11 +2,11 @@
 use mathlib.Core.Path.{_≡_, refl, sym, ap, _∙_}
 use Prim.Native.Nat.{ℕ, _+_, _≤_, _<_}
 use mathlib.Core.List.{List, []}
-use mathlib.Core.Bool.{Bool, true, false, _&&_}
+use mathlib.Core.Bool.{Bool, true, false, _&&_, cond}
 use native.Mathlib.Omega.{arith}
 use lib.ListN.{length, take, drop}
 use lib.Seq.{take-all}
-use lib.Dec.{leb}
+use lib.Dec.{leb, eqb}
 use borrow.Author.Tests.{leb-true}
 use Rattle.rules.specs.Numbers.{termTag, phraseTag, matchAllTag, matchNoneTag, wholeRangeTag, floatRangeTag, fieldTag, textTag, wordTag, openTag, includedTag, excludedTag}
 use Rattle.rules.specs.Bytes.{ofBig, isEmpty, isText, tagOf, bodyOf, restOf, wholeOf, isPart, every, each, some, all}
@@ -19,8 +19,9 @@ use Rattle.rules.specs.Matching.{isAt, followsFrom, startsOn, hasTerm, hasPhras
 use Rattle.rules.proofs.Bools.{and-l, and-r}
 use Rattle.rules.proofs.Parts.{part-is, field-is, none-empty, some-empty, more-empty, less-empty}
 use Rattle.rules.proofs.Rows.{first, others, each-done, each-next, all-done, all-yes, all-no}
-use Rattle.rules.proofs.Leaves.{BoundIs, is-open, is-included, is-excluded, bound-is}
+use Rattle.rules.proofs.Leaves.{BoundIs, is-open, is-included, is-excluded, bound-is, at-open, at-included, at-excluded}
 use Rattle.rules.proofs.Views.{View, v-term, v-phrase, v-boolean, v-boost, v-constantScore, v-matchAll, v-matchNone, v-whole, v-float, viewed, at-tag, AsTerm, as-term, AsPhrase, as-phrase, AsRange, as-range, as-match-all}
+use Rattle.selection.specs.Order.{ordered, keeps}
 use Rattle.selection.specs.Truth.{Truth, StoredAs, IsLeaf}
 
 pub stored-whole : {s : List ℕ} → Stored s → wholeOf s ≡ true
@@ -137,6 +138,10 @@ module _ (t : List ℕ) (h : isBound t ≡ true) where
       go (is-included i l) = part-is includedTag t i .0
       go (is-excluded i l) = part-is excludedTag t i .0
 
+  pub open-says : (k : Numbers) (upper : Bool) (x : ℕ) → tagOf t ≡ openTag → true ≡ keeps upper k (boundOf t) x
+  open-says k true x e = rw (at-open t e)
+  open-says k false x e = rw (at-open t e)
+
   -- a bound that is not open has a number
   module _ (n : tagOf t ≡ openTag → ⊥) where
     pub limit-long : length (bodyOf t) ≡ 8
@@ -150,13 +155,17 @@ module _ (t : List ℕ) (h : isBound t ≡ true) where
     pub limit-is : {w : List ℕ} {v : ℕ} → w ≡ bodyOf t → v ≡ ofBig (take 8 w) → v ≡ ofBig (bodyOf t)
     limit-is ew ev = ev ∙ rw ew (ap ofBig (take-all 8 (bodyOf t) (omega (arith, limit-long))))
 
-    pub limit-excluded : (tagOf t ≡ includedTag → ⊥) → tagOf t ≡ excludedTag
-    limit-excluded m = go (bound-is t h)
+    -- what it asks of x, on either side
+    pub limit-says : (k : Numbers) (upper : Bool) (x : ℕ) {v g : ℕ} {r : Bool} → v ≡ ofBig (bodyOf t) → g ≡ tagOf t
+        → r ≡ ordered (eqb g excludedTag) k (cond upper x v) (cond upper v x) → r ≡ keeps upper k (boundOf t) x
+    limit-says k upper x {v} e f m = m ∙ rw f (go (bound-is t h) upper)
       where
-        go : BoundIs t → tagOf t ≡ excludedTag
-        go (is-open i e) = absurd (n (part-is openTag t i .1))
-        go (is-included i l) = absurd (m (part-is includedTag t i .1))
-        go (is-excluded i l) = part-is excludedTag t i .1
+        go : BoundIs t → (u : Bool) → ordered (eqb (tagOf t) excludedTag) k (cond u x v) (cond u v x) ≡ keeps u k (boundOf t) x
+        go (is-open i f) u = absurd (n (part-is openTag t i .1))
+        go (is-included i l) true = let g = part-is includedTag t i .1 in rw (at-included t g, g, e)
+        go (is-included i l) false = let g = part-is includedTag t i .1 in rw (at-included t g, g, e)
+        go (is-excluded i l) true = let g = part-is excludedTag t i .1 in rw (at-excluded t g, g, e)
+        go (is-excluded i l) false = let g = part-is excludedTag t i .1 in rw (at-excluded t g, g, e)
 
 module _ (n : Numbers) (s : List ℕ) where
   shown-range : (q : Query) → tagOf s ≡ rangeTag n → Is s q → AsRange n (bodyOf s) q
