@@ -18,7 +18,8 @@ use Rattle.rules.specs.Matching.{isHere, isAt, followsFrom, startsOn, sameNumbe
 use Rattle.rules.proofs.Bools.{clash, split, and-l, and-r, either}
 use Rattle.rules.proofs.Parts.{empty-nil, length-body, length-whole, part-is, field-is, more-empty, less-empty}
 use Rattle.rules.proofs.Equal.{same-eq}
-use Rattle.rules.proofs.Rows.{first, others, some-done, some-yes, some-no}
+use Rattle.rules.proofs.Rows.{some-done, some-yes, some-no}
+use Rattle.selection.proofs.Searches as searches
 use Rattle.selection.specs.Entry.{isPlace, isOf, fieldOf, textOf, positionOf, bitsOf}
 
 -- ---- one entry
@@ -232,26 +233,22 @@ other-size f t s h n = go (split (isHere f t (entryOf s)))
 -- ---- a search through a record's entries
 
 -- the entries from e on decide
-pub record Left (P : Entry → Bool) (rec e : List ℕ) : Type 0 where
-  pub good : every isEntry e ≡ true
-  pub decides : some P (each entryOf rec) ≡ some P (each entryOf e)
+abbrev pub Left : (Entry → Bool) → List ℕ → List ℕ → Type 0
+Left P rec e = searches.Left isEntry entryOf some P rec e
 
 pub search-all : {P : Entry → Bool} {rec : List ℕ} → every isEntry rec ≡ true → Left P rec rec
-search-all h = record { good = h; decides = refl }
+search-all h = searches.left-all h
 
 module _ {P : Entry → Bool} {rec e : List ℕ} (L : Left P rec e) where
   pub search-none : length e ≤ 0 → false ≡ some P (each entryOf rec)
-  search-none h = sym (L .decides ∙ some-done entryOf P e (less-empty e h))
+  search-none h = searches.left-answer L (some-done entryOf P e (less-empty e h))
 
   module _ (more : 0 < length e) where
     pub search-entry : isEntry e ≡ true
-    search-entry = first isEntry e (more-empty e more) (L .good)
+    search-entry = searches.left-first L more
 
     pub search-found : P (entryOf e) ≡ true → true ≡ some P (each entryOf rec)
-    search-found h = sym (L .decides ∙ some-yes entryOf P e (more-empty e more) h)
+    search-found h = searches.left-answer L (some-yes entryOf P e (more-empty e more) h)
 
     pub search-next : {u : List ℕ} → P (entryOf e) ≡ false → u ≡ restOf e → Left P rec u
-    search-next h k = rw k (record {
-      good = others isEntry e (more-empty e more) (L .good);
-      decides = L .decides ∙ some-no entryOf P e (more-empty e more) h;
-    })
+    search-next h k = searches.left-next L more (some-no entryOf P e (more-empty e more) h) k

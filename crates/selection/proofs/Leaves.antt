@@ -21,6 +21,7 @@ use Rattle.rules.proofs.Parts.{part-is, field-is, none-empty, some-empty, more-
 use Rattle.rules.proofs.Rows.{first, others, each-done, each-next, all-done, all-yes, all-no}
 use Rattle.rules.proofs.Leaves.{BoundIs, is-open, is-included, is-excluded, bound-is, at-open, at-included, at-excluded}
 use Rattle.rules.proofs.Views.{View, v-term, v-phrase, v-boolean, v-boost, v-constantScore, v-matchAll, v-matchNone, v-whole, v-float, viewed, at-tag, AsTerm, as-term, AsPhrase, as-phrase, AsRange, as-range, as-match-all}
+use Rattle.selection.proofs.Searches as searches
 use Rattle.selection.specs.Order.{ordered, keeps}
 use Rattle.selection.specs.Truth.{Truth, StoredAs, IsLeaf}
 
@@ -67,29 +68,25 @@ pub follows-at : (es : List Entry) (f : List ℕ) (p x : ℕ) (s : List ℕ) {o 
 follows-at es f p x s eo et h = h ∙ rw (eo, et)
 
 -- the words from s on decide
-pub record Left (Q : Word → Bool) (ws s : List ℕ) : Type 0 where
-  pub good : every isWord s ≡ true
-  pub decides : all Q (each wordOf ws) ≡ all Q (each wordOf s)
+abbrev pub Left : (Word → Bool) → List ℕ → List ℕ → Type 0
+Left Q ws s = searches.Left isWord wordOf all Q ws s
 
 pub words-all : {Q : Word → Bool} {ws : List ℕ} → every isWord ws ≡ true → Left Q ws ws
-words-all h = record { good = h; decides = refl }
+words-all h = searches.left-all h
 
 module _ {Q : Word → Bool} {ws s : List ℕ} (L : Left Q ws s) where
   pub words-done : length s ≤ 0 → true ≡ all Q (each wordOf ws)
-  words-done h = sym (L .decides ∙ all-done wordOf Q s (less-empty s h))
+  words-done h = searches.left-answer L (all-done wordOf Q s (less-empty s h))
 
   module _ (more : 0 < length s) where
     pub words-first : isWord s ≡ true
-    words-first = first isWord s (more-empty s more) (L .good)
+    words-first = searches.left-first L more
 
     pub words-fail : Q (wordOf s) ≡ false → false ≡ all Q (each wordOf ws)
-    words-fail h = sym (L .decides ∙ all-no wordOf Q s (more-empty s more) h)
+    words-fail h = searches.left-answer L (all-no wordOf Q s (more-empty s more) h)
 
     pub words-next : {u : List ℕ} → Q (wordOf s) ≡ true → u ≡ restOf s → Left Q ws u
-    words-next h k = rw k (record {
-      good = others isWord s (more-empty s more) (L .good);
-      decides = L .decides ∙ all-yes wordOf Q s (more-empty s more) h;
-    })
+    words-next h k = searches.left-next L more (all-yes wordOf Q s (more-empty s more) h) k
 
 module _ (s : List ℕ) where
   shown-phrase : (q : Query) → tagOf s ≡ phraseTag → Is s q → AsPhrase (bodyOf s) q

@@ -1,3 +1,4 @@
+pub mod Searches
 pub mod Entries
 pub mod Orders
 pub mod Leaves

@@ -40,9 +40,9 @@ fn float_ordered(strict: bool, a: u64, b: u64) -> bool
     if is_nan(b) {
         return false;
     }
-    let x = f64::from_bits(a);
-    let y = f64::from_bits(b);
-    if strict { x < y } else { x <= y }
+    let low = f64::from_bits(a);
+    let high = f64::from_bits(b);
+    if strict { low < high } else { low <= high }
 }
 
 // Whether a is below b, or at most b where `strict` is false.

@@ -1,25 +1,18 @@
-use Rattle.selection.proofs.Orders as orders
-use native.Mathlib.Omega.{arith}
+-- `selection::order::whole_ordered` meets its contract.
 use borrow.Author.Needs.{needs}
+use Rattle.selection.proofs.Orders as orders
 use Rattle.selection.proofs.order.whole_ordered.Statement.{statement}
 use Rattle.selection.proofs.order.whole_ordered.Tie as tie
-use Rattle.selection.proofs.order.whole_ordered.Reads as reads
-use Rattle.selection.proofs.order.whole_ordered.Lts as lts
-use Rattle.selection.proofs.order.turned.Reads as turned-reads
 
--- src/order.rt:22:9
 turned-requires : tie.Need-turned-requires
 turned-requires c κs = search needs
 
--- src/order.rt:23:9
 turned-requires-2 : tie.Need-turned-requires-2
 turned-requires-2 c κs = search needs
 
--- src/order.rt:19:1
 returns : tie.Need-returns
 returns c = rw (c .if1 .taken) (orders.turned-lt (c .before .before .before .args .a) (c .before .before .before .args .b) (c .before .before .turned .result) (c .before .turned2 .result) (c .before .before .turned .ensures) (c .before .turned2 .ensures) (c .before .before .before .fits .a .fits) (c .before .before .before .fits .b .fits))
 
--- src/order.rt:19:1
 returns-2 : tie.Need-returns-2
 returns-2 c = rw (c .if1 .left) (orders.turned-le (c .before .before .before .args .a) (c .before .before .before .args .b) (c .before .before .turned .result) (c .before .turned2 .result) (c .before .before .turned .ensures) (c .before .turned2 .ensures) (c .before .before .before .fits .a .fits) (c .before .before .before .fits .b .fits))
 

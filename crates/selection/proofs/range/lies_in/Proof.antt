@@ -1,38 +1,28 @@
-use Rattle.rules.proofs.Bools as bools
-use Rattle.rules.specs.Matching.{liesIn}
+-- `selection::range::lies_in` meets its contract.
 use mathlib.Core.Path.{sym, _∙_}
-use native.Mathlib.Omega.{arith}
 use borrow.Author.Needs.{needs}
+use Rattle.rules.specs.Matching.{liesIn}
+use Rattle.rules.proofs.Bools as bools
 use Rattle.selection.proofs.range.lies_in.Statement.{statement}
 use Rattle.selection.proofs.range.lies_in.Tie as tie
-use Rattle.selection.proofs.range.lies_in.Reads as reads
-use Rattle.selection.proofs.range.lies_in.Lts as lts
-use Rattle.selection.proofs.order.is_number.Reads as is-number-reads
-use Rattle.selection.proofs.range.keeps.Reads as keeps-reads
 
--- src/range.rt:45:9
 is-number-requires : tie.Need-is-number-requires
 is-number-requires c κs = search needs
 
--- src/range.rt:46:9
 returns : tie.Need-returns
 unfolding liesIn
 returns c = sym (bools.and-no-l _ (bools.told-no (c .before .is-number .ensures) (c .if1 .taken)))
 
--- src/range.rt:48:9
 keeps-requires : tie.Need-keeps-requires
 keeps-requires c κs = c .before .before .before .before .pre .0
 
--- src/range.rt:49:9
 returns-2 : tie.Need-returns-2
 unfolding liesIn
 returns-2 c = sym (simp (bools.told-yes (c .before .before .before .is-number .ensures) (c .before .before .if1 .left), bools.told-no (c .before .keeps .ensures) (c .if2 .taken)))
 
--- src/range.rt:51:5
 keeps-requires-2 : tie.Need-keeps-requires-2
 keeps-requires-2 c κs = c .before .before .before .before .before .before .pre .1
 
--- src/range.rt:41:1
 returns-3 : tie.Need-returns-3
 unfolding liesIn
 returns-3 c = c .keeps2 .ensures ∙ sym (simp (bools.told-yes (c .before .before .before .before .is-number .ensures) (c .before .before .before .if1 .left), bools.told-yes (c .before .before .keeps .ensures) (c .before .if2 .left)))
