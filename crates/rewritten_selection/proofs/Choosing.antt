@@ -9,7 +9,7 @@ use lib.ListN.{length, take, drop, length-append}
 use lib.Seq.{take-at}
 use lib.Dec.{leb}
 use borrow.Author.Tests.{le-leb, lt-leb, leb-true}
-use Rattle.rules.specs.Numbers.{number, Read, got, refused, need, onRead, andThen, longAnswer, shortRoom, rewriteRoom, rewriterBytes, rewriterDepth}
+use Rattle.rules.specs.Numbers.{Refusal, number, Read, got, refused, need, onRead, andThen, longAnswer, shortRoom, rewriteRoom, rewriterBytes, rewriterDepth}
 use Rattle.rules.specs.Bytes.{Bytes}
 use Rattle.rules.specs.Query.{Query}
 use Rattle.rules.specs.Stored.{encode}
@@ -28,6 +28,7 @@ use Rattle.rewriter.specs.Rounds.{left as rewriterLeft}
 use Rattle.selection.specs.declared.select.Selected.{Selected}
 use Rattle.selection.specs.declared.select.Selected.the-variants.{Refused, Chosen as Rows}
 use Rattle.selection.specs.Select.{within, answerOf, rowsAfter, Selects}
+use Rattle.selection.proofs.Exactness.{Exactly, selected-exactly}
 use Rattle.rewritten_selection.specs.Choice.{heldRoom, Chosen, chosenBy, fitting, chosen, Left, left, leave, choiceLeft, DemandedOf, Demanded}
 
 -- the call's numbers by the second call's answer
@@ -58,11 +59,11 @@ reply-fits s B n h = go (readForRewriting s) refl
 -- o is what the second call read, r its answer and rows′ its rows
 record Chooses (o : Read (List ℕ)) (rows rows′ : List ℕ) (r : Selected) : Type 0 where
   answer : r ≡ answerOf (within (length rows) o)
-  rows-are : rows′ ≡ rowsAfter (within (length rows) o) rows
+  rows-left : rows′ ≡ rowsAfter (within (length rows) o) rows
 
 chooses : (rows held room : List ℕ) {rows′ room′ : List ℕ} {r : Selected} {made k : ℕ} (o : Read (List ℕ)) → Chooses o rows rows′ r → made ≡ k → room′ ≡ zeros room
     → answered r made rows′ (zeros held) room′ ≡ leave (andThen (onRead (λ ns. record { rows = ns; rounds = k }) o) (fitting (length rows))) rows held room
-chooses rows held room {k = k} o C f g = rw (C .answer, C .rows-are, f, g) (go o)
+chooses rows held room {k = k} o C f g = rw (C .answer, C .rows-left, f, g) (go o)
   where
     fit : (ns : List ℕ) (b : Bool) → answered (answerOf (need b longAnswer (got ns))) k (rowsAfter (need b longAnswer (got ns)) rows) (zeros held) (zeros room)
         ≡ leave (need b longAnswer (got (record { rows = ns; rounds = k }))) rows held room
@@ -147,8 +148,59 @@ module _ (s l rows held room : List ℕ) where
             let here : take (len - 0) (drop 0 held′) ≡ W .reply .bytes = ap (λ (k : ℕ). take k held′) n ∙ W .here in
             let same : choiceLeft s l rows held room ≡ leave (andThen (chosenBy l (W .reply)) (fitting (length rows))) rows held room =
             call-leaves ∙ ap (λ (x : Read Reply). leave (andThen (andThen x (chosenBy l)) (fitting (length rows))) rows held room) (W .is) in
-            chooses rows held room (selected (W .reply .bytes) l) (subst (λ (t : List ℕ). Chooses (selected t l) rows rows′ r) here (record { answer = S .answer; rows-are = S .rows }))
+            chooses rows held room (selected (W .reply .bytes) l) (subst (λ (t : List ℕ). Chooses (selected t l) rows rows′ r) here (record { answer = S .answer; rows-left = S .rows }))
             (W .counted) (W .cleared) ∙ sym same
+
+-- the rows that were written
+rows-are : (rows held room : List ℕ) {refusal count rounds k : ℕ} {rows′ held′ room′ : List ℕ} (ns : List ℕ)
+    → left refusal count rounds rows′ held′ room′ ≡ leave (got (record { rows = ns; rounds = k })) rows held room → ns ≡ take count rows′
+rows-are rows held room {count = count} ns e =
+    sym (ap (take count) (ap (λ (x : Left). x .rows) e) ∙ take-at ns (drop (length ns) rows) count (sym (ap (λ (x : Left). x .count) e)))
+
+-- ---- at every minimum: what is listed by the query as it was rewritten
+
+pub record Rewrote (s l rows : List ℕ) (rounds : ℕ) : Type 0 where
+  pub reply : Reply
+  pub is-rewritten : rewriteReply s ≡ got reply
+  pub counted : rounds ≡ reply .rounds
+  pub exactly : Exactly (reply .bytes) l rows
+
+module _ (s l rows held room : List ℕ) {count rounds : ℕ} {rows′ held′ room′ : List ℕ} where
+  not-zero : {A : Type 0} (r : Refusal) → left 0 count rounds rows′ held′ room′ ≡ leave (refused r) rows held room → A
+  not-zero r e = absurd (number-some r (sym (ap (λ (x : Left). x .refusal) e)))
+
+  pub rewrote : left 0 count rounds rows′ held′ room′ ≡ choiceLeft s l rows held room → Rewrote s l (take count rows′) rounds
+  unfolding choiceLeft
+  rewrote E = tests (leb heldRoom (length held)) (leb rewriteRoom (length room)) E
+    where
+      fits : (a : Reply) (ns : List ℕ) → rewriteReply s ≡ got a → selected (a .bytes) l ≡ got ns → (b : Bool)
+          → left 0 count rounds rows′ held′ room′ ≡ leave (need b longAnswer (got (record { rows = ns; rounds = a .rounds }))) rows held room
+          → Rewrote s l (take count rows′) rounds
+      fits a ns p q false e = not-zero longAnswer e
+      fits a ns p q true e = record {
+        reply = a;
+        is-rewritten = p;
+        counted = ap (λ (x : Left). x .rounds) e;
+        exactly = subst (Exactly (a .bytes) l) (rows-are rows held room ns e) (selected-exactly (a .bytes) l ns q);
+      }
+
+      lists : (a : Reply) → rewriteReply s ≡ got a → (o : Read (List ℕ)) → selected (a .bytes) l ≡ o
+          → left 0 count rounds rows′ held′ room′ ≡ leave (andThen (onRead (λ ns. record { rows = ns; rounds = a .rounds }) o) (fitting (length rows))) rows held room
+          → Rewrote s l (take count rows′) rounds
+      lists a p (refused r) q e = not-zero r e
+      lists a p (got ns) q e = fits a ns p q (leb (length ns) (length rows)) e
+
+      reads : (o : Read Reply) → rewriteReply s ≡ o
+          → left 0 count rounds rows′ held′ room′ ≡ leave (andThen (andThen o (chosenBy l)) (fitting (length rows))) rows held room
+          → Rewrote s l (take count rows′) rounds
+      reads (refused r) p e = not-zero r e
+      reads (got a) p e = lists a p (selected (a .bytes) l) refl e
+
+      tests : (a b : Bool) → left 0 count rounds rows′ held′ room′ ≡ leave (need a shortRoom (need b shortRoom (chosen s l (length rows)))) rows held room
+          → Rewrote s l (take count rows′) rounds
+      tests false b e = not-zero shortRoom e
+      tests true false e = not-zero shortRoom e
+      tests true true e = reads (rewriteReply s) refl e
 
 -- ---- demand 3 of the answer
 
@@ -187,9 +239,7 @@ module _ (s l rows held room : List ℕ) (B : Bytes s) {refusal count rounds : �
     all-taken : left refusal count rounds rows′ held′ room′ ≡ leave (got choice) rows held room → DemandedOf q rs rows held room refusal count rounds rows′
     unfolding choice
     all-taken e =
-        let n : count ≡ length (D .rows) = ap (λ (x : Left). x .count) e in
-        let w : D .rows ≡ take count rows′ =
-        sym (ap (take count) (ap (λ (x : Left). x .rows) e) ∙ take-at (D .rows) (drop (length (D .rows)) rows) count (sym n)) in
+        let w : D .rows ≡ take count rows′ = rows-are rows held room (D .rows) e in
         record {
           few = let k = ap (λ (x : Left). x .rounds) e in omega (arith, D .few);
           these = λ z k. subst (λ (ns : List ℕ). List·Memᴰ k ns ↔ IsChosen q rs k) w (D .these k);
