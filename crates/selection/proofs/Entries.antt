@@ -1,4 +1,4 @@
--- What the checked bytes of an entry show of it, and a search through a record's entries.
+-- What the checked bytes of an entry show of it, and what is asked of an entry by what it has.
 use mathlib.Core.Path.{_≡_, refl, sym, ap, _∙_}
 use mathlib.Core.Logic.{_⊎_, inl, inr, ⊎-elim}
 use Prim.Native.Nat.{ℕ, _+_, _≤_, _<_}
@@ -18,8 +18,6 @@ use Rattle.rules.specs.Matching.{isHere, isAt, followsFrom, startsOn, sameNumbe
 use Rattle.rules.proofs.Bools.{clash, split, and-l, and-r, either}
 use Rattle.rules.proofs.Parts.{empty-nil, length-body, length-whole, part-is, field-is, more-empty, less-empty}
 use Rattle.rules.proofs.Equal.{same-eq}
-use Rattle.rules.proofs.Rows.{some-done, some-yes, some-no}
-use Rattle.selection.proofs.Searches as searches
 use Rattle.selection.specs.Entry.{isPlace, isOf, fieldOf, textOf, positionOf, bitsOf}
 
 -- ---- one entry
@@ -229,26 +227,3 @@ other-size f t s h n = go (split (isHere f t (entryOf s)))
     go : (isHere f t (entryOf s) ≡ true) ⊎ (isHere f t (entryOf s) ≡ false) → false ≡ isHere f t (entryOf s)
     go (inl k) = absurd (n (here-size f t s h k))
     go (inr k) = sym k
-
--- ---- a search through a record's entries
-
--- the entries from e on decide
-abbrev pub Left : (Entry → Bool) → List ℕ → List ℕ → Type 0
-Left P rec e = searches.Left isEntry entryOf some P rec e
-
-pub search-all : {P : Entry → Bool} {rec : List ℕ} → every isEntry rec ≡ true → Left P rec rec
-search-all h = searches.left-all h
-
-module _ {P : Entry → Bool} {rec e : List ℕ} (L : Left P rec e) where
-  pub search-none : length e ≤ 0 → false ≡ some P (each entryOf rec)
-  search-none h = searches.left-answer L (some-done entryOf P e (less-empty e h))
-
-  module _ (more : 0 < length e) where
-    pub search-entry : isEntry e ≡ true
-    search-entry = searches.left-first L more
-
-    pub search-found : P (entryOf e) ≡ true → true ≡ some P (each entryOf rec)
-    search-found h = searches.left-answer L (some-yes entryOf P e (more-empty e more) h)
-
-    pub search-next : {u : List ℕ} → P (entryOf e) ≡ false → u ≡ restOf e → Left P rec u
-    search-next h k = searches.left-next L more (some-no entryOf P e (more-empty e more) h) k

@@ -18,10 +18,9 @@ use Rattle.rules.specs.Lists.{Entry}
 use Rattle.rules.specs.Matching.{isAt, followsFrom, startsOn, hasTerm, hasPhrase, hasRange, matches}
 use Rattle.rules.proofs.Bools.{and-l, and-r}
 use Rattle.rules.proofs.Parts.{part-is, field-is, none-empty, some-empty, more-empty, less-empty}
-use Rattle.rules.proofs.Rows.{first, others, each-done, each-next, all-done, all-yes, all-no}
+use Rattle.rules.proofs.Rows.{first, others, each-done, each-next}
 use Rattle.rules.proofs.Leaves.{BoundIs, is-open, is-included, is-excluded, bound-is, at-open, at-included, at-excluded}
 use Rattle.rules.proofs.Views.{View, v-term, v-phrase, v-boolean, v-boost, v-constantScore, v-matchAll, v-matchNone, v-whole, v-float, viewed, at-tag, AsTerm, as-term, AsPhrase, as-phrase, AsRange, as-range, as-match-all}
-use Rattle.selection.proofs.Searches as searches
 use Rattle.selection.specs.Order.{ordered, keeps}
 use Rattle.selection.specs.Truth.{Truth, StoredAs, IsLeaf}
 
@@ -66,27 +65,6 @@ word-long w h =
 pub follows-at : (es : List Entry) (f : List ℕ) (p x : ℕ) (s : List ℕ) {o : ℕ} {t : List ℕ} {r : Bool} → o ≡ ofBig (take 4 (bodyOf s)) → t ≡ drop 4 (bodyOf s)
     → r ≡ some (isAt f t p (o + x)) es → r ≡ followsFrom es f p x (wordOf s)
 follows-at es f p x s eo et h = h ∙ rw (eo, et)
-
--- the words from s on decide
-abbrev pub Left : (Word → Bool) → List ℕ → List ℕ → Type 0
-Left Q ws s = searches.Left isWord wordOf all Q ws s
-
-pub words-all : {Q : Word → Bool} {ws : List ℕ} → every isWord ws ≡ true → Left Q ws ws
-words-all h = searches.left-all h
-
-module _ {Q : Word → Bool} {ws s : List ℕ} (L : Left Q ws s) where
-  pub words-done : length s ≤ 0 → true ≡ all Q (each wordOf ws)
-  words-done h = searches.left-answer L (all-done wordOf Q s (less-empty s h))
-
-  module _ (more : 0 < length s) where
-    pub words-first : isWord s ≡ true
-    words-first = searches.left-first L more
-
-    pub words-fail : Q (wordOf s) ≡ false → false ≡ all Q (each wordOf ws)
-    words-fail h = searches.left-answer L (all-no wordOf Q s (more-empty s more) h)
-
-    pub words-next : {u : List ℕ} → Q (wordOf s) ≡ true → u ≡ restOf s → Left Q ws u
-    words-next h k = searches.left-next L more (all-yes wordOf Q s (more-empty s more) h) k
 
 module _ (s : List ℕ) where
   shown-phrase : (q : Query) → tagOf s ≡ phraseTag → Is s q → AsPhrase (bodyOf s) q
