@@ -8,13 +8,13 @@ use native.Mathlib.Omega.{arith}
 use lib.ListN.{length, take, drop, length-append}
 use lib.Seq.{take-at}
 use lib.Dec.{leb}
-use borrow.Author.Tests.{le-leb, lt-leb, leb-true}
-use Rattle.rules.specs.Numbers.{Refusal, number, Read, got, refused, need, onRead, andThen, longAnswer, shortRoom, rewriteRoom, rewriterBytes, rewriterDepth}
+use borrow.Author.Tests.{le-leb, lt-leb}
+use Rattle.rules.specs.Numbers.{Refusal, Read, got, refused, need, onRead, andThen, longAnswer, shortRoom, rewriteRoom, rewriterBytes, rewriterDepth}
 use Rattle.rules.specs.Bytes.{Bytes}
 use Rattle.rules.specs.Query.{Query}
 use Rattle.rules.specs.Stored.{encode}
 use Rattle.rules.specs.Reading.{readForRewriting}
-use Rattle.rules.specs.Rewriting.{weight, largest, Rewritten, rewritten, rewrite}
+use Rattle.rules.specs.Rewriting.{weight, Rewritten, rewritten, rewrite}
 use Rattle.rules.specs.Lists.{Entry, readList}
 use Rattle.rules.specs.Answers.{Reply, Left as CallLeft, zeros, leave as callLeaves, fitting as replyFitting, call, rewrittenReply, rewriteReply, rewriteLeft, selected}
 use Rattle.rules.proofs.Bools.{clash}

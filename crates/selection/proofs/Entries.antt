@@ -1,8 +1,8 @@
 -- What the checked bytes of an entry show of it, and what is asked of an entry by what it has.
 use mathlib.Core.Path.{_≡_, refl, sym, ap, _∙_}
 use mathlib.Core.Logic.{_⊎_, inl, inr, ⊎-elim}
-use Prim.Native.Nat.{ℕ, _+_, _≤_, _<_}
-use mathlib.Core.List.{List, [], _∷_}
+use Prim.Native.Nat.{ℕ, _+_, _≤_}
+use mathlib.Core.List.{List}
 use mathlib.Core.Bool.{Bool, true, false, _&&_, _||_, and-assoc}
 use lib.ListN.{length, take, drop, length-drop}
 use native.Mathlib.Omega.{arith}
@@ -10,13 +10,13 @@ use lib.Seq.{take-all}
 use lib.Dec.{leb, eqb}
 use borrow.Author.Tests.{leb-true, eqb-true}
 use Rattle.rules.specs.Numbers.{wordTag, placeTag, wholeTag, floatTag, valueTag}
-use Rattle.rules.specs.Bytes.{ofBig, isEmpty, isText, tagOf, sizeOf, bodyOf, restOf, wholeOf, isPart, isFieldPart, every, each, some, all, same}
+use Rattle.rules.specs.Bytes.{ofBig, isEmpty, isText, tagOf, sizeOf, bodyOf, restOf, wholeOf, isPart, isFieldPart, all, same}
 use Rattle.rules.specs.Query.{Word, Numbers, whole, float, Bound}
 use Rattle.rules.specs.Reading.{isWord}
 use Rattle.rules.specs.Lists.{Entry, place, value, isValue, isFieldWith, isEntry, entryOf}
 use Rattle.rules.specs.Matching.{isHere, isAt, followsFrom, startsOn, sameNumbers, liesIn, isInside}
 use Rattle.rules.proofs.Bools.{clash, split, and-l, and-r, either}
-use Rattle.rules.proofs.Parts.{empty-nil, length-body, length-whole, part-is, field-is, more-empty, less-empty}
+use Rattle.rules.proofs.Parts.{empty-nil, length-body, length-whole, part-is, field-is}
 use Rattle.rules.proofs.Equal.{same-eq}
 use Rattle.selection.specs.Entry.{isPlace, isOf, fieldOf, textOf, positionOf, bitsOf}
 

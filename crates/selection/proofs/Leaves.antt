@@ -1,23 +1,23 @@
 -- What the checked bytes of a leaf show of it, and what an answer about them says of the query's truth.
 use mathlib.Core.Path.{_≡_, refl, sym, ap, _∙_}
-use Prim.Native.Nat.{ℕ, _+_, _≤_, _<_}
-use mathlib.Core.List.{List, []}
+use Prim.Native.Nat.{ℕ, _+_, _≤_}
+use mathlib.Core.List.{List}
 use mathlib.Core.Bool.{Bool, true, false, _&&_, cond}
 use native.Mathlib.Omega.{arith}
 use lib.ListN.{length, take, drop}
 use lib.Seq.{take-all}
 use lib.Dec.{leb, eqb}
 use borrow.Author.Tests.{leb-true}
-use Rattle.rules.specs.Numbers.{termTag, phraseTag, matchAllTag, matchNoneTag, wholeRangeTag, floatRangeTag, fieldTag, textTag, wordTag, openTag, includedTag, excludedTag}
-use Rattle.rules.specs.Bytes.{ofBig, isEmpty, isText, tagOf, bodyOf, restOf, wholeOf, isPart, every, each, some, all}
-use Rattle.rules.specs.Query.{Word, Numbers, Query}
+use Rattle.rules.specs.Numbers.{termTag, phraseTag, matchAllTag, wholeRangeTag, floatRangeTag, fieldTag, textTag, wordTag, openTag, includedTag, excludedTag}
+use Rattle.rules.specs.Bytes.{ofBig, isText, tagOf, bodyOf, restOf, wholeOf, isPart, every, each, some, all}
+use Rattle.rules.specs.Query.{Numbers, Query}
 use Rattle.rules.specs.Stored.{rangeTag}
 use Rattle.rules.specs.Reading.{isWord, wordOf, isBound, boundOf}
 use Rattle.rules.specs.Checked.{Is, Stored}
 use Rattle.rules.specs.Lists.{Entry}
 use Rattle.rules.specs.Matching.{isAt, followsFrom, startsOn, hasTerm, hasPhrase, hasRange, matches}
 use Rattle.rules.proofs.Bools.{and-l, and-r}
-use Rattle.rules.proofs.Parts.{part-is, field-is, none-empty, some-empty, more-empty, less-empty}
+use Rattle.rules.proofs.Parts.{part-is, field-is, none-empty, some-empty}
 use Rattle.rules.proofs.Rows.{first, others, each-done, each-next}
 use Rattle.rules.proofs.Leaves.{BoundIs, is-open, is-included, is-excluded, bound-is, at-open, at-included, at-excluded}
 use Rattle.rules.proofs.Views.{View, v-term, v-phrase, v-boolean, v-boost, v-constantScore, v-matchAll, v-matchNone, v-whole, v-float, viewed, at-tag, AsTerm, as-term, AsPhrase, as-phrase, AsRange, as-range, as-match-all}

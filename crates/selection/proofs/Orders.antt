@@ -1,6 +1,6 @@
 -- The two orders of ranges: the signed one by turning the top bit, and the IEEE one, in which a NaN is below and above nothing.
 use mathlib.Core.Path.{_≡_, refl, sym, ap, _∙_, subst}
-use Prim.Native.Nat.{ℕ, suc, _+_, _-_, _≤_, _<_, _%_}
+use Prim.Native.Nat.{ℕ, suc, _-_, _≤_, _<_, _%_}
 use mathlib.Core.Bool.{Bool, true, false, not}
 use native.Mathlib.Omega.{arith}
 use native.Mathlib.Decide.{decLt}
@@ -14,7 +14,7 @@ use mir.Val.{toZ}
 use borrow.Author.Tests.{leb-true, leb-false, le-leb, lt-leb, lt-ltb, le-ltb}
 use Rattle.rules.specs.Query.{float}
 use Rattle.rules.proofs.Bools.{clash}
-use Rattle.selection.specs.Order.{half, Turned, ordered}
+use Rattle.selection.specs.Order.{Turned, ordered}
 
 -- two tests that say the same, or the opposite
 leb-same : (x y z w : ℕ) → (x ≤ y → z ≤ w) → (y < x → w < z) → leb x y ≡ leb z w
