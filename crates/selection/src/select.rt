@@ -31,9 +31,9 @@ pub enum Selected {
 fn checked(query: &[u8], list: &[u8]) -> u8
     ensures { λ r. ⌜ r ≡ numberOf (selected (now (query .entry)) (now (list .entry))) ⌝ }
 {
-    let n = for_selection(query);
-    if n != 0 {
-        return n;
+    let fault = for_selection(query);
+    if fault != 0 {
+        return fault;
     }
     check_list(list)
 }
