@@ -1,8 +1,8 @@
--- What the checked bytes of an entry show of it, and a search through a record's entries.
+-- What the checked bytes of an entry show of it, and what is asked of an entry by what it has.
 use mathlib.Core.Path.{_≡_, refl, sym, ap, _∙_}
 use mathlib.Core.Logic.{_⊎_, inl, inr, ⊎-elim}
-use Prim.Native.Nat.{ℕ, _+_, _≤_, _<_}
-use mathlib.Core.List.{List, [], _∷_}
+use Prim.Native.Nat.{ℕ, _+_, _≤_}
+use mathlib.Core.List.{List}
 use mathlib.Core.Bool.{Bool, true, false, _&&_, _||_, and-assoc}
 use lib.ListN.{length, take, drop, length-drop}
 use native.Mathlib.Omega.{arith}
@@ -10,15 +10,14 @@ use lib.Seq.{take-all}
 use lib.Dec.{leb, eqb}
 use borrow.Author.Tests.{leb-true, eqb-true}
 use Rattle.rules.specs.Numbers.{wordTag, placeTag, wholeTag, floatTag, valueTag}
-use Rattle.rules.specs.Bytes.{ofBig, isEmpty, isText, tagOf, sizeOf, bodyOf, restOf, wholeOf, isPart, isFieldPart, every, each, some, all, same}
+use Rattle.rules.specs.Bytes.{ofBig, isEmpty, isText, tagOf, sizeOf, bodyOf, restOf, wholeOf, isPart, isFieldPart, all, same}
 use Rattle.rules.specs.Query.{Word, Numbers, whole, float, Bound}
 use Rattle.rules.specs.Reading.{isWord}
 use Rattle.rules.specs.Lists.{Entry, place, value, isValue, isFieldWith, isEntry, entryOf}
 use Rattle.rules.specs.Matching.{isHere, isAt, followsFrom, startsOn, sameNumbers, liesIn, isInside}
 use Rattle.rules.proofs.Bools.{clash, split, and-l, and-r, either}
-use Rattle.rules.proofs.Parts.{empty-nil, length-body, length-whole, part-is, field-is, more-empty, less-empty}
+use Rattle.rules.proofs.Parts.{empty-nil, length-body, length-whole, part-is, field-is}
 use Rattle.rules.proofs.Equal.{same-eq}
-use Rattle.rules.proofs.Rows.{first, others, some-done, some-yes, some-no}
 use Rattle.selection.specs.Entry.{isPlace, isOf, fieldOf, textOf, positionOf, bitsOf}
 
 -- ---- one entry
@@ -228,30 +227,3 @@ other-size f t s h n = go (split (isHere f t (entryOf s)))
     go : (isHere f t (entryOf s) ≡ true) ⊎ (isHere f t (entryOf s) ≡ false) → false ≡ isHere f t (entryOf s)
     go (inl k) = absurd (n (here-size f t s h k))
     go (inr k) = sym k
-
--- ---- a search through a record's entries
-
--- the entries from e on decide
-pub record Left (P : Entry → Bool) (rec e : List ℕ) : Type 0 where
-  pub good : every isEntry e ≡ true
-  pub decides : some P (each entryOf rec) ≡ some P (each entryOf e)
-
-pub search-all : {P : Entry → Bool} {rec : List ℕ} → every isEntry rec ≡ true → Left P rec rec
-search-all h = record { good = h; decides = refl }
-
-module _ {P : Entry → Bool} {rec e : List ℕ} (L : Left P rec e) where
-  pub search-none : length e ≤ 0 → false ≡ some P (each entryOf rec)
-  search-none h = sym (L .decides ∙ some-done entryOf P e (less-empty e h))
-
-  module _ (more : 0 < length e) where
-    pub search-entry : isEntry e ≡ true
-    search-entry = first isEntry e (more-empty e more) (L .good)
-
-    pub search-found : P (entryOf e) ≡ true → true ≡ some P (each entryOf rec)
-    search-found h = sym (L .decides ∙ some-yes entryOf P e (more-empty e more) h)
-
-    pub search-next : {u : List ℕ} → P (entryOf e) ≡ false → u ≡ restOf e → Left P rec u
-    search-next h k = rw k (record {
-      good = others isEntry e (more-empty e more) (L .good);
-      decides = L .decides ∙ some-no entryOf P e (more-empty e more) h;
-    })

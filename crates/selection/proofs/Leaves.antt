@@ -1,26 +1,27 @@
 -- What the checked bytes of a leaf show of it, and what an answer about them says of the query's truth.
 use mathlib.Core.Path.{_≡_, refl, sym, ap, _∙_}
-use Prim.Native.Nat.{ℕ, _+_, _≤_, _<_}
-use mathlib.Core.List.{List, []}
-use mathlib.Core.Bool.{Bool, true, false, _&&_}
+use Prim.Native.Nat.{ℕ, _+_, _≤_}
+use mathlib.Core.List.{List}
+use mathlib.Core.Bool.{Bool, true, false, _&&_, cond}
 use native.Mathlib.Omega.{arith}
 use lib.ListN.{length, take, drop}
 use lib.Seq.{take-all}
-use lib.Dec.{leb}
+use lib.Dec.{leb, eqb}
 use borrow.Author.Tests.{leb-true}
-use Rattle.rules.specs.Numbers.{termTag, phraseTag, matchAllTag, matchNoneTag, wholeRangeTag, floatRangeTag, fieldTag, textTag, wordTag, openTag, includedTag, excludedTag}
-use Rattle.rules.specs.Bytes.{ofBig, isEmpty, isText, tagOf, bodyOf, restOf, wholeOf, isPart, every, each, some, all}
-use Rattle.rules.specs.Query.{Word, Numbers, Query}
+use Rattle.rules.specs.Numbers.{termTag, phraseTag, matchAllTag, wholeRangeTag, floatRangeTag, fieldTag, textTag, wordTag, openTag, includedTag, excludedTag}
+use Rattle.rules.specs.Bytes.{ofBig, isText, tagOf, bodyOf, restOf, wholeOf, isPart, every, each, some, all}
+use Rattle.rules.specs.Query.{Numbers, Query}
 use Rattle.rules.specs.Stored.{rangeTag}
 use Rattle.rules.specs.Reading.{isWord, wordOf, isBound, boundOf}
 use Rattle.rules.specs.Checked.{Is, Stored}
 use Rattle.rules.specs.Lists.{Entry}
 use Rattle.rules.specs.Matching.{isAt, followsFrom, startsOn, hasTerm, hasPhrase, hasRange, matches}
 use Rattle.rules.proofs.Bools.{and-l, and-r}
-use Rattle.rules.proofs.Parts.{part-is, field-is, none-empty, some-empty, more-empty, less-empty}
-use Rattle.rules.proofs.Rows.{first, others, each-done, each-next, all-done, all-yes, all-no}
-use Rattle.rules.proofs.Leaves.{BoundIs, is-open, is-included, is-excluded, bound-is}
+use Rattle.rules.proofs.Parts.{part-is, field-is, none-empty, some-empty}
+use Rattle.rules.proofs.Rows.{first, others, each-done, each-next}
+use Rattle.rules.proofs.Leaves.{BoundIs, is-open, is-included, is-excluded, bound-is, at-open, at-included, at-excluded}
 use Rattle.rules.proofs.Views.{View, v-term, v-phrase, v-boolean, v-boost, v-constantScore, v-matchAll, v-matchNone, v-whole, v-float, viewed, at-tag, AsTerm, as-term, AsPhrase, as-phrase, AsRange, as-range, as-match-all}
+use Rattle.selection.specs.Order.{ordered, keeps}
 use Rattle.selection.specs.Truth.{Truth, StoredAs, IsLeaf}
 
 pub stored-whole : {s : List ℕ} → Stored s → wholeOf s ≡ true
@@ -64,31 +65,6 @@ word-long w h =
 pub follows-at : (es : List Entry) (f : List ℕ) (p x : ℕ) (s : List ℕ) {o : ℕ} {t : List ℕ} {r : Bool} → o ≡ ofBig (take 4 (bodyOf s)) → t ≡ drop 4 (bodyOf s)
     → r ≡ some (isAt f t p (o + x)) es → r ≡ followsFrom es f p x (wordOf s)
 follows-at es f p x s eo et h = h ∙ rw (eo, et)
-
--- the words from s on decide
-pub record Left (Q : Word → Bool) (ws s : List ℕ) : Type 0 where
-  pub good : every isWord s ≡ true
-  pub decides : all Q (each wordOf ws) ≡ all Q (each wordOf s)
-
-pub words-all : {Q : Word → Bool} {ws : List ℕ} → every isWord ws ≡ true → Left Q ws ws
-words-all h = record { good = h; decides = refl }
-
-module _ {Q : Word → Bool} {ws s : List ℕ} (L : Left Q ws s) where
-  pub words-done : length s ≤ 0 → true ≡ all Q (each wordOf ws)
-  words-done h = sym (L .decides ∙ all-done wordOf Q s (less-empty s h))
-
-  module _ (more : 0 < length s) where
-    pub words-first : isWord s ≡ true
-    words-first = first isWord s (more-empty s more) (L .good)
-
-    pub words-fail : Q (wordOf s) ≡ false → false ≡ all Q (each wordOf ws)
-    words-fail h = sym (L .decides ∙ all-no wordOf Q s (more-empty s more) h)
-
-    pub words-next : {u : List ℕ} → Q (wordOf s) ≡ true → u ≡ restOf s → Left Q ws u
-    words-next h k = rw k (record {
-      good = others isWord s (more-empty s more) (L .good);
-      decides = L .decides ∙ all-yes wordOf Q s (more-empty s more) h;
-    })
 
 module _ (s : List ℕ) where
   shown-phrase : (q : Query) → tagOf s ≡ phraseTag → Is s q → AsPhrase (bodyOf s) q
@@ -137,6 +113,10 @@ module _ (t : List ℕ) (h : isBound t ≡ true) where
       go (is-included i l) = part-is includedTag t i .0
       go (is-excluded i l) = part-is excludedTag t i .0
 
+  pub open-says : (k : Numbers) (upper : Bool) (x : ℕ) → tagOf t ≡ openTag → true ≡ keeps upper k (boundOf t) x
+  open-says k true x e = rw (at-open t e)
+  open-says k false x e = rw (at-open t e)
+
   -- a bound that is not open has a number
   module _ (n : tagOf t ≡ openTag → ⊥) where
     pub limit-long : length (bodyOf t) ≡ 8
@@ -150,13 +130,17 @@ module _ (t : List ℕ) (h : isBound t ≡ true) where
     pub limit-is : {w : List ℕ} {v : ℕ} → w ≡ bodyOf t → v ≡ ofBig (take 8 w) → v ≡ ofBig (bodyOf t)
     limit-is ew ev = ev ∙ rw ew (ap ofBig (take-all 8 (bodyOf t) (omega (arith, limit-long))))
 
-    pub limit-excluded : (tagOf t ≡ includedTag → ⊥) → tagOf t ≡ excludedTag
-    limit-excluded m = go (bound-is t h)
+    -- what it asks of x, on either side
+    pub limit-says : (k : Numbers) (upper : Bool) (x : ℕ) {v g : ℕ} {r : Bool} → v ≡ ofBig (bodyOf t) → g ≡ tagOf t
+        → r ≡ ordered (eqb g excludedTag) k (cond upper x v) (cond upper v x) → r ≡ keeps upper k (boundOf t) x
+    limit-says k upper x {v} e f m = m ∙ rw f (go (bound-is t h) upper)
       where
-        go : BoundIs t → tagOf t ≡ excludedTag
-        go (is-open i e) = absurd (n (part-is openTag t i .1))
-        go (is-included i l) = absurd (m (part-is includedTag t i .1))
-        go (is-excluded i l) = part-is excludedTag t i .1
+        go : BoundIs t → (u : Bool) → ordered (eqb (tagOf t) excludedTag) k (cond u x v) (cond u v x) ≡ keeps u k (boundOf t) x
+        go (is-open i f) u = absurd (n (part-is openTag t i .1))
+        go (is-included i l) true = let g = part-is includedTag t i .1 in rw (at-included t g, g, e)
+        go (is-included i l) false = let g = part-is includedTag t i .1 in rw (at-included t g, g, e)
+        go (is-excluded i l) true = let g = part-is excludedTag t i .1 in rw (at-excluded t g, g, e)
+        go (is-excluded i l) false = let g = part-is excludedTag t i .1 in rw (at-excluded t g, g, e)
 
 module _ (n : Numbers) (s : List ℕ) where
   shown-range : (q : Query) → tagOf s ≡ rangeTag n → Is s q → AsRange n (bodyOf s) q

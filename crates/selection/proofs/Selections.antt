@@ -1,20 +1,20 @@
 -- From what selection's parts say to its own contracts: what was checked, one record after the other, and rows as they fill.
 use mathlib.Core.Path.{_≡_, refl, sym, ap, _∙_}
-use Prim.Native.Nat.{ℕ, zero, suc, _+_, _-_, _*_, _/_, _≤_, _<_}
+use Prim.Native.Nat.{ℕ, suc, _+_, _*_, _/_, _≤_, _<_}
 use mathlib.Core.List.{List, [], _∷_, _++_, append-nil, append-assoc}
-use mathlib.Core.Bool.{Bool, true, false, _&&_, cond}
+use mathlib.Core.Bool.{Bool, true, false, cond}
 use native.Mathlib.Omega.{arith}
 use native.Mathlib.Numerals.{add-one}
-use lib.ListN.{length, getD, take, drop, set, replicate, length-append, length-drop, take-append-drop}
+use lib.ListN.{length, take, drop, set, length-append, length-drop, take-append-drop}
 use lib.Seq.{take-at, drop-at, drop-drop, set-split}
 use lib.Dec.{leb}
-use borrow.Author.Tests.{le-leb, lt-leb, leb-true, leb-false}
-use Rattle.rules.specs.Numbers.{recordTag, listMost, longAnswer, shortRoom, selectionBytes, selectionDepth, Read, got, refused, number, need, onRead, andThen}
-use Rattle.rules.specs.Bytes.{Bytes, big, isEmpty, bodyOf, restOf, wholeOf, isPart, every, each}
+use borrow.Author.Tests.{le-leb, leb-true}
+use Rattle.rules.specs.Numbers.{recordTag, listMost, longAnswer, selectionBytes, selectionDepth, Read, got, refused, number, onRead, andThen}
+use Rattle.rules.specs.Bytes.{Bytes, big, bodyOf, restOf, wholeOf, isPart, every, each}
 use Rattle.rules.specs.Query.{Query}
 use Rattle.rules.specs.Reading.{numberOf, readForSelection}
 use Rattle.rules.specs.Checked.{Is}
-use Rattle.rules.specs.Lists.{Entry, isEntry, entryOf, isRecord, recordOf, readList}
+use Rattle.rules.specs.Lists.{isEntry, entryOf, isRecord, recordOf, readList}
 use Rattle.rules.specs.Matching.{bit, matches, chosenFrom, chosen}
 use Rattle.rules.specs.Answers.{Left, zeros, leave, fitting, call, selected, rowBytes, rowsReply, selectLeft}
 use Rattle.rules.proofs.Bools.{alike, and-l, and-r}
@@ -23,9 +23,8 @@ use Rattle.rules.proofs.Bigs.{length-big}
 use Rattle.rules.proofs.Parts.{part-is, less-empty, more-empty, rest-shorter}
 use Rattle.rules.proofs.Rows.{first, others, each-done, each-next, Row, done, next, row}
 use Rattle.rules.proofs.Accepted.{Accepted, accepted, Listed, listed as list-accepted}
-use Rattle.rules.proofs.Choices.{Selection, selection, selected-is, chosen-few}
+use Rattle.rules.proofs.Choices.{selection, selected-is, chosen-few}
 use Rattle.stored.specs.Laid.{laid, Put}
-use Rattle.selection.specs.declared.select.Selected.{Selected}
 use Rattle.selection.specs.declared.select.Selected.the-variants.{Refused, Chosen}
 use Rattle.selection.specs.Truth.{Truth, StoredFor}
 use Rattle.selection.specs.Select.{listed, within, answerOf, rowsAfter, Selects, told, SelectsBytes}
@@ -305,7 +304,7 @@ module _ (s l : List ℕ) where
 
 -- ---- the answers in bytes
 
-length-rows : (ns : List ℕ) → length (rowBytes ns) ≡ 4 * length ns
+pub length-rows : (ns : List ℕ) → length (rowBytes ns) ≡ 4 * length ns
 unfolding rowBytes
 length-rows [] = refl
 length-rows (n ∷ ns) = length-append (big 4 n) (rowBytes ns) ∙ (let i = length-rows ns in omega (arith, length-big 4 n))

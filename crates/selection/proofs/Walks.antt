@@ -1,17 +1,15 @@
 -- The walk through a stored query: each of its moves keeps what the whole query comes to.
-use mathlib.Core.Path.{_≡_, refl, sym, ap, _∙_, subst, subst₂}
+use mathlib.Core.Path.{_≡_, refl, sym, ap, _∙_, subst₂}
 use Prim.Native.Nat.{ℕ, zero, suc, _+_, _-_, _≤_, _<_}
 use mathlib.Core.List.{List, [], _∷_}
-use mathlib.Core.Bool.{Bool, true, false, _&&_, and-false}
+use mathlib.Core.Bool.{Bool, true, false, and-false}
 use native.Mathlib.Omega.{arith}
-use native.Mathlib.Nat.{add-sub-cancel-left}
 use lib.ListN.{length, getD, take, drop, set, length-take, length-drop}
 use lib.Seq.{take-nil, take-take, take-all, drop-drop, getD-set-same, getD-set-other}
 use lib.Dec.{leb}
 use Rattle.rules.specs.Numbers.{booleanTag, boostTag, constantScoreTag, minimumTag, shouldTag, selectionDepth}
-use Rattle.rules.specs.Bytes.{ofBig, isEmpty, tagOf, sizeOf, bodyOf, restOf, wholeOf}
-use Rattle.rules.specs.Query.{Kind, should, Query, boolean, boost, constantScore, Clauses, none, clause, depth, depths}
-use Rattle.rules.specs.Stored.{kindTag, encode, encodes, Valid, Valids}
+use Rattle.rules.specs.Bytes.{ofBig, tagOf, sizeOf, bodyOf, restOf, wholeOf}
+use Rattle.rules.specs.Query.{Kind, should, Query, Clauses, none, clause, depth, depths}
 use Rattle.rules.specs.Reading.{kindOf}
 use Rattle.rules.specs.Checked.{Is, Are, StoredClauses}
 use Rattle.rules.specs.Lists.{Entry}
@@ -20,7 +18,7 @@ use Rattle.rules.proofs.Bools.{and-no-l}
 use Rattle.rules.proofs.Parts.{less-empty, more-empty, length-body, length-whole, whole-le, part-is}
 use Rattle.rules.proofs.Tags.{kind-back}
 use Rattle.rules.proofs.Equal.{encode-injective}
-use Rattle.rules.proofs.Views.{View, viewed, at-tag, AsBoolean, as-boolean, AsBoost, as-boost, AsConstantScore, as-constant-score, Front, front-of, no-front}
+use Rattle.rules.proofs.Views.{View, viewed, at-tag, AsBoolean, as-boolean, as-boost, as-constant-score, Front, front-of, no-front}
 use Rattle.selection.specs.declared.level.Level.{Level}
 use Rattle.selection.specs.declared.truth.Next.{Next}
 use Rattle.selection.specs.declared.truth.Next.the-variants.{Done, Query as Goes}

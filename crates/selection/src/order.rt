@@ -1,35 +1,27 @@
 // The two orders of ranges, over 64 bits each: whole numbers are signed, and floats go by IEEE, so that a NaN is in no order and both zeros
 // are equal. `float` says which.
 ghost use mathlib.Core.Path.{_≡_};
-ghost use lib.Ieee.{binary64, ofBits, isNan, le, lt};
-ghost use lib.Signed.{leZ, ltZ};
-ghost use mir.Syntax.{w64};
-ghost use mir.Val.{toZ};
-ghost use Rattle.rules.specs.Matching.{atMost, below, isNumber};
+ghost use lib.Ieee.{binary64, ofBits, isNan};
+ghost use Rattle.rules.specs.Query.{whole, float};
+ghost use Rattle.rules.specs.Matching.{isNumber};
 ghost use Rattle.selection.specs.Entry.{numbers};
-ghost use Rattle.selection.specs.Order.{Turned};
+ghost use Rattle.selection.specs.Order.{Turned, ordered};
+
+const TOP: u64 = 0x8000_0000_0000_0000;
 
 // With its top bit turned: the signed order of x is the unsigned order of the answer.
 fn turned(x: u64) -> u64
     ensures { λ r. ⌜ Turned x r ⌝ }
 {
-    if x < 0x8000_0000_0000_0000 {
-        x + 0x8000_0000_0000_0000
-    } else {
-        x - 0x8000_0000_0000_0000
-    }
+    if x < TOP { x + TOP } else { x - TOP }
 }
 
-fn whole_le(a: u64, b: u64) -> bool
-    ensures { λ r. ⌜ r ≡ leZ (toZ w64 a) (toZ w64 b) ⌝ }
+fn whole_ordered(strict: bool, a: u64, b: u64) -> bool
+    ensures { λ r. ⌜ r ≡ ordered strict whole a b ⌝ }
 {
-    turned(a) <= turned(b)
-}
-
-fn whole_lt(a: u64, b: u64) -> bool
-    ensures { λ r. ⌜ r ≡ ltZ (toZ w64 a) (toZ w64 b) ⌝ }
-{
-    turned(a) < turned(b)
+    let x = turned(a);
+    let y = turned(b);
+    if strict { x < y } else { x <= y }
 }
 
 // A NaN has all bits of the exponent and some bit of the significand, whatever its sign.
@@ -39,8 +31,8 @@ fn is_nan(x: u64) -> bool
     0x7ff0_0000_0000_0000 < x % 0x8000_0000_0000_0000
 }
 
-fn float_le(a: u64, b: u64) -> bool
-    ensures { λ r. ⌜ r ≡ le (ofBits binary64 a) (ofBits binary64 b) ⌝ }
+fn float_ordered(strict: bool, a: u64, b: u64) -> bool
+    ensures { λ r. ⌜ r ≡ ordered strict float a b ⌝ }
 {
     if is_nan(a) {
         return false;
@@ -48,38 +40,19 @@ fn float_le(a: u64, b: u64) -> bool
     if is_nan(b) {
         return false;
     }
-    f64::from_bits(a) <= f64::from_bits(b)
+    let low = f64::from_bits(a);
+    let high = f64::from_bits(b);
+    if strict { low < high } else { low <= high }
 }
 
-fn float_lt(a: u64, b: u64) -> bool
-    ensures { λ r. ⌜ r ≡ lt (ofBits binary64 a) (ofBits binary64 b) ⌝ }
-{
-    if is_nan(a) {
-        return false;
-    }
-    if is_nan(b) {
-        return false;
-    }
-    f64::from_bits(a) < f64::from_bits(b)
-}
-
-pub fn at_most(float: bool, a: u64, b: u64) -> bool
-    ensures { λ r. ⌜ r ≡ atMost (numbers float) a b ⌝ }
+// Whether a is below b, or at most b where `strict` is false.
+pub fn ordered(float: bool, strict: bool, a: u64, b: u64) -> bool
+    ensures { λ r. ⌜ r ≡ ordered strict (numbers float) a b ⌝ }
 {
     if float {
-        float_le(a, b)
+        float_ordered(strict, a, b)
     } else {
-        whole_le(a, b)
-    }
-}
-
-pub fn below(float: bool, a: u64, b: u64) -> bool
-    ensures { λ r. ⌜ r ≡ below (numbers float) a b ⌝ }
-{
-    if float {
-        float_lt(a, b)
-    } else {
-        whole_lt(a, b)
+        whole_ordered(strict, a, b)
     }
 }
 

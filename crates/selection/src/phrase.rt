@@ -67,7 +67,8 @@ fn starts_on(f: &[u8], p: u64, t: &[u8], ws: &[u8], rec: &[u8], e: &[u8]) -> boo
     if !is_here(f, t, e) {
         return false;
     }
-    follow(f, p, position(e), ws, rec)
+    let x = position(e);
+    follow(f, p, x, ws, rec)
 }
 
 fn has_start(f: &[u8], p: u64, t: &[u8], ws: &[u8], rec: &[u8]) -> bool
@@ -92,7 +93,7 @@ pub fn phrase_true(q: &[u8], rec: &[u8]) -> bool
     let b = body(q);
     let ws = rest(b);
     if ws.len() == 0 {
-        return false;
+        return false; // a phrase has words
     }
     let w = body(ws);
     has_start(body(b), big4(w) as u64, &w[4..], rest(ws), rec)

@@ -2,9 +2,8 @@
 use super::entry::field;
 use super::entry::is_of;
 use super::entry::number;
-use super::order::at_most;
-use super::order::below;
 use super::order::is_number;
+use super::order::ordered;
 use stored::big::big8;
 use stored::bytes::same;
 use stored::part::body;
@@ -14,41 +13,28 @@ ghost use mathlib.Core.Path.{_≡_};
 ghost use mathlib.Core.Bool.{true};
 ghost use Rattle.rules.specs.Bytes.{every, each};
 ghost use Rattle.rules.specs.Lists.{isEntry, entryOf};
-ghost use Rattle.rules.specs.Matching.{overLower, underUpper, liesIn, isInside, hasRange};
+ghost use Rattle.rules.specs.Matching.{liesIn, isInside, hasRange};
 ghost use Rattle.rules.specs.Reading.{isBound, boundOf};
 ghost use Rattle.rules.specs.Stored.{rangeTag};
 ghost use Rattle.selection.specs.Entry.{numbers};
+ghost use Rattle.selection.specs.Order.{keeps};
 ghost use Rattle.selection.specs.Truth.{StoredAs, Truth};
 
-fn over_lower(float: bool, t: &[u8], x: u64) -> bool
+// Whether x is on the inner side of a bound, the upper or the lower one.
+fn keeps(float: bool, upper: bool, t: &[u8], x: u64) -> bool
     requires { ⌜ isBound (now t) ≡ true ⌝ }
-    ensures { λ r. ⌜ r ≡ overLower (numbers float) (boundOf (now (t .entry))) x ⌝ }
+    ensures { λ r. ⌜ r ≡ keeps upper (numbers float) (boundOf (now (t .entry))) x ⌝ }
 {
     let tag = tag_of(t);
     if tag == 0x30 {
         return true;
     }
     let b = big8(body(t));
-    if tag == 0x31 {
-        at_most(float, b, x)
+    let strict = tag == 0x32;
+    if upper {
+        ordered(float, strict, x, b)
     } else {
-        below(float, b, x)
-    }
-}
-
-fn under_upper(float: bool, t: &[u8], x: u64) -> bool
-    requires { ⌜ isBound (now t) ≡ true ⌝ }
-    ensures { λ r. ⌜ r ≡ underUpper (numbers float) (boundOf (now (t .entry))) x ⌝ }
-{
-    let tag = tag_of(t);
-    if tag == 0x30 {
-        return true;
-    }
-    let b = big8(body(t));
-    if tag == 0x31 {
-        at_most(float, x, b)
-    } else {
-        below(float, x, b)
+        ordered(float, strict, b, x)
     }
 }
 
@@ -59,10 +45,10 @@ fn lies_in(float: bool, l: &[u8], u: &[u8], x: u64) -> bool
     if !is_number(float, x) {
         return false;
     }
-    if !over_lower(float, l, x) {
+    if !keeps(float, false, l, x) {
         return false;
     }
-    under_upper(float, u, x)
+    keeps(float, true, u, x)
 }
 
 fn is_inside(float: bool, f: &[u8], l: &[u8], u: &[u8], e: &[u8]) -> bool

@@ -31,9 +31,9 @@ pub enum Selected {
 fn checked(query: &[u8], list: &[u8]) -> u8
     ensures { λ r. ⌜ r ≡ numberOf (selected (now (query .entry)) (now (list .entry))) ⌝ }
 {
-    let n = for_selection(query);
-    if n != 0 {
-        return n;
+    let fault = for_selection(query);
+    if fault != 0 {
+        return fault;
     }
     check_list(list)
 }
@@ -84,6 +84,9 @@ fn fits(query: &[u8], list: &[u8], n: usize) -> bool
     count(query, list) <= n
 }
 
+// The number of a list's first record.
+const FIRST: u32 = 0;
+
 // ---- rows of 32-bit numbers
 
 // The number i goes to w where y is true; the answer is where the next one goes.
@@ -106,7 +109,7 @@ fn fill(query: &[u8], list: &[u8], rows: &mut [u32]) -> usize
 {
     let mut row = [0u64; 192];
     let mut w: usize = 0;
-    let mut i: u32 = 0;
+    let mut i = FIRST;
     let mut t = list;
     while t.len() > 0 {
         let y = holds(query, body(t), &mut row);
@@ -148,7 +151,7 @@ fn fill_bytes(query: &[u8], list: &[u8], rows: &mut [u8]) -> usize
 {
     let mut row = [0u64; 192];
     let mut w: usize = 0;
-    let mut i: u32 = 0;
+    let mut i = FIRST;
     let mut t = list;
     while t.len() > 0 {
         let y = holds(query, body(t), &mut row);
