@@ -1,4 +1,5 @@
 -- What an exported call leaves, by the four numbers of its answer.
+use mathlib.Core.Path.{_≡_}
 use Prim.Native.Nat.{ℕ}
 use mathlib.Core.List.{List}
 use Rattle.rules.specs.Answers.{Left}
@@ -9,3 +10,7 @@ left refusal len count rounds output room = record {
   output = output;
   room = room;
 }
+
+-- an answer that tells these four numbers
+abbrev pub Told : ℕ → ℕ → ℕ → ℕ → ℕ → ℕ → ℕ → ℕ → Type 0
+Told refusal len count rounds refusal′ len′ count′ rounds′ = (refusal′ ≡ refusal) × (len′ ≡ len) × (count′ ≡ count) × (rounds′ ≡ rounds)

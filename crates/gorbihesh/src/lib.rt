@@ -8,7 +8,7 @@ use selection::select::select_bytes;
 ghost use mathlib.Core.Path.{_≡_};
 ghost use Rattle.rules.specs.Numbers.{parseRoom, rewriteRoom, selectRoom};
 ghost use Rattle.rules.specs.Answers.{parseLeft, rewriteLeft, selectLeft};
-ghost use Rattle.gorbihesh.specs.Edge.{left};
+ghost use Rattle.gorbihesh.specs.Edge.{left, Told};
 
 // The refusal's number or 0, the bytes written, the records chosen, the rounds made.
 #[repr(C)]
@@ -19,14 +19,14 @@ pub struct Answer {
     pub rounds: u32,
 }
 
-fn refused(number: u8) -> Answer
-    ensures { λ r. ⌜ (r .refusal ≡ number) × (r .length ≡ 0) × (r .count ≡ 0) × (r .rounds ≡ 0) ⌝ }
+fn told(refusal: u32, length: u32, count: u32, rounds: u32) -> Answer
+    ensures { λ r. ⌜ Told refusal length count rounds (r .refusal) (r .length) (r .count) (r .rounds) ⌝ }
 {
     Answer {
-        refusal: number as u32,
-        length: 0,
-        count: 0,
-        rounds: 0,
+        refusal,
+        length,
+        count,
+        rounds,
     }
 }
 
@@ -43,13 +43,8 @@ pub extern "C" fn gorbihesh_parse(
     ensures { λ r. ⌜ left (r .refusal) (r .length) (r .count) (r .rounds) (now (out .exit)) (now (room .exit)) ≡ parseLeft operator analyzer (now (field .entry)) (now (fields .entry)) (now (text .entry)) (now (out .entry)) (now (room .entry)) ⌝ }
 {
     match parse(operator, analyzer, field, fields, text, out, room) {
-        Parsed::Refused(number) => refused(number),
-        Parsed::Bytes(len) => Answer {
-            refusal: 0,
-            length: len as u32,
-            count: 0,
-            rounds: 0,
-        },
+        Parsed::Refused(number) => told(number as u32, 0, 0, 0),
+        Parsed::Bytes(len) => told(0, len as u32, 0, 0),
     }
 }
 
@@ -58,12 +53,7 @@ pub extern "C" fn gorbihesh_rewrite(query: &[u8], out: &mut [u8], room: &mut [u8
     ensures { λ r. ⌜ left (r .refusal) (r .length) (r .count) (r .rounds) (now (out .exit)) (now (room .exit)) ≡ rewriteLeft (now (query .entry)) (now (out .entry)) (now (room .entry)) ⌝ }
 {
     let a = rewrite(query, out, room);
-    Answer {
-        refusal: a.refusal as u32,
-        length: a.len as u32,
-        count: 0,
-        rounds: a.rounds as u32,
-    }
+    told(a.refusal as u32, a.len as u32, 0, a.rounds as u32)
 }
 
 #[no_mangle]
@@ -76,13 +66,8 @@ pub extern "C" fn gorbihesh_select(
     ensures { λ r. ⌜ left (r .refusal) (r .length) (r .count) (r .rounds) (now (rows .exit)) (now (room .exit)) ≡ selectLeft (now (query .entry)) (now (list .entry)) (now (rows .entry)) (now (room .entry)) ⌝ }
 {
     match select_bytes(query, list, rows, room) {
-        Selected::Refused(number) => refused(number),
-        Selected::Chosen(count) => Answer {
-            refusal: 0,
-            length: 4 * count as u32,
-            count: count as u32,
-            rounds: 0,
-        },
+        Selected::Refused(number) => told(number as u32, 0, 0, 0),
+        Selected::Chosen(count) => told(0, 4 * count as u32, count as u32, 0),
     }
 }
 

@@ -5,7 +5,7 @@ use Rattle.gorbihesh.proofs.gorbihesh_parse.Statement.{statement}
 use Rattle.gorbihesh.proofs.gorbihesh_parse.Tie as tie
 use Rattle.gorbihesh.proofs.gorbihesh_parse.Reads as reads
 use Rattle.gorbihesh.proofs.gorbihesh_parse.Lts as lts
-use Rattle.gorbihesh.proofs.refused.Reads as refused-reads
+use Rattle.gorbihesh.proofs.told.Reads as told-reads
 use Rattle.parser.proofs.parse.parse.Reads as parse-reads
 
 -- src/lib.rt:45:11
@@ -16,17 +16,25 @@ parse-requires c κs = search needs
 enum-known-number : tie.Need-enum-known-number
 enum-known-number c = search needs
 
+-- src/lib.rt:46:41
+cast-told : tie.Need-cast-told
+cast-told c = search needs
+
 -- src/lib.rt:46:36
-refused-requires : tie.Need-refused-requires
-refused-requires c κs = search needs
+told-requires : tie.Need-told-requires
+told-requires c κs = search needs
 
 -- src/lib.rt:47:23
 enum-known-len : tie.Need-enum-known-len
 enum-known-len c = search needs
 
--- src/lib.rt:49:21
-cast-t16 : tie.Need-cast-t16
-cast-t16 c = omega (arith, parse-short (c .before .before .before .before .before .before .before .parse .ensures) (c .before .len .given .1))
+-- src/lib.rt:47:39
+cast-told-2 : tie.Need-cast-told-2
+cast-told-2 c = omega (arith, parse-short (c .before .before .before .before .before .before .before .parse .ensures) (c .before .len .given .1))
+
+-- src/lib.rt:47:31
+told-requires-2 : tie.Need-told-requires-2
+told-requires-2 c κs = search needs
 
 -- src/lib.rt:33:1
 same-length : tie.Need-same-length
@@ -38,7 +46,7 @@ same-length-2 c = search needs
 
 -- src/lib.rt:33:1
 returns : tie.Need-returns
-returns c = parse-refused (c .before .before .before .before .before .before .before .before .parse .ensures) (c .before .before .number .given .1) (c .refused .ensures)
+returns c = parse-refused (c .before .before .before .before .before .before .before .before .parse .ensures) (c .before .before .number .given .1) (c .told .ensures)
 
 -- src/lib.rt:33:1
 same-length-3 : tie.Need-same-length-3
@@ -50,7 +58,7 @@ same-length-4 c = search needs
 
 -- src/lib.rt:33:1
 returns-2 : tie.Need-returns-2
-returns-2 c = parse-left (c .before .before .before .before .before .before .before .parse .ensures) (c .before .len .given .1)
+returns-2 c = parse-left (c .before .before .before .before .before .before .before .before .parse .ensures) (c .before .before .len .given .1) (c .told2 .ensures)
 
 pub gorbihesh-parse-spec : {M : Type 1} → statement M
 gorbihesh-parse-spec =
@@ -58,9 +66,11 @@ gorbihesh-parse-spec =
     (tie.spec
     parse-requires
     enum-known-number
-    refused-requires
+    cast-told
+    told-requires
     enum-known-len
-    cast-t16
+    cast-told-2
+    told-requires-2
     same-length
     same-length-2
     returns

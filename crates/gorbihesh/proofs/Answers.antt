@@ -1,0 +1,97 @@
+-- No second answer: two answers that meet a public contract for the same input are one, and so is every byte that was lent. Section 'Proof obligations on answers'.
+-- A law for each form that a contract has; docs/ANSWERS.md says which function has which.
+use mathlib.Core.Path.{_≡_, refl, sym, ap, subst, _∙_}
+use Prim.Native.Nat.{ℕ, _≤_, _<_}
+use mathlib.Core.List.{List}
+use mathlib.Core.Bool.{Bool, true, false}
+use native.Mathlib.Omega.{arith}
+use lib.ListN.{length}
+use lib.Dec.{leb}
+use Rattle.rules.specs.Numbers.{Refusal, number, Read, got, refused, need, onRead, andThen, longAnswer, shortRoom, parseRoom}
+use Rattle.rules.specs.Query.{Query}
+use Rattle.rules.specs.Stored.{encode}
+use Rattle.rules.specs.Setup.{Setup, readSetup}
+use Rattle.rules.specs.Parsing.{parse}
+use Rattle.rules.specs.Answers.{Answer, Left, Reply, storedReply, fitting, leave, call, parseReply, parseLeft}
+use Rattle.rules.proofs.Refusals.{number-some}
+use Rattle.rules.proofs.Weights.{weight-length, weight-some}
+use Rattle.stored.specs.Laid.{Put}
+use Rattle.parser.specs.Parsed.{answerOf, leftOf, Parses}
+use Rattle.parser.specs.declared.parse.Parsed.{Parsed}
+use Rattle.parser.specs.declared.parse.Parsed.the-variants.{Refused, Bytes}
+use Rattle.selection.specs.Select.{Selects, SelectsBytes}
+use Rattle.selection.specs.declared.select.Selected.{Selected}
+use Rattle.gorbihesh.specs.Edge.{left}
+
+-- ---- the law: what two answers equal is the same for both
+
+pub no-second : {A : Type 0} {x y z : A} → x ≡ z → y ≡ z → x ≡ y
+no-second p q = p ∙ sym q
+
+-- the same where the equation is about whatever the input is the stored form of
+pub no-second-of : {Q A : Type 0} {P : Q → Type 0} {f : Q → A} {x y : A} (q : Q) → P q → ((p : Q) → P p → x ≡ f p) → ((p : Q) → P p → y ≡ f p) → x ≡ y
+no-second-of q i p r = no-second (p q i) (r q i)
+
+-- ---- a writer
+
+pub no-second-put : {out s left left′ : List ℕ} {at next next′ : ℕ} → Put out at s next left → Put out at s next′ left′ → (next ≡ next′) × (left ≡ left′)
+no-second-put p q = (no-second (p .place) (q .place), no-second (p .bytes) (q .bytes))
+
+-- ---- an exported call, and the rewriter: four numbers, the output, the room
+
+pub no-second-call : {given : Left} {a b c d a′ b′ c′ d′ : ℕ} {out room out′ room′ : List ℕ} → left a b c d out room ≡ given → left a′ b′ c′ d′ out′ room′ ≡ given
+    → (a ≡ a′) × (b ≡ b′) × (c ≡ c′) × (d ≡ d′) × (out ≡ out′) × (room ≡ room′)
+no-second-call p q =
+    let e = no-second p q in (
+      ap (λ (x : Left). x .answer .refusal) e,
+      ap (λ (x : Left). x .answer .written) e,
+      ap (λ (x : Left). x .answer .count) e,
+      ap (λ (x : Left). x .answer .rounds) e,
+      ap (λ (x : Left). x .output) e,
+      ap (λ (x : Left). x .room) e,
+    )
+
+-- ---- selection
+
+module _ {s l rows rows′ rows″ : List ℕ} {r r′ : Selected} where
+  pub no-second-select : Selects s l rows rows′ r → Selects s l rows rows″ r′ → (r ≡ r′) × (rows′ ≡ rows″)
+  no-second-select p q = (no-second (p .answer) (q .answer), no-second (p .rows) (q .rows))
+
+  pub no-second-select-bytes : {room room′ room″ : List ℕ} → SelectsBytes s l rows room rows′ room′ r → SelectsBytes s l rows room rows″ room″ r′
+      → (r ≡ r′) × (rows′ ≡ rows″) × (room′ ≡ room″)
+  no-second-select-bytes p q = (no-second (p .is) (q .is), no-second (p .output) (q .output), no-second (p .cleared) (q .cleared))
+
+-- ---- parsing: an answer of no bytes is a refusal, for no query is stored in none
+
+abbrev Telling : Answer → Type 0
+Telling a = a .refusal ≡ 0 → 0 < a .written
+
+call-telling : (n : ℕ) (r : Read Query) (out room : List ℕ) → Telling (call n (onRead storedReply r) out room .answer)
+unfolding call
+call-telling n r out room = by (leb n (length room)) r
+  where
+    fitted : (b : Bool) (q : Query) → Telling (leave (need b longAnswer (got (storedReply q))) out room .answer)
+    fitted true q e = omega (arith, weight-length q, weight-some q)
+    fitted false q e = absurd (number-some longAnswer e)
+
+    by : (b : Bool) (r : Read Query) → Telling (leave (need b shortRoom (andThen (onRead storedReply r) (fitting (length out)))) out room .answer)
+    by false r e = absurd (number-some shortRoom e)
+    by true (refused x) e = absurd (number-some x e)
+    by true (got q) e = fitted (leb (length (encode q)) (length out)) q e
+
+same-answer : (p p′ : Parsed) → answerOf p ≡ answerOf p′ → Telling (answerOf p) → p ≡ p′
+same-answer (Refused n) (Refused m) e t = ap Refused (ap (λ (a : Answer). a .refusal) e)
+same-answer (Bytes n) (Bytes m) e t = ap Bytes (ap (λ (a : Answer). a .written) e)
+same-answer (Refused n) (Bytes m) e t = absurd (let z = t (ap (λ (a : Answer). a .refusal) e) in omega arith)
+same-answer (Bytes n) (Refused m) e t = absurd (let z = t refl in omega (arith, ap (λ (a : Answer). a .written) e))
+
+module _ {o a : ℕ} {f es text out room out′ room′ out″ room″ : List ℕ} {p p′ : Parsed} where
+  pub no-second-parse : Parses o a f es text out room out′ room′ p → Parses o a f es text out room out″ room″ p′ → (p ≡ p′) × (out′ ≡ out″) × (room′ ≡ room″)
+  unfolding parseLeft parseReply
+  no-second-parse P Q =
+      let e = no-second (P .is) (Q .is) in
+      let t = call-telling parseRoom (andThen (readSetup o a f es) (λ st. parse st text)) out room in (
+        same-answer p p′ (ap (λ (x : Left). x .answer) e) (subst Telling (sym (ap (λ (x : Left). x .answer) (P .is))) t),
+        ap (λ (x : Left). x .output) e,
+        ap (λ (x : Left). x .room) e,
+      )
