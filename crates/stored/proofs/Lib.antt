@@ -3,6 +3,7 @@ pub mod Joining
 pub mod Laying
 pub mod Lister
 pub mod Opening
+pub mod Plainly
 pub mod Reader
 pub mod Rowing
 pub mod Stepping

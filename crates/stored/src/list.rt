@@ -2,10 +2,12 @@
 use super::part::body;
 use super::part::is_field_part;
 use super::part::is_part;
+use super::part::is_plain;
 use super::part::rest;
 use super::part::whole;
 use super::read::is_word;
 ghost use mathlib.Core.Path.{_≡_};
+ghost use Rattle.rules.specs.Numbers.{placeTag};
 ghost use Rattle.rules.specs.Bytes.{every};
 ghost use Rattle.rules.specs.Reading.{numberOf};
 ghost use Rattle.rules.specs.Lists.{isValue, isFieldWith, isEntry, isRecord, readList};
@@ -40,6 +42,16 @@ fn is_fielded(tag: u8, b: &[u8]) -> bool
     rest(w).len() == 0
 }
 
+// A position with a text behind the field, short ones first.
+fn is_place(b: &[u8]) -> bool
+    ensures { λ r. ⌜ r ≡ isFieldWith (isHeld placeTag) (now (b .entry)) ⌝ }
+{
+    if is_plain(b, 0x12, 4) {
+        return true;
+    }
+    is_fielded(0x41, b)
+}
+
 pub fn is_entry(s: &[u8]) -> bool
     ensures { λ r. ⌜ r ≡ isEntry (now (s .entry)) ⌝ }
 {
@@ -48,7 +60,7 @@ pub fn is_entry(s: &[u8]) -> bool
     }
     let b = body(s);
     match s[0] {
-        0x41 => is_fielded(0x41, b),
+        0x41 => is_place(b),
         0x44 => is_fielded(0x44, b),
         0x45 => is_fielded(0x45, b),
         _ => false,

@@ -1,10 +1,12 @@
 // The reader of stored queries, for both limits: 0 where the bytes are one query's stored form, else 19, 20 or 21 in reading order.
 // No function here calls itself: a scheduler's thread has little stack, and a query may nest 192 records.
 use super::big::big4;
+use super::bytes::is_field;
 use super::bytes::is_text;
 use super::part::body;
 use super::part::is_field_part;
 use super::part::is_part;
+use super::part::is_plain;
 use super::part::rest;
 use super::part::size_of;
 use super::part::whole;
@@ -63,7 +65,10 @@ pub fn is_bound(s: &[u8]) -> bool
 fn is_term(b: &[u8]) -> bool
     ensures { λ r. ⌜ r ≡ isTerm (now (b .entry)) ⌝ }
 {
-    if !is_field_part(b) {
+    if !is_part(b, 0x10) {
+        return false;
+    }
+    if !is_field(body(b)) {
         return false;
     }
     let t = rest(b);
@@ -74,6 +79,16 @@ fn is_term(b: &[u8]) -> bool
         return false;
     }
     rest(t).len() == 0
+}
+
+// The same, short terms first.
+fn is_any_term(b: &[u8]) -> bool
+    ensures { λ r. ⌜ r ≡ isTerm (now (b .entry)) ⌝ }
+{
+    if is_plain(b, 0x11, 0) {
+        return true;
+    }
+    is_term(b)
 }
 
 fn is_phrase(b: &[u8]) -> bool
@@ -257,7 +272,7 @@ enum Next {
     Last(usize, usize, usize),
 }
 
-// Most clauses hold one term: this test of them needs no call and no enum, and what does not pass it is looked at in full.
+// Most clauses hold one term: this test of them needs no enum, and what does not pass it is looked at in full.
 fn is_simple(q: &[u8], left: usize) -> bool
     ensures { λ r. ⌜ r ≡ isSimple left (now (q .entry)) ⌝ }
 {
@@ -267,7 +282,7 @@ fn is_simple(q: &[u8], left: usize) -> bool
     if !is_part(q, 1) {
         return false;
     }
-    if !is_term(body(q)) {
+    if !is_any_term(body(q)) {
         return false;
     }
     rest(q).len() == 0
