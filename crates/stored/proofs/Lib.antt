@@ -1,4 +1,3 @@
-pub mod Delivering
 pub mod Joining
 pub mod Laying
 pub mod Lister

@@ -3,4 +3,3 @@ pub mod List
 pub mod Measure
 pub mod Part
 pub mod Read
-pub mod Write

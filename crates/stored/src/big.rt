@@ -12,13 +12,13 @@ pub fn wide(x: u8) -> usize
     x as usize
 }
 
-pub fn wide4(x: u8) -> u32
+fn wide4(x: u8) -> u32
     ensures { λ r. ⌜ (r ≡ x) × (r < 256) ⌝ }
 {
     x as u32
 }
 
-pub fn wide8(x: u8) -> u64
+fn wide8(x: u8) -> u64
     ensures { λ r. ⌜ (r ≡ x) × (r < 256) ⌝ }
 {
     x as u64

@@ -88,10 +88,10 @@ fn is_longer_text(s: &[u8]) -> bool
     requires { ⌜ 8 ≤ length (now s) ⌝ }
     ensures { λ r. ⌜ r ≡ isText (now (s .entry)) ⌝ }
 {
-    if s.len() > 32 {
-        return is_long_text(s);
+    if s.len() <= 32 {
+        return is_middle_text(s);
     }
-    is_middle_text(s)
+    is_long_text(s)
 }
 
 // Whether every byte is ASCII.

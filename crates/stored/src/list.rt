@@ -13,7 +13,7 @@ ghost use Rattle.rules.specs.Reading.{numberOf};
 ghost use Rattle.rules.specs.Lists.{isValue, isFieldWith, isEntry, isRecord, readList};
 ghost use Rattle.stored.specs.List.{isHeld};
 
-pub fn is_value(s: &[u8]) -> bool
+fn is_value(s: &[u8]) -> bool
     ensures { λ r. ⌜ r ≡ isValue (now (s .entry)) ⌝ }
 {
     if !is_part(s, 0x14) {
@@ -52,7 +52,7 @@ fn is_place(b: &[u8]) -> bool
     is_fielded(0x41, b)
 }
 
-pub fn is_entry(s: &[u8]) -> bool
+fn is_entry(s: &[u8]) -> bool
     ensures { λ r. ⌜ r ≡ isEntry (now (s .entry)) ⌝ }
 {
     if !whole(s) {
@@ -81,7 +81,7 @@ fn is_entries(s: &[u8]) -> bool
     true
 }
 
-pub fn is_record(s: &[u8]) -> bool
+fn is_record(s: &[u8]) -> bool
     ensures { λ r. ⌜ r ≡ isRecord (now (s .entry)) ⌝ }
 {
     if !is_part(s, 0x40) {

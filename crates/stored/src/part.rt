@@ -40,7 +40,7 @@ pub fn is_part(s: &[u8], tag: u8) -> bool
     if !whole(s) {
         return false;
     }
-    s[0] == tag
+    tag_of(s) == tag
 }
 
 pub fn body(s: &[u8]) -> &[u8]

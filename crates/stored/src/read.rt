@@ -33,7 +33,7 @@ pub fn is_word(s: &[u8]) -> bool
     is_text(&w[4..])
 }
 
-pub fn is_words(s: &[u8]) -> bool
+fn is_words(s: &[u8]) -> bool
     ensures { λ r. ⌜ r ≡ every isWord (now (s .entry)) ⌝ }
 {
     let mut t = s;
@@ -47,7 +47,7 @@ pub fn is_words(s: &[u8]) -> bool
     true
 }
 
-pub fn is_bound(s: &[u8]) -> bool
+fn is_bound(s: &[u8]) -> bool
     ensures { λ r. ⌜ r ≡ isBound (now (s .entry)) ⌝ }
 {
     if !whole(s) {
@@ -168,7 +168,7 @@ fn is_record(s: &[u8]) -> bool
 }
 
 // There is one NaN: any other is malformed.
-pub fn is_boost(bits: u32) -> bool
+fn is_boost(bits: u32) -> bool
     ensures { λ r. ⌜ r ≡ isBoost bits ⌝ }
 {
     if bits % 0x8000_0000 <= 0x7f80_0000 {
@@ -377,7 +377,7 @@ fn say(ok: bool) -> u8
 }
 
 // For any limit on the bytes, and a limit on the depth of at most 192.
-pub fn check_query(s: &[u8], most: usize, depth: usize) -> u8
+fn check_query(s: &[u8], most: usize, depth: usize) -> u8
     requires { ⌜ depth ≤ 192 ⌝ }
     ensures { λ r. ⌜ r ≡ numberOf (readWithin most depth (now (s .entry))) ⌝ }
 {
