@@ -2,6 +2,7 @@
 use super::part::body;
 use super::part::is_field_part;
 use super::part::is_part;
+use super::part::is_part_of;
 use super::part::is_plain;
 use super::part::rest;
 use super::part::whole;
@@ -16,10 +17,7 @@ ghost use Rattle.stored.specs.List.{isHeld};
 fn is_value(s: &[u8]) -> bool
     ensures { λ r. ⌜ r ≡ isValue (now (s .entry)) ⌝ }
 {
-    if !is_part(s, 0x14) {
-        return false;
-    }
-    body(s).len() == 8
+    is_part_of(s, 0x14, 8)
 }
 
 // What stands behind the field of an entry with this tag: a position with a text, or a number.

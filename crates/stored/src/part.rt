@@ -4,8 +4,9 @@ use super::bytes::is_field;
 use super::bytes::is_middle_text;
 ghost use mathlib.Core.Path.{_≡_};
 ghost use Prim.Native.Nat.{_≤_, _<_};
-ghost use mathlib.Core.Bool.{true};
+ghost use mathlib.Core.Bool.{true, _&&_};
 ghost use lib.ListN.{length};
+ghost use lib.Dec.{leb, eqb};
 ghost use Rattle.rules.specs.Bytes.{tagOf, sizeOf, wholeOf, bodyOf, restOf, isPart, isFieldPart};
 ghost use Rattle.stored.specs.Part.{Plain};
 
@@ -41,6 +42,30 @@ pub fn is_part(s: &[u8], tag: u8) -> bool
         return false;
     }
     tag_of(s) == tag
+}
+
+// The same with a body of n bytes.
+pub fn is_part_of(s: &[u8], tag: u8, n: usize) -> bool
+    ensures { λ r. ⌜ r ≡ (isPart tag (now (s .entry)) && eqb (length (bodyOf (now (s .entry)))) n) ⌝ }
+{
+    if !is_part(s, tag) {
+        return false;
+    }
+    body(s).len() == n
+}
+
+// Whether a part with a tag in this span stands at the front.
+pub fn is_within(s: &[u8], low: u8, high: u8) -> bool
+    ensures { λ r. ⌜ r ≡ (wholeOf (now (s .entry)) && (leb low (tagOf (now (s .entry))) && leb (tagOf (now (s .entry))) high)) ⌝ }
+{
+    if !whole(s) {
+        return false;
+    }
+    let t = s[0];
+    if t < low {
+        return false;
+    }
+    t <= high
 }
 
 pub fn body(s: &[u8]) -> &[u8]

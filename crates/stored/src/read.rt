@@ -6,7 +6,9 @@ use super::bytes::is_text;
 use super::part::body;
 use super::part::is_field_part;
 use super::part::is_part;
+use super::part::is_part_of;
 use super::part::is_plain;
+use super::part::is_within;
 use super::part::rest;
 use super::part::size_of;
 use super::part::whole;
@@ -135,36 +137,19 @@ fn is_leaf(tag: u8, b: &[u8]) -> bool
 fn is_minimum(b: &[u8]) -> bool
     ensures { λ r. ⌜ r ≡ isMinimum (now (b .entry)) ⌝ }
 {
-    if !is_part(b, 0x13) {
-        return false;
-    }
-    body(b).len() == 2
+    is_part_of(b, 0x13, 2)
 }
 
 fn is_clause(s: &[u8]) -> bool
     ensures { λ r. ⌜ r ≡ isClause (now (s .entry)) ⌝ }
 {
-    if !whole(s) {
-        return false;
-    }
-    let t = s[0];
-    if t < 0x20 {
-        return false;
-    }
-    t <= 0x23
+    is_within(s, 0x20, 0x23)
 }
 
 fn is_record(s: &[u8]) -> bool
     ensures { λ r. ⌜ r ≡ isRecord (now (s .entry)) ⌝ }
 {
-    if !whole(s) {
-        return false;
-    }
-    let t = s[0];
-    if t < 0x01 {
-        return false;
-    }
-    t <= 0x09
+    is_within(s, 0x01, 0x09)
 }
 
 // There is one NaN: any other is malformed.

@@ -1,12 +1,11 @@
--- `stored::read::is_clause` meets its contract.
+-- `stored::part::is_within` meets its contract.
 use native.Mathlib.Omega.{arith}
 use borrow.Author.Needs.{needs}
 use Rattle.rules.proofs.Parts as parts
 use Rattle.rules.proofs.Chains as chains
 use Rattle.rules.proofs.Bools as bools
-use Rattle.rules.specs.Numbers.{mustTag, filterTag}
-use Rattle.stored.proofs.read.is_clause.Statement.{statement}
-use Rattle.stored.proofs.read.is_clause.Tie as tie
+use Rattle.stored.proofs.part.is_within.Statement.{statement}
+use Rattle.stored.proofs.part.is_within.Tie as tie
 
 whole-requires : tie.Need-whole-requires
 whole-requires c κs = search needs
@@ -18,11 +17,11 @@ shared-slice-read-t : tie.Need-shared-slice-read-t
 shared-slice-read-t c = omega (arith, parts.whole-le _ (bools.told-yes (c .before .before .whole .ensures) (c .before .if1 .left)))
 
 returns-2 : tie.Need-returns-2
-returns-2 c = chains.goes-on (c .before .before .before .whole .ensures) (c .before .before .if1 .left) (chains.below mustTag _ filterTag (c .if2 .taken))
+returns-2 c = chains.goes-on (c .before .before .before .whole .ensures) (c .before .before .if1 .left) (chains.below _ _ _ (c .if2 .taken))
 
 returns-3 : tie.Need-returns-3
-returns-3 c = chains.goes-on (c .before .before .before .whole .ensures) (c .before .before .if1 .left) (chains.from mustTag _ filterTag (c .if2 .left))
+returns-3 c = chains.goes-on (c .before .before .before .whole .ensures) (c .before .before .if1 .left) (chains.from _ _ _ (c .if2 .left))
 
-pub is-clause-spec : {M : Type 1} → statement M
-is-clause-spec =
+pub is-within-spec : {M : Type 1} → statement M
+is-within-spec =
     tie.close (tie.spec whole-requires returns shared-slice-read-t returns-2 returns-3)
