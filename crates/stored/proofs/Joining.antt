@@ -146,7 +146,10 @@ text-split zero s = refl
 text-split (suc k) [] = refl
 text-split (suc k) (x ∷ s) = ap (λ (b : Bool). leb x 0x7f && b) (text-split k s) ∙ sym (and-again (leb x 0x7f) (isText (take k s)) (isText (drop k s)))
 
-text-later : (j : ℕ) (s : List ℕ) → isText s ≡ true → isText (drop j s) ≡ true
+pub text-first : (k : ℕ) (s : List ℕ) → isText s ≡ true → isText (take k s) ≡ true
+text-first k s h = and-l (isText (take k s)) (isText (drop k s)) (sym (text-split k s) ∙ h)
+
+pub text-later : (j : ℕ) (s : List ℕ) → isText s ≡ true → isText (drop j s) ≡ true
 text-later j s h = and-r (isText (take j s)) (isText (drop j s)) (sym (text-split j s) ∙ h)
 
 same-split : (k : ℕ) (a b : List ℕ) → length a ≡ length b → same a b ≡ (same (take k a) (take k b) && same (drop k a) (drop k b))
@@ -178,6 +181,10 @@ text-two k e s h l =
     two (λ i. isText (drop i s)) (isText (take k s)) e k (text-split k s) (text-later e s)
     (λ t. ap (λ (i : ℕ). isText (drop i s)) (sym m) ∙ ap isText (sym (drop-drop (k - e) e s)) ∙ text-later (k - e) (drop e s) t)
     ∙ ap (λ (x : List ℕ). isText x && isText (take k s)) (sym (last-cut k e s h))
+
+-- the same of two halves that are tested whole
+pub text-halves : (k e : ℕ) (s : List ℕ) → e + k ≡ length s → e ≤ k → isText s ≡ (isText (take (length s - e) (drop e s)) && isText (take k s))
+text-halves k e s h l = text-two k e s h l ∙ ap (λ (x : List ℕ). isText x && isText (take k s)) (last-cut k e s h ∙ sym (cut-from e s))
 
 pub same-two : (k e : ℕ) (a b : List ℕ) → length a ≡ length b → e + k ≡ length a → e ≤ k
     → same a b ≡ (same (take k (take (length a - e) (drop e a))) (take k (take (length b - e) (drop e b))) && same (take k a) (take k b))

@@ -1,8 +1,8 @@
-pub mod Delivering
 pub mod Joining
 pub mod Laying
 pub mod Lister
 pub mod Opening
+pub mod Plainly
 pub mod Reader
 pub mod Rowing
 pub mod Stepping

@@ -1,5 +1,5 @@
 pub mod Laid
 pub mod List
 pub mod Measure
+pub mod Part
 pub mod Read
-pub mod Write

@@ -12,16 +12,10 @@ pub fn wide(x: u8) -> usize
     x as usize
 }
 
-pub fn wide4(x: u8) -> u32
+fn wide4(x: u8) -> u32
     ensures { λ r. ⌜ (r ≡ x) × (r < 256) ⌝ }
 {
     x as u32
-}
-
-pub fn wide8(x: u8) -> u64
-    ensures { λ r. ⌜ (r ≡ x) × (r < 256) ⌝ }
-{
-    x as u64
 }
 
 pub fn big2(s: &[u8]) -> usize
@@ -38,11 +32,12 @@ pub fn big4(s: &[u8]) -> u32
     ((wide4(s[0]) * 256 + wide4(s[1])) * 256 + wide4(s[2])) * 256 + wide4(s[3])
 }
 
+// The same in the width of eight bytes.
 fn upper4(s: &[u8]) -> u64
     requires { ⌜ 4 ≤ length (now s) ⌝ }
     ensures { λ r. ⌜ (r ≡ ofBig (take 4 (now (s .entry)))) × (r < 4294967296) ⌝ }
 {
-    ((wide8(s[0]) * 256 + wide8(s[1])) * 256 + wide8(s[2])) * 256 + wide8(s[3])
+    big4(s) as u64
 }
 
 pub fn big8(s: &[u8]) -> u64

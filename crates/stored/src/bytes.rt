@@ -1,5 +1,5 @@
-// Stretches of bytes: texts and fields, comparison, copy, clear. Up to sixteen bytes are tested in two words, the last one and the first,
-// which may overlap; more go by a loop without a way out before its end, which a compiler widens.
+// Stretches of bytes: texts and fields, comparison, copy, clear. Short ones are tested in words that may overlap, the last one first;
+// longer ones go by a loop without a way out before its end, which a compiler widens.
 use super::big::big4;
 use super::big::big8;
 ghost use mathlib.Core.Path.{_≡_};
@@ -57,19 +57,41 @@ fn is_long_text(s: &[u8]) -> bool
     seen <= 127
 }
 
-fn is_longer_text(s: &[u8]) -> bool
-    requires { ⌜ 8 ≤ length (now s) ⌝ }
+// From eight to sixteen bytes.
+fn is_pair_text(s: &[u8]) -> bool
+    requires { ⌜ (8 ≤ length (now s)) × (length (now s) ≤ 16) ⌝ }
     ensures { λ r. ⌜ r ≡ isText (now (s .entry)) ⌝ }
 {
-    let n = s.len();
-    if n > 16 {
-        return is_long_text(s);
-    }
-    let e = n - 8;
+    let e = s.len() - 8;
     if tops8(&s[e..]) != 0 {
         return false;
     }
     tops8(s) == 0
+}
+
+// From eight to thirty-two bytes.
+pub fn is_middle_text(s: &[u8]) -> bool
+    requires { ⌜ (8 ≤ length (now s)) × (length (now s) ≤ 32) ⌝ }
+    ensures { λ r. ⌜ r ≡ isText (now (s .entry)) ⌝ }
+{
+    if s.len() <= 16 {
+        return is_pair_text(s);
+    }
+    let e = s.len() - 16;
+    if !is_pair_text(&s[e..]) {
+        return false;
+    }
+    is_pair_text(&s[0..16])
+}
+
+fn is_longer_text(s: &[u8]) -> bool
+    requires { ⌜ 8 ≤ length (now s) ⌝ }
+    ensures { λ r. ⌜ r ≡ isText (now (s .entry)) ⌝ }
+{
+    if s.len() <= 32 {
+        return is_middle_text(s);
+    }
+    is_long_text(s)
 }
 
 // Whether every byte is ASCII.

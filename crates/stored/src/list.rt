@@ -2,22 +2,22 @@
 use super::part::body;
 use super::part::is_field_part;
 use super::part::is_part;
+use super::part::is_part_of;
+use super::part::is_plain;
 use super::part::rest;
 use super::part::whole;
 use super::read::is_word;
 ghost use mathlib.Core.Path.{_≡_};
+ghost use Rattle.rules.specs.Numbers.{placeTag};
 ghost use Rattle.rules.specs.Bytes.{every};
 ghost use Rattle.rules.specs.Reading.{numberOf};
 ghost use Rattle.rules.specs.Lists.{isValue, isFieldWith, isEntry, isRecord, readList};
 ghost use Rattle.stored.specs.List.{isHeld};
 
-pub fn is_value(s: &[u8]) -> bool
+fn is_value(s: &[u8]) -> bool
     ensures { λ r. ⌜ r ≡ isValue (now (s .entry)) ⌝ }
 {
-    if !is_part(s, 0x14) {
-        return false;
-    }
-    body(s).len() == 8
+    is_part_of(s, 0x14, 8)
 }
 
 // What stands behind the field of an entry with this tag: a position with a text, or a number.
@@ -40,7 +40,17 @@ fn is_fielded(tag: u8, b: &[u8]) -> bool
     rest(w).len() == 0
 }
 
-pub fn is_entry(s: &[u8]) -> bool
+// A position with a text behind the field, short ones first.
+fn is_place(b: &[u8]) -> bool
+    ensures { λ r. ⌜ r ≡ isFieldWith (isHeld placeTag) (now (b .entry)) ⌝ }
+{
+    if is_plain(b, 0x12, 4) {
+        return true;
+    }
+    is_fielded(0x41, b)
+}
+
+fn is_entry(s: &[u8]) -> bool
     ensures { λ r. ⌜ r ≡ isEntry (now (s .entry)) ⌝ }
 {
     if !whole(s) {
@@ -48,7 +58,7 @@ pub fn is_entry(s: &[u8]) -> bool
     }
     let b = body(s);
     match s[0] {
-        0x41 => is_fielded(0x41, b),
+        0x41 => is_place(b),
         0x44 => is_fielded(0x44, b),
         0x45 => is_fielded(0x45, b),
         _ => false,
@@ -69,7 +79,7 @@ fn is_entries(s: &[u8]) -> bool
     true
 }
 
-pub fn is_record(s: &[u8]) -> bool
+fn is_record(s: &[u8]) -> bool
     ensures { λ r. ⌜ r ≡ isRecord (now (s .entry)) ⌝ }
 {
     if !is_part(s, 0x40) {

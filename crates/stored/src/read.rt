@@ -1,10 +1,14 @@
 // The reader of stored queries, for both limits: 0 where the bytes are one query's stored form, else 19, 20 or 21 in reading order.
 // No function here calls itself: a scheduler's thread has little stack, and a query may nest 192 records.
 use super::big::big4;
+use super::bytes::is_field;
 use super::bytes::is_text;
 use super::part::body;
 use super::part::is_field_part;
 use super::part::is_part;
+use super::part::is_part_of;
+use super::part::is_plain;
+use super::part::is_within;
 use super::part::rest;
 use super::part::size_of;
 use super::part::whole;
@@ -31,7 +35,7 @@ pub fn is_word(s: &[u8]) -> bool
     is_text(&w[4..])
 }
 
-pub fn is_words(s: &[u8]) -> bool
+fn is_words(s: &[u8]) -> bool
     ensures { λ r. ⌜ r ≡ every isWord (now (s .entry)) ⌝ }
 {
     let mut t = s;
@@ -45,7 +49,7 @@ pub fn is_words(s: &[u8]) -> bool
     true
 }
 
-pub fn is_bound(s: &[u8]) -> bool
+fn is_bound(s: &[u8]) -> bool
     ensures { λ r. ⌜ r ≡ isBound (now (s .entry)) ⌝ }
 {
     if !whole(s) {
@@ -63,7 +67,10 @@ pub fn is_bound(s: &[u8]) -> bool
 fn is_term(b: &[u8]) -> bool
     ensures { λ r. ⌜ r ≡ isTerm (now (b .entry)) ⌝ }
 {
-    if !is_field_part(b) {
+    if !is_part(b, 0x10) {
+        return false;
+    }
+    if !is_field(body(b)) {
         return false;
     }
     let t = rest(b);
@@ -74,6 +81,16 @@ fn is_term(b: &[u8]) -> bool
         return false;
     }
     rest(t).len() == 0
+}
+
+// The same, short terms first.
+fn is_any_term(b: &[u8]) -> bool
+    ensures { λ r. ⌜ r ≡ isTerm (now (b .entry)) ⌝ }
+{
+    if is_plain(b, 0x11, 0) {
+        return true;
+    }
+    is_term(b)
 }
 
 fn is_phrase(b: &[u8]) -> bool
@@ -120,40 +137,23 @@ fn is_leaf(tag: u8, b: &[u8]) -> bool
 fn is_minimum(b: &[u8]) -> bool
     ensures { λ r. ⌜ r ≡ isMinimum (now (b .entry)) ⌝ }
 {
-    if !is_part(b, 0x13) {
-        return false;
-    }
-    body(b).len() == 2
+    is_part_of(b, 0x13, 2)
 }
 
 fn is_clause(s: &[u8]) -> bool
     ensures { λ r. ⌜ r ≡ isClause (now (s .entry)) ⌝ }
 {
-    if !whole(s) {
-        return false;
-    }
-    let t = s[0];
-    if t < 0x20 {
-        return false;
-    }
-    t <= 0x23
+    is_within(s, 0x20, 0x23)
 }
 
 fn is_record(s: &[u8]) -> bool
     ensures { λ r. ⌜ r ≡ isRecord (now (s .entry)) ⌝ }
 {
-    if !whole(s) {
-        return false;
-    }
-    let t = s[0];
-    if t < 0x01 {
-        return false;
-    }
-    t <= 0x09
+    is_within(s, 0x01, 0x09)
 }
 
 // There is one NaN: any other is malformed.
-pub fn is_boost(bits: u32) -> bool
+fn is_boost(bits: u32) -> bool
     ensures { λ r. ⌜ r ≡ isBoost bits ⌝ }
 {
     if bits % 0x8000_0000 <= 0x7f80_0000 {
@@ -257,7 +257,7 @@ enum Next {
     Last(usize, usize, usize),
 }
 
-// Most clauses hold one term: this test of them needs no call and no enum, and what does not pass it is looked at in full.
+// Most clauses hold one term: this test of them needs no enum, and what does not pass it is looked at in full.
 fn is_simple(q: &[u8], left: usize) -> bool
     ensures { λ r. ⌜ r ≡ isSimple left (now (q .entry)) ⌝ }
 {
@@ -267,7 +267,7 @@ fn is_simple(q: &[u8], left: usize) -> bool
     if !is_part(q, 1) {
         return false;
     }
-    if !is_term(body(q)) {
+    if !is_any_term(body(q)) {
         return false;
     }
     rest(q).len() == 0
@@ -362,7 +362,7 @@ fn say(ok: bool) -> u8
 }
 
 // For any limit on the bytes, and a limit on the depth of at most 192.
-pub fn check_query(s: &[u8], most: usize, depth: usize) -> u8
+fn check_query(s: &[u8], most: usize, depth: usize) -> u8
     requires { ⌜ depth ≤ 192 ⌝ }
     ensures { λ r. ⌜ r ≡ numberOf (readWithin most depth (now (s .entry))) ⌝ }
 {

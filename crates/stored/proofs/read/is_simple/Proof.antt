@@ -24,17 +24,17 @@ returns-2 c = chains.on (ap not (ne-eqb _ _ (c .before .before .if1 .left))) (ch
 body-requires : tie.Need-body-requires
 body-requires c κs = parts.part-is termTag _ (bools.told-yes (c .before .is-part .ensures) (c .if2 .left)) .0
 
-is-term-requires : tie.Need-is-term-requires
-is-term-requires c κs = search needs
+is-any-term-requires : tie.Need-is-any-term-requires
+is-any-term-requires c κs = search needs
 
 returns-3 : tie.Need-returns-3
-returns-3 c = chains.on (ap not (ne-eqb _ _ (c .before .before .before .before .before .if1 .left))) (chains.goes-on (c .before .before .before .before .is-part .ensures) (c .before .before .before .if2 .left) (chains.ends _ (c .before .is-term .ensures ∙ ap isTerm (c .before .before .body .ensures)) (c .if3 .taken)))
+returns-3 c = chains.on (ap not (ne-eqb _ _ (c .before .before .before .before .before .if1 .left))) (chains.goes-on (c .before .before .before .before .is-part .ensures) (c .before .before .before .if2 .left) (chains.ends _ (c .before .is-any-term .ensures ∙ ap isTerm (c .before .before .body .ensures)) (c .if3 .taken)))
 
 rest-requires : tie.Need-rest-requires
 rest-requires c κs = parts.part-is termTag _ (bools.told-yes (c .before .before .before .before .is-part .ensures) (c .before .before .before .if2 .left)) .0
 
 returns-4 : tie.Need-returns-4
-returns-4 c = chains.on (ap not (ne-eqb _ _ (c .before .before .before .before .before .before .if1 .left))) (chains.goes-on (c .before .before .before .before .before .is-part .ensures) (c .before .before .before .before .if2 .left) (chains.goes-on (c .before .before .is-term .ensures ∙ ap isTerm (c .before .before .before .body .ensures)) (c .before .if3 .left) (chains.nothing (now (c .rest .result)) (c .rest .ensures))))
+returns-4 c = chains.on (ap not (ne-eqb _ _ (c .before .before .before .before .before .before .if1 .left))) (chains.goes-on (c .before .before .before .before .before .is-part .ensures) (c .before .before .before .before .if2 .left) (chains.goes-on (c .before .before .is-any-term .ensures ∙ ap isTerm (c .before .before .before .body .ensures)) (c .before .if3 .left) (chains.nothing (now (c .rest .result)) (c .rest .ensures))))
 
 pub is-simple-spec : {M : Type 1} → statement M
 is-simple-spec =
@@ -44,7 +44,7 @@ is-simple-spec =
     is-part-requires
     returns-2
     body-requires
-    is-term-requires
+    is-any-term-requires
     returns-3
     rest-requires
     returns-4)
