@@ -111,21 +111,6 @@ module _ (out : List ℕ) (at : ℕ) (s t : List ℕ) (fits : at + length s + le
       ∙ ap {B = List ℕ} (λ l. take at out ++ s ++ t ++ l) (end ∙ tail-end)
       ∙ ap {B = List ℕ} (λ l. l ++ drop (at + length (s ++ t)) out) (append-assoc (take at out) s t)
 
-  -- s before t, which stands there already
-  pub laid-before : laid (laid out (at + length s) t) at s ≡ laid out at (s ++ t)
-  unfolding laid
-  laid-before =
-      let k = at + length s in
-      let L = laid out k t in
-      let h : k + length t ≤ length out = omega arith in
-      let front : take at L ≡ take at out =
-      sym (take-take at k L (omega arith)) ∙ ap (take at) (before-laid out k t h) ∙ take-take at k out (omega arith) in
-      ap {B = List ℕ} (λ l. l ++ s ++ drop k L) front
-      ∙ ap {B = List ℕ} (λ l. take at out ++ s ++ l) (from-laid out k t h)
-      ∙ sym (append-assoc (take at out ++ s) t (drop (k + length t) out))
-      ∙ ap {B = List ℕ} (λ l. l ++ drop (k + length t) out) (append-assoc (take at out) s t)
-      ∙ ap {B = List ℕ} (λ l. take at out ++ (s ++ t) ++ l) tail-end
-
 -- t in the place of s, as long as it
 pub laid-over : (out : List ℕ) (at : ℕ) (s t : List ℕ) → at + length s ≤ length out → length t ≡ length s → laid (laid out at s) at t ≡ laid out at t
 unfolding laid
@@ -179,8 +164,3 @@ put-then {out} {at = at} {p = p} {s = s} {t = t} P Q fits = record {
 pub put-body : {out out₁ out₂ : List ℕ} {at n p q t : ℕ} {b : List ℕ} → Put out at (header t n) p out₁ → Put out₁ p b q out₂
     → n ≡ length b → at + 3 + length b ≤ length out → Put out at (part t b) q out₂
 put-body P Q e fits = rw e at (put-then P Q fits)
-
--- a stretch that was lent from a to e, and came back as ys, which is s
-pub put-lent : (out ys : List ℕ) {s : List ℕ} (a e : ℕ) → ys ≡ s → a ≤ e → e ≤ length out → length ys ≡ e - a
-    → Put out a s e (take a out ++ (ys ++ drop (e - a) (drop a out)))
-put-lent out ys a e f h k l = rw (← f) (record { place = omega arith; bytes = lent out ys a e h k l })
