@@ -3,10 +3,7 @@ use mathlib.Core.Path.{_≡_}
 use Prim.Native.Nat.{ℕ, suc, _+_}
 use mathlib.Core.List.{List, [], _∷_, _++_}
 use lib.ListN.{length}
-use mathlib.Core.Bool.{cond}
-use lib.Dec.{eqb}
-use Rattle.rules.specs.Numbers.{simpleAnalyzer}
-use Rattle.rules.specs.Analysis.{lower}
+use mathlib.Core.Bool.{Bool, true, false}
 use Rattle.rules.specs.Bytes.{part}
 use Rattle.rules.specs.Query.{term}
 use Rattle.rules.specs.Stored.{encode}
@@ -21,9 +18,12 @@ unfoldable pub termRow : ℕ → List ℕ → List (List ℕ) → List ℕ
 termRow tag f [] = []
 termRow tag f (t ∷ ts) = part tag (encode (term f t)) ++ termRow tag f ts
 
--- a byte as an analyzer spells it
-abbrev pub spellOf : ℕ → ℕ → ℕ
-spellOf a c = cond (eqb a simpleAnalyzer) (lower c) c
+-- the first token's term, in a stretch that is as long; false where it is not
+abbrev pub FirstWritten : List (List ℕ) → List ℕ → List ℕ → Bool → List ℕ → Type 0
+FirstWritten ts f out true out′ =
+    (t : List ℕ) (us : List (List ℕ)) → ts ≡ t ∷ us → (length out ≡ 9 + length f + length t) × (out′ ≡ encode (term f t))
+FirstWritten ts f out false out′ =
+    (out′ ≡ out) × ((t : List ℕ) (us : List (List ℕ)) → ts ≡ t ∷ us → length out ≡ 9 + length f + length t → ⊥)
 
 pub record Tallied (ts : List (List ℕ)) (each count bytes : ℕ) : Type 0 where
   pub counted : count ≡ length ts
