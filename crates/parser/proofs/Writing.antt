@@ -2,7 +2,7 @@
 -- Assumes nothing.
 use mathlib.Core.Path.{_≡_, refl, sym, ap, subst, _∙_}
 use mathlib.Core.Bool.{Bool, true, false, cond}
-use Prim.Native.Nat.{ℕ, zero, suc, _+_, _-_, _*_, _≤_, _<_}
+use Prim.Native.Nat.{ℕ, zero, suc, _+_, _-_, _≤_, _<_}
 use mathlib.Core.List.{List, [], _∷_, _++_, append-assoc, append-nil, cons-ne-nil}
 use native.Mathlib.Omega.{arith}
 use native.Mathlib.Numerals.{add-one}
@@ -12,13 +12,13 @@ use lib.Seq.{paste, length-take-le}
 use Rattle.rules.specs.Numbers.{wordTag}
 use Rattle.rules.specs.Bytes.{big, part}
 use Rattle.rules.specs.Analysis.{tokenTexts, placedFrom, tokenize, lower, lowercase}
-use Rattle.rules.specs.Query.{Kind, Word, word, Query, term, phrase, boolean, Clauses}
+use Rattle.rules.specs.Query.{Kind, term, phrase, boolean}
 use Rattle.rules.specs.Stored.{encode, encodes, encodeWords, kindTag}
-use Rattle.rules.specs.Parsing.{Made, made, nothing, operatorKind, termClauses, termOf, phraseOf}
+use Rattle.rules.specs.Parsing.{Made, made, operatorKind, termClauses, termOf, phraseOf}
 use Rattle.rules.proofs.Bigs.{length-big}
 use Rattle.rules.proofs.Sizes.{length-term, length-phrase, length-boolean}
 use Rattle.analysis.specs.Tokens.{Found, spelled, writtenByte}
-use Rattle.stored.specs.Laid.{laid, Put, header}
+use Rattle.stored.specs.Laid.{Put, header}
 use Rattle.stored.proofs.Laying.{laid-none, laid-all, put-then, put-body, copy-turn, copy-end}
 use Rattle.parser.specs.Kinds.{madeBytes, madeLength}
 use Rattle.parser.specs.Leaves.{tallied, termRow, FirstWritten}

@@ -18,7 +18,7 @@ ghost use Rattle.rules.specs.Parsing.{termOf, phraseOf};
 ghost use Rattle.analysis.specs.Tokens.{spelled};
 ghost use Rattle.stored.specs.Laid.{Put};
 ghost use Rattle.parser.specs.Kinds.{madeLength, madeBytes};
-ghost use Rattle.parser.specs.Leaves.{Tallied, termRow, FirstWritten};
+ghost use Rattle.parser.specs.Leaves.{Tallied, termRow, leafOf, FirstWritten};
 
 pub struct Tally {
     count: usize,
@@ -48,7 +48,7 @@ fn count_tokens(text: &[u8], analyzer: u8, each: usize) -> Tally
 }
 
 // One token makes a term, several a Boolean of terms; 0 where there is none. The field has `field` bytes.
-pub fn term_len(text: &[u8], analyzer: u8, field: usize) -> usize
+fn term_len(text: &[u8], analyzer: u8, field: usize) -> usize
     requires { ⌜ (field ≤ fieldMost) × (length (now text) ≤ textMost) ⌝ }
     ensures made { λ r. ⌜ ((o : ℕ) (f : List ℕ) → length f ≡ field → r ≡ madeLength (termOf o f (tokenize analyzer (now (text .entry))))) ⌝ }
     ensures bound { λ r. ⌜ r ≤ 8 + 45 * length (now (text .entry)) ⌝ }
@@ -64,7 +64,7 @@ pub fn term_len(text: &[u8], analyzer: u8, field: usize) -> usize
 }
 
 // One token makes a term, several a phrase; 0 where there is none.
-pub fn phrase_len(text: &[u8], analyzer: u8, field: usize) -> usize
+fn phrase_len(text: &[u8], analyzer: u8, field: usize) -> usize
     requires { ⌜ (field ≤ fieldMost) × (length (now text) ≤ textMost) ⌝ }
     ensures made { λ r. ⌜ ((f : List ℕ) → length f ≡ field → r ≡ madeLength (phraseOf f (tokenize analyzer (now (text .entry))))) ⌝ }
     ensures bound { λ r. ⌜ r ≤ 8 + 45 * length (now (text .entry)) ⌝ }
@@ -77,6 +77,18 @@ pub fn phrase_len(text: &[u8], analyzer: u8, field: usize) -> usize
         return t.bytes + 2 + field;
     }
     6 + field + t.bytes
+}
+
+// How long the query of a term's text is, or of a quoted text.
+pub fn leaf_len(plain: bool, text: &[u8], analyzer: u8, field: usize) -> usize
+    requires { ⌜ (field ≤ fieldMost) × (length (now text) ≤ textMost) ⌝ }
+    ensures made { λ r. ⌜ ((o : ℕ) (f : List ℕ) → length f ≡ field → r ≡ madeLength (leafOf plain o f (tokenize analyzer (now (text .entry))))) ⌝ }
+    ensures bound { λ r. ⌜ r ≤ 8 + 45 * length (now (text .entry)) ⌝ }
+{
+    if plain {
+        return term_len(text, analyzer, field);
+    }
+    phrase_len(text, analyzer, field)
 }
 
 // Lays a token's text as the analyzer spells it.

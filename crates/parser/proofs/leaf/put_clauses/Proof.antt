@@ -4,13 +4,10 @@ use Rattle.rules.specs.Query.{term}
 use Rattle.rules.specs.Bytes.{part}
 use Rattle.parser.proofs.Writing.{Laying, laying-starts, laying-ends, laying-fits, laying-on, row-none, row-here, slice-length, clause-room}
 use lib.ListN.{length, take, drop}
-use Rattle.parser.proofs.Writing.{Laying, laying-starts, laying-ends, laying-fits, laying-on, row-none, row-here, slice-length}
 use Rattle.parser.specs.Leaves.{termRow}
 use Rattle.analysis.specs.Tokens.{spelled}
 use Rattle.rules.specs.Analysis.{tokenTexts}
-use lib.ListN.{length, drop}
 use Prim.Native.Nat.{_+_, _-_, _≤_}
-use mathlib.Core.Path.{_≡_}
 use native.Mathlib.Omega.{arith}
 use borrow.Author.Needs.{needs}
 use Rattle.parser.proofs.leaf.put_clauses.Statement.{statement}

@@ -3,15 +3,11 @@ use Rattle.rules.specs.Bytes.{big, part}
 use Rattle.rules.specs.Numbers.{wordTag}
 use mathlib.Core.List.{_++_}
 use Rattle.parser.proofs.Writing.{Laying, laying-starts, laying-ends, laying-fits, laying-on, words-none, words-here, slice-length, word-room}
-use Rattle.parser.proofs.Writing.{Laying, laying-starts, laying-ends, laying-fits, laying-on, words-none, words-here, slice-length}
 use lib.ListN.{length, take, drop}
-use Rattle.parser.proofs.Writing.{Laying, laying-starts, laying-ends, laying-fits, laying-on, words-none, words-here, slice-length}
 use Rattle.analysis.specs.Tokens.{spelled}
 use Rattle.rules.specs.Stored.{encodeWords}
 use Rattle.rules.specs.Analysis.{tokenTexts, tokenize, placedFrom}
-use lib.ListN.{length, drop}
 use Prim.Native.Nat.{_+_, _-_, _≤_}
-use mathlib.Core.Path.{_≡_}
 use native.Mathlib.Omega.{arith}
 use borrow.Author.Needs.{needs}
 use Rattle.parser.proofs.leaf.put_words.Statement.{statement}
