@@ -14,7 +14,7 @@ use Rattle.rules.specs.Numbers.{chunkMost}
 use Rattle.rules.specs.Analysis.{front, after, classes, isLetter, lowercase, tokenTexts}
 use Rattle.rules.proofs.Pieces.{by-list, outside, front-nil, front-yes, front-no, front-after, front-most, after-is, first-length}
 use Rattle.rules.proofs.Tokens.{inWord, whitespace-none, whitespace-step, simple-none, simple-step, keyword-none, keyword-step}
-use Rattle.analysis.specs.Tokens.{inside, insideIn, firstOf, startFrom, textFrom, spelled, Found, FoundIn}
+use Rattle.analysis.specs.Tokens.{inside, insideIn, firstOf, startFrom, textFrom, spelled, Found}
 use Rattle.analysis.proofs.Tables.{letter-is, gap-is}
 
 -- ---- any test
@@ -72,13 +72,9 @@ module _ (P : ℕ → Bool) (q : P ≡ (λ c. true)) (s : List ℕ) (at : ℕ) w
   unfolding textFrom firstOf
   whole-text a v w = rw (whole-start, q, front-every, ne-eqb a 1 v, ne-eqb a 2 w)
 
-every-inside : (a : ℕ) → (a ≡ 1 → ⊥) → (a ≡ 2 → ⊥) → inside a ≡ (λ c. true)
+pub every-inside : (a : ℕ) → (a ≡ 1 → ⊥) → (a ≡ 2 → ⊥) → inside a ≡ (λ c. true)
 unfolding inside
 every-inside a v w = fun-ext (λ c. rw (ne-eqb a 1 v, ne-eqb a 2 w))
-
-pub every-inside-in : (t : List ℕ) (a : ℕ) → (a ≡ 1 → ⊥) → (a ≡ 2 → ⊥) → insideIn t a ≡ (λ c. true)
-unfolding insideIn
-every-inside-in t a v w = fun-ext (λ c. rw (ne-eqb a 1 v, ne-eqb a 2 w))
 
 -- ---- each analyzer
 
@@ -158,9 +154,6 @@ classes-inside : (a : ℕ) → insideIn classes a ≡ inside a
 unfolding insideIn inside
 classes-inside a = fun-ext (λ c. rw (gap-is, letter-is))
 
-pub found-in : (t : List ℕ) (a : ℕ) (s : List ℕ) (at start len : ℕ) → start ≡ startFrom (insideIn t a) s at → len ≡ length (textFrom (insideIn t a) a s at) → FoundIn t a s at start len
-found-in t a s at start len p z = record {
-  place = p;
-  size = z;
-  found = λ e. let q : insideIn t a ≡ inside a = rw e (classes-inside a) in found a s at start len (rw q at p) (rw q at z);
-}
+pub found-in : (t : List ℕ) → t ≡ classes → (a : ℕ) (s : List ℕ) (at start len : ℕ) → start ≡ startFrom (insideIn t a) s at → len ≡ length (textFrom (insideIn t a) a s at) → Found a s at start len
+found-in t e a s at start len p z =
+    let q : insideIn t a ≡ inside a = rw e (classes-inside a) in found a s at start len (rw q at p) (rw q at z)

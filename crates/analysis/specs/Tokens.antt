@@ -7,7 +7,7 @@ use lib.ListN.{length, take, drop}
 use lib.Dec.{eqb}
 use Rattle.rules.specs.Numbers.{chunkMost, whitespaceAnalyzer, simpleAnalyzer}
 use Rattle.rules.specs.Query.{word}
-use Rattle.rules.specs.Analysis.{front, classes, isGap, isLetter, lower, lowercase, tokenTexts, placedFrom, tokenize}
+use Rattle.rules.specs.Analysis.{front, isGap, isLetter, lower, lowercase, tokenTexts, placedFrom, tokenize}
 use Rattle.analysis.specs.Classes.{gapIn, letterIn}
 
 -- by the analyzer: whitespace, simple, and every other number, which counts as keyword
@@ -66,12 +66,6 @@ pub record Found (a : ℕ) (s : List ℕ) (at start len : ℕ) : Type 0 where
   pub within : start + len ≤ at + (length s - at)
   pub none : len ≡ 0 → tokenTexts a (drop at s) ≡ []
   pub one : 0 < len → tokenTexts a (drop at s) ≡ spelled a (take len (drop start s)) ∷ tokenTexts a (drop (start + len) s)
-
--- the same by a table of classes
-pub record FoundIn (t : List ℕ) (a : ℕ) (s : List ℕ) (at start len : ℕ) : Type 0 where
-  pub place : start ≡ startFrom (insideIn t a) s at
-  pub size : len ≡ length (textFrom (insideIn t a) a s at)
-  pub found : t ≡ classes → Found a s at start len
 
 -- ---- the k-th token
 

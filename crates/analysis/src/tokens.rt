@@ -6,7 +6,7 @@ ghost use mathlib.Core.Bool.{true, false};
 ghost use lib.ListN.{length};
 ghost use Rattle.rules.specs.Numbers.{chunkMost};
 ghost use Rattle.rules.specs.Analysis.{tokenTexts};
-ghost use Rattle.analysis.specs.Tokens.{insideIn, wantedIn, Span, byAnalyzer, writtenByte, Found, FoundIn, Nth};
+ghost use Rattle.analysis.specs.Tokens.{insideIn, wantedIn, Span, byAnalyzer, writtenByte, Found, Nth};
 
 pub const WHITESPACE: u8 = 1;
 
@@ -80,9 +80,9 @@ fn chunk_end(start: usize, end: usize) -> usize
     }
 }
 
-// The first token from `at` on, by a table of classes that the caller made once.
-pub fn next_token_in(table: &[u8; 128], text: &[u8], analyzer: u8, at: usize) -> Token
-    ensures { λ r. ⌜ FoundIn (now (table .entry)) analyzer (now (text .entry)) at (r .start) (r .len) ⌝ }
+// The first token from `at` on.
+pub fn next_token(text: &[u8], analyzer: u8, at: usize) -> Token
+    ensures { λ r. ⌜ Found analyzer (now (text .entry)) at (r .start) (r .len) ⌝ }
 {
     let n = text.len();
     if n <= at {
@@ -94,29 +94,22 @@ pub fn next_token_in(table: &[u8; 128], text: &[u8], analyzer: u8, at: usize) ->
             len: n - at,
         };
     }
-    let start = span(table, text, analyzer, at, n, false);
-    let end = span(table, text, analyzer, start, chunk_end(start, n), true);
+    let table = classes::table();
+    let start = span(&table, text, analyzer, at, n, false);
+    let end = span(&table, text, analyzer, start, chunk_end(start, n), true);
     Token {
         start,
         len: end - start,
     }
 }
 
-// The first token from `at` on. Whoever asks often lends a table to `next_token_in`.
-pub fn next_token(text: &[u8], analyzer: u8, at: usize) -> Token
-    ensures { λ r. ⌜ Found analyzer (now (text .entry)) at (r .start) (r .len) ⌝ }
-{
-    next_token_in(&classes::table(), text, analyzer, at)
-}
-
 pub fn token_count(text: &[u8], analyzer: u8) -> usize
     ensures { λ r. ⌜ r ≡ length (tokenTexts analyzer (now (text .entry))) ⌝ }
 {
-    let table = classes::table();
     let mut n: usize = 0;
     let mut at: usize = 0;
     loop {
-        let t = next_token_in(&table, text, analyzer, at);
+        let t = next_token(text, analyzer, at);
         if t.len == 0 {
             return n;
         }
@@ -129,11 +122,10 @@ pub fn token_count(text: &[u8], analyzer: u8) -> usize
 pub fn nth_token(text: &[u8], analyzer: u8, k: usize) -> Placed
     ensures { λ r. ⌜ Nth analyzer (now (text .entry)) k (r .start) (r .len) (r .position) ⌝ }
 {
-    let table = classes::table();
     let mut at: usize = 0;
     let mut i: usize = 0;
     loop {
-        let t = next_token_in(&table, text, analyzer, at);
+        let t = next_token(text, analyzer, at);
         if t.len == 0 {
             return Placed {
                 start: t.start,

@@ -1,16 +1,15 @@
 -- A clause: where it begins, its terms and quotes, a query in brackets, a boost behind it. Assumes nothing.
 use mathlib.Core.Path.{_≡_, refl, sym, ap, subst, _∙_}
-use mathlib.Core.Bool.{Bool, true, false, not, _&&_, cond}
-use Prim.Native.Nat.{ℕ, suc, _+_, _-_, _*_, _≤_, _<_}
-use mathlib.Core.List.{List, []}
+use mathlib.Core.Bool.{Bool, true, false}
+use Prim.Native.Nat.{ℕ, _+_, _-_, _*_, _≤_, _<_}
+use mathlib.Core.List.{List}
 use native.Mathlib.Omega.{arith}
 use native.Mathlib.Numerals.{add-one}
-use lib.Dec.{leb, ltb, eqb}
+use lib.Dec.{leb}
 use lib.ListN.{length}
 use borrow.Author.Tests.{eq-eqb, ne-eqb, le-leb, lt-leb, lt-ltb, le-ltb}
-use Rattle.rules.specs.Numbers.{Refusal, number, Read, got, refused, need, onRead, andThen, fuzzyTerm, sloppyPhrase, openBracket, noNumeral, longField, manyBrackets, unexpectedEnd, unexpectedToken, fieldMost}
+use Rattle.rules.specs.Numbers.{Refusal, number, Read, got, refused, onRead, andThen, fuzzyTerm, sloppyPhrase, openBracket, noNumeral, longField, manyBrackets, unexpectedEnd, unexpectedToken, fieldMost}
 use Rattle.rules.specs.Query.{Query, boost, Clauses, none}
-use Rattle.rules.specs.Stored.{encode}
 use Rattle.rules.specs.Lexing.{Token}
 use Rattle.rules.specs.Analysis.{tokenize}
 use Rattle.rules.specs.Numerals.{numeralBits}
@@ -18,17 +17,16 @@ use Rattle.rules.specs.Setup.{Setup, analyzerOf}
 use Rattle.rules.specs.Parsing.{Made, nothing, made, Found, found, onMade, Kept, kept, tokenOf, isAt, textAt, termOf, phraseOf, boostAt, plainAt, quotedAt, closedAt, bracketAt, bodyAt, clauseAt, queryFound, queryOf, parseClauses}
 use Rattle.rules.proofs.Sizes.{length-boost, length-encode}
 use Rattle.lexer.specs.Row.{tokenAt, tokensOf, nameFrom}
-use Rattle.parser.specs.Kinds.{madeBytes, madeLength, Sums}
-use Rattle.parser.specs.Measured.{Says, placeAt, Spaced, Rowed, isNamed, noteAt, Fielded, Tuned, clauseRun, MeansFound, MeansKept, WithinClause, WithinClauses, MeantClause, MeantClauses}
+use Rattle.parser.specs.Leaves.{leafOf, leafKind, leafFault, leafAt}
+use Rattle.parser.specs.Kinds.{madeLength}
+use Rattle.parser.specs.Measured.{Says, placeAt, Rowed, isNamed, noteAt, MeansFound, WithinClause, WithinClauses, MeantClause}
 use Rattle.parser.specs.Starting.{Started, WithinBoost}
 use Rattle.boost.specs.Numeral.{answerOf}
-use Rattle.boost.specs.declared.numeral.Answer.{Answer}
 use Rattle.boost.specs.declared.numeral.Answer.the-variants as answer
 use Rattle.parser.specs.declared.kinds.Measured.{Measured}
 use Rattle.parser.specs.declared.kinds.Measured.the-variants.{Refused, Clause}
-use Rattle.parser.specs.declared.kinds.Counted.{Counted}
-use Rattle.parser.specs.declared.kinds.Counted.the-variants.{Fault, Clauses as Many}
-use Rattle.parser.proofs.Rows.{text-is, kind-in, named-in, place-up, place-on, place-text}
+use Rattle.parser.specs.declared.kinds.Counted.the-variants.{Clauses as Many}
+use Rattle.parser.proofs.Rows.{text-is, named-in, place-up, place-on, place-text}
 
 -- ---- where a clause begins
 
@@ -126,6 +124,19 @@ module _ (st : Setup) (ts : List Token) (f : List ℕ) (i : ℕ) where
   pub quoted-goes : isAt 12 ts (i + 1) ≡ false → quotedAt st ts f i ≡ boostAt st ts (phraseOf f (tokenize (analyzerOf st f) (textAt ts i))) (i + 1)
   unfolding quotedAt
   quoted-goes e = rw e
+
+pub leaf-some : (b : Bool) → leafKind b ≡ 0 → ⊥
+leaf-some true e = omega arith
+leaf-some false e = omega arith
+
+pub leaf-faulty : (b : Bool) (st : Setup) (ts : List Token) (f : List ℕ) (i : ℕ) → isAt 12 ts (i + 1) ≡ true → leafAt b st ts f i ≡ refused (leafFault b)
+leaf-faulty true st ts f i e = plain-fuzzy st ts f i e
+leaf-faulty false st ts f i e = quoted-sloppy st ts f i e
+
+pub leaf-goes : (b : Bool) (st : Setup) (ts : List Token) (f : List ℕ) (i : ℕ) → isAt 12 ts (i + 1) ≡ false
+    → leafAt b st ts f i ≡ boostAt st ts (leafOf b (st .operator) f (tokenize (analyzerOf st f) (textAt ts i))) (i + 1)
+leaf-goes true st ts f i e = plain-goes st ts f i e
+leaf-goes false st ts f i e = quoted-goes st ts f i e
 
 -- the same of an analyzer and a text that are equal
 pub leaf-same : (F : ℕ → List ℕ → Made) (len a b : ℕ) (t u : List ℕ) → a ≡ b → t ≡ u → len ≡ madeLength (F a t) → len ≡ madeLength (F b u)

@@ -1,17 +1,17 @@
 -- A query written clause by clause: what is kept only grows, and what is laid follows it. Assumes nothing.
 use mathlib.Core.Path.{_≡_, refl, sym, ap, subst, _∙_}
-use mathlib.Core.Bool.{Bool, true, false, not, cond}
-use Prim.Native.Nat.{ℕ, zero, suc, _+_, _-_, _*_, _/_, _%_, _≤_, _<_}
+use mathlib.Core.Bool.{Bool, true, false, cond}
+use Prim.Native.Nat.{ℕ, zero, suc, _+_, _-_, _/_, _%_, _≤_, _<_}
 use mathlib.Core.List.{List, [], _∷_, _++_, append-assoc, append-nil}
 use native.Mathlib.Omega.{arith}
 use lib.Dec.{ltb}
-use lib.ListN.{length, take, drop, getD, set, length-append}
-use lib.Seq.{set-at, getD-at, set-append-left}
+use lib.ListN.{length, drop, getD, set, length-append}
+use lib.Seq.{set-at, getD-at}
 use borrow.Author.Tests.{lt-ltb, le-ltb}
 use Rattle.rules.specs.Numbers.{Refusal, Read, got, refused, onRead, andThen}
 use Rattle.rules.specs.Bytes.{big, part}
-use Rattle.rules.specs.Query.{Kind, Query, boolean, Clauses, none, clause}
-use Rattle.rules.specs.Stored.{kindTag, encode, encodes}
+use Rattle.rules.specs.Query.{Kind, Query, Clauses, none, clause}
+use Rattle.rules.specs.Stored.{kindTag, encode}
 use Rattle.rules.specs.Lexing.{Token}
 use Rattle.rules.specs.Setup.{Setup}
 use Rattle.rules.specs.Parsing.{Made, nothing, made, Found, found, Kept, kept, stopsAt, Conjunction, Modifier, kindBefore, kindAfter, touched, addClause, queryFound, queryOf, inOrderBefore, parseClauses, clauseAt, conjunctionAt, afterConjunction, modifierAt, afterModifier}
@@ -21,13 +21,13 @@ use Rattle.rules.proofs.Sizes.{length-boolean}
 use Rattle.stored.specs.Laid.{laid, Put, header}
 use Rattle.stored.proofs.Laying.{laid-front, laid-all, laid-over, put-then, put-body}
 use Rattle.parser.specs.Kinds.{conjunctionOf, modifierOf, isKept, lastTag, bytesOf, isAlone, madeBytes, madeLength, withMade}
-use Rattle.parser.specs.Measured.{Says, clauseRun, clausesRun, MeansFound, MeantClause}
-use Rattle.parser.specs.Written.{Eventually, Touches}
+use Rattle.parser.specs.Measured.{clauseRun, clausesRun, MeansFound, MeantClause}
+use Rattle.parser.specs.Written.{Eventually, boolFront, Touches}
 use Rattle.parser.specs.declared.kinds.Measured.{Measured}
 use Rattle.parser.specs.declared.kinds.Measured.the-variants.{Refused, Clause}
 use Rattle.parser.proofs.Deciding.{length-touched, made-some}
 use Rattle.parser.proofs.Keeping.{all-in-order, several-is}
-use Rattle.parser.proofs.Steps.{Lead, led, run-is, added-is}
+use Rattle.parser.proofs.Steps.{Lead, run-is, added-is}
 
 -- ---- what is kept stays
 
@@ -101,11 +101,6 @@ pub grows : (st : Setup) (ts : List Token) (f : List ℕ) (d : ℕ) (acc : Claus
     → Eventually (clausesRun st ts f d acc i) (got (kept cs j)) → Grows acc cs
 grows st ts f d acc i (m, s) = grows-in st ts f d m acc i (s m (omega arith))
 
--- the first that is kept is the only one
-pub alone-root : {k l : Kind} {p q : Query} → Grows (clause k p none) (clause l q none) → p ≡ q
-unfolding base
-alone-root {p = p} G = G .root p refl
-
 -- ---- a turn, from some fuel on
 
 module _ (st : Setup) (ts : List Token) (f : List ℕ) (d : ℕ) (cs : Clauses) (i : ℕ) {R : Read Kept} (E : Eventually (clausesRun st ts f d cs i) R) where
@@ -135,12 +130,6 @@ module _ (st : Setup) (ts : List Token) (f : List ℕ) (d : ℕ) (cs : Clauses) 
 
 -- ---- the first clause that is kept
 
-pub past-modifier : (m i k : ℕ) → k ≡ afterModifier (modifierOf m) i → (i ≤ k) × (k ≤ i + 1)
-past-modifier m i k e = let l = led 0 m i i k refl e in l .two
-
-pub lead-first : {ts : List Token} {i m k : ℕ} → modifierAt ts i ≡ modifierOf m → k ≡ afterModifier (modifierOf m) i → Lead ts none i 0 i m k
-lead-first e f = record { joins = refl; first = refl; modifies = e; second = f }
-
 touched-none : (o : ℕ) (c : Conjunction) → touched o c none ≡ none
 unfolding touched
 touched-none o c = refl
@@ -160,7 +149,7 @@ pub first-none : (st : Setup) (ts : List Token) (f : List ℕ) (d i : ℕ) {k : 
 first-none st ts f d i E e = none-kept (ev-stops st ts f d none i E e)
 
 module _ {st : Setup} {ts : List Token} {f : List ℕ} {n d i : ℕ} {R : Read Kept} (E : Eventually (clausesRun st ts f d none i) R) (goes : stopsAt ts i ≡ false)
-    (m k : ℕ) (L : Lead ts none i 0 i m k) {g : Measured} (M : MeantClause st ts n f d k g) where
+    (c j′ m k : ℕ) (L : Lead ts none i c j′ m k) {g : Measured} (M : MeantClause st ts n f d k g) where
   meant-as : {g′ : Measured} → g ≡ g′ → MeansFound g′ (M .answer)
   meant-as e = subst (λ (x : Measured). MeansFound x (M .answer)) e (M .means)
 
@@ -173,28 +162,25 @@ module _ {st : Setup} {ts : List Token} {f : List ℕ} {n d i : ℕ} {R : Read K
   pub first-nothing : {len next : ℕ} → g ≡ Clause len next → len ≡ 0 → Eventually (clausesRun st ts f d none next) R
   first-nothing {len} {next} e l = let z = meant-as e in by (z .0) (sym l ∙ z .2) (ev-found st ts f d none i E goes L (runs-as (z .1)))
     where
-      by : (q : Made) → 0 ≡ madeLength q → Eventually (clausesRun st ts f d (withMade (st .operator) (conjunctionOf 0) (modifierOf m) none q) next) R
+      by : (q : Made) → 0 ≡ madeLength q → Eventually (clausesRun st ts f d (withMade (st .operator) (conjunctionOf c) (modifierOf m) none q) next) R
           → Eventually (clausesRun st ts f d none next) R
-      by nothing l X = subst (λ (c : Clauses). Eventually (clausesRun st ts f d c next) R) (touched-none (st .operator) (conjunctionOf 0)) X
+      by nothing l X = subst (λ (a : Clauses). Eventually (clausesRun st ts f d a next) R) (touched-none (st .operator) (conjunctionOf c)) X
       by (made q) l X = absurd (made-some q l)
 
   pub first-made : {len next : ℕ} {l : Kind} {q : Query} {j : ℕ} → g ≡ Clause len next → (len ≡ 0 → ⊥) → R ≡ got (kept (clause l q none) j)
-      → (h : ℕ) × Eventually (clauseRun st ts f d k) (got (found (made q) h))
+      → Eventually (clauseRun st ts f d k) (got (found (made q) next)) × (len ≡ length (encode q))
   first-made {len} {next} {l} {q} {j} e x r =
-      let z = meant-as e in by (z .0) (z .2) (runs-as (z .1)) (subst (Eventually (clausesRun st ts f d (withMade (st .operator) (conjunctionOf 0) (modifierOf m) none (z .0)) next)) r (ev-found st ts f d none i E goes L (runs-as (z .1))))
+      let z = meant-as e in by (z .0) (z .2) (runs-as (z .1)) (subst (Eventually (clausesRun st ts f d (withMade (st .operator) (conjunctionOf c) (modifierOf m) none (z .0)) next)) r (ev-found st ts f d none i E goes L (runs-as (z .1))))
     where
       by : (p : Made) → len ≡ madeLength p → Eventually (clauseRun st ts f d k) (got (found p next))
-          → Eventually (clausesRun st ts f d (withMade (st .operator) (conjunctionOf 0) (modifierOf m) none p) next) (got (kept (clause l q none) j))
-          → (h : ℕ) × Eventually (clauseRun st ts f d k) (got (found (made q) h))
+          → Eventually (clausesRun st ts f d (withMade (st .operator) (conjunctionOf c) (modifierOf m) none p) next) (got (kept (clause l q none) j))
+          → Eventually (clauseRun st ts f d k) (got (found (made q) next)) × (len ≡ length (encode q))
       by nothing y C X = absurd (x y)
       by (made p) y C X =
-          (next, subst (λ (o : Query). Eventually (clauseRun st ts f d k) (got (found (made o) next))) (root-first (st .operator) (conjunctionOf 0) (grows st ts f d _ next X)) C)
+          let same = root-first (st .operator) (conjunctionOf c) (grows st ts f d _ next X) in
+          (subst (λ (o : Query). Eventually (clauseRun st ts f d k) (got (found (made o) next))) same C, y ∙ ap (λ (o : Query). length (encode o)) same)
 
 -- ---- what is laid
-
--- the first eight bytes of a Boolean of n bytes
-abbrev pub boolFront : ℕ → List ℕ
-boolFront n = header 3 (n - 3) ++ part 0x13 (big 2 0)
 
 -- where the header of the last clause stands
 abbrev pub LastAt : ℕ → Clauses → Type 0

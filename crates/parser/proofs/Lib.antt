@@ -7,6 +7,7 @@ pub mod Steps
 pub mod Writing
 pub mod Fronts
 pub mod Filling
+pub mod Going
 pub mod Placing
 pub mod Notes
 pub mod Entries

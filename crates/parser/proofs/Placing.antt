@@ -2,13 +2,13 @@
 -- Assumes nothing.
 use mathlib.Core.Path.{_≡_, refl, sym, ap, subst, _∙_}
 use mathlib.Core.Logic.{_⊎_, inl, inr, ⊎-elim}
-use mathlib.Core.Bool.{Bool, true, false, not, _&&_, cond}
-use Prim.Native.Nat.{ℕ, suc, _+_, _-_, _*_, _≤_, _<_}
-use mathlib.Core.List.{List, [], _∷_, _++_}
+use mathlib.Core.Bool.{Bool, true, false, cond}
+use Prim.Native.Nat.{ℕ, suc, _+_, _-_, _≤_, _<_}
+use mathlib.Core.List.{List, _++_}
 use native.Mathlib.Decide.{decLt}
 use native.Mathlib.Omega.{arith}
 use native.Mathlib.Numerals.{add-one}
-use lib.Dec.{eqb, ltb}
+use lib.Dec.{ltb}
 use lib.ListN.{length, take, drop, length-append, length-drop}
 use lib.Seq.{length-take-le}
 use borrow.Author.Tests.{eqb-true, le-ltb, lt-ltb}
@@ -18,16 +18,15 @@ use Rattle.rules.specs.Stored.{encode}
 use Rattle.rules.specs.Lexing.{Token}
 use Rattle.rules.specs.Analysis.{tokenize}
 use Rattle.rules.specs.Setup.{Setup, analyzerOf}
-use Rattle.rules.specs.Parsing.{Made, made, Found, found, Kept, kept, tokenOf, isAt, textAt, termOf, phraseOf, boostAt, plainAt, quotedAt, closedAt, bracketAt, bodyAt, clauseAt, queryFound, queryOf, parseClauses}
+use Rattle.rules.specs.Parsing.{Made, made, Found, found, Kept, kept, isAt, textAt, termOf, phraseOf, plainAt, quotedAt, closedAt, bracketAt, bodyAt, queryFound, queryOf, parseClauses}
 use Rattle.rules.proofs.Bools.{clash, split}
 use Rattle.rules.proofs.Parts.{cut-from}
 use Rattle.rules.proofs.Refusals.{no-got}
-use Rattle.rules.proofs.Sizes.{length-encode}
 use Rattle.lexer.specs.Row.{tokensOf, nameFrom}
 use Rattle.stored.specs.Laid.{laid, Put}
 use Rattle.stored.proofs.Laying.{lent, length-laid}
-use Rattle.parser.specs.Kinds.{madeBytes, madeLength, Sums}
-use Rattle.parser.specs.Measured.{Says, Rowed, Tuned, clausesRun, MeansKept, MeantClauses}
+use Rattle.parser.specs.Kinds.{Sums}
+use Rattle.parser.specs.Measured.{clausesRun, MeansKept, MeantClauses}
 use Rattle.parser.specs.Starting.{Started}
 use Rattle.parser.specs.Written.{Eventually, isBoosted, boostFront, LeafToWrite, ClauseToWrite}
 use Rattle.parser.specs.declared.kinds.Counted.{Counted}
@@ -197,9 +196,6 @@ module _ {room : List ℕ} {n i from analyzer from′ analyzer′ i′ : ℕ} (S
           (split (isAt 10 us next))
 
 -- ---- the middle of an output
-
-pub header-room : (w len : ℕ) (out₁ out base : List ℕ) → length out₁ ≡ length out → length out ≡ length base → w + 3 + len ≤ length base → w + 3 ≤ length out₁
-header-room w len out₁ out base e f h = omega arith
 
 pub mid-put : (out ys S : List ℕ) (start len : ℕ) → start + len ≤ length out → ys ≡ S → len ≡ length S
     → Put out start S (start + len) (take start out ++ (ys ++ drop (start + len - start) (drop start out)))

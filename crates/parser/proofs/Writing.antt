@@ -2,7 +2,7 @@
 -- Assumes nothing.
 use mathlib.Core.Path.{_≡_, refl, sym, ap, subst, _∙_}
 use mathlib.Core.Bool.{Bool, true, false, cond}
-use Prim.Native.Nat.{ℕ, zero, suc, _+_, _-_, _*_, _≤_, _<_}
+use Prim.Native.Nat.{ℕ, zero, suc, _+_, _-_, _≤_, _<_}
 use mathlib.Core.List.{List, [], _∷_, _++_, append-assoc, append-nil, cons-ne-nil}
 use native.Mathlib.Omega.{arith}
 use native.Mathlib.Numerals.{add-one}
@@ -12,17 +12,17 @@ use lib.Seq.{paste, length-take-le}
 use Rattle.rules.specs.Numbers.{wordTag}
 use Rattle.rules.specs.Bytes.{big, part}
 use Rattle.rules.specs.Analysis.{tokenTexts, placedFrom, tokenize, lower, lowercase}
-use Rattle.rules.specs.Query.{Kind, Word, word, Query, term, phrase, boolean, Clauses}
+use Rattle.rules.specs.Query.{Kind, term, phrase, boolean}
 use Rattle.rules.specs.Stored.{encode, encodes, encodeWords, kindTag}
-use Rattle.rules.specs.Parsing.{Made, made, nothing, operatorKind, termClauses, termOf, phraseOf}
+use Rattle.rules.specs.Parsing.{Made, made, operatorKind, termClauses, termOf, phraseOf}
 use Rattle.rules.proofs.Bigs.{length-big}
 use Rattle.rules.proofs.Sizes.{length-term, length-phrase, length-boolean}
-use Rattle.analysis.specs.Tokens.{Found, spelled}
-use Rattle.stored.specs.Laid.{laid, Put, header}
+use Rattle.analysis.specs.Tokens.{Found, spelled, writtenByte}
+use Rattle.stored.specs.Laid.{Put, header}
 use Rattle.stored.proofs.Laying.{laid-none, laid-all, put-then, put-body, copy-turn, copy-end}
 use Rattle.parser.specs.Kinds.{madeBytes, madeLength}
-use Rattle.parser.specs.Leaves.{termRow, spellOf}
-use Rattle.parser.proofs.Tallying.{spelled-length}
+use Rattle.parser.specs.Leaves.{tallied, termRow, FirstWritten}
+use Rattle.parser.proofs.Tallying.{spelled-length, term-length-many, phrase-length-many}
 
 -- ---- spelling
 
@@ -32,11 +32,11 @@ spelled-by true (c ∷ s) zero h = refl
 spelled-by true (c ∷ s) (suc k) h = spelled-by true s k (omega arith)
 spelled-by false s k h = refl
 
-pub spelled-get : (a : ℕ) (s : List ℕ) (k : ℕ) → k < length s → spellOf a (getD s k 0) ≡ getD (spelled a s) k 0
-unfolding spelled
+pub spelled-get : (a : ℕ) (s : List ℕ) (k : ℕ) → k < length s → writtenByte a (getD s k 0) ≡ getD (spelled a s) k 0
+unfolding spelled writtenByte
 spelled-get a s k h = spelled-by (eqb a 2) s k h
 
-pub spelled-turn : (a : ℕ) (out l s : List ℕ) (at k x : ℕ) → at + length s ≤ length out → k < length s → x ≡ spellOf a (getD s k 0)
+pub spelled-turn : (a : ℕ) (out l s : List ℕ) (at k x : ℕ) → at + length s ≤ length out → k < length s → x ≡ writtenByte a (getD s k 0)
     → l ≡ paste out at (spelled a s) k → set l (at + k) x ≡ paste out at (spelled a s) (k + 1)
 spelled-turn a out l s at k x h i e p =
     ap (set l (at + k)) (e ∙ spelled-get a s k i)
@@ -136,15 +136,15 @@ module _ {a : ℕ} {s : List ℕ} {from start len : ℕ} (F : Found a s from sta
       ≡ part wordTag (big 4 p ++ spelled a (take (start + len - start) (drop start s))) ++ encodeWords (placedFrom (p + 1) (tokenTexts a (drop (start + len) s)))
   words-here p n = words-one p (one-here n) ∙ rw add-one
 
-module _ {a : ℕ} {s : List ℕ} {start len : ℕ} (F : Found a s 0 start len) (t : List ℕ) (e : tokenTexts a s ≡ t ∷ []) where
-  pub one-some : len ≡ 0 → ⊥
-  one-some z = let x : t ∷ [] ≡ [] = sym e ∙ F .none z in cons-ne-nil t [] x
+module _ {a : ℕ} {s : List ℕ} {start len : ℕ} (F : Found a s 0 start len) (t : List ℕ) (us : List (List ℕ)) (e : tokenTexts a s ≡ t ∷ us) where
+  first-some : len ≡ 0 → ⊥
+  first-some z = let x : t ∷ us ≡ [] = sym e ∙ F .none z in cons-ne-nil t us x
 
-  pub one-slice : spelled a (take (start + len - start) (drop start s)) ≡ t
-  one-slice = let x : spelled a (take (start + len - start) (drop start s)) ∷ tokenTexts a (drop (start + len) s) ≡ t ∷ [] = sym (one-here F one-some) ∙ e in cc
+  pub first-slice : spelled a (take (start + len - start) (drop start s)) ≡ t
+  first-slice = let x : spelled a (take (start + len - start) (drop start s)) ∷ tokenTexts a (drop (start + len) s) ≡ t ∷ us = sym (one-here F first-some) ∙ e in cc
 
-  pub one-size : length t ≡ len
-  one-size = ap length (sym one-slice) ∙ spelled-length a _ ∙ slice-length s start len (omega (arith, F .within))
+  pub first-size : length t ≡ len
+  first-size = ap length (sym first-slice) ∙ spelled-length a _ ∙ slice-length s start len (omega (arith, F .within))
 
 -- a clause and a word fit where their bytes do
 pub clause-room : (f t out : List ℕ) (a w tag : ℕ) → w + length (part tag (encode (term f (spelled a t)))) ≤ length out → w + 12 + length f + length t ≤ length out
@@ -160,10 +160,18 @@ unfolding encodes termClauses placedFrom termRow
 row-is k f p [] = refl
 row-is k f p (t ∷ ts) = ap (λ (r : List ℕ). part (kindTag k) (encode (term f t)) ++ r) (row-is k f (suc p) ts)
 
-one-of : (ts : List (List ℕ)) → length ts ≡ 1 → (t : List ℕ) × (ts ≡ t ∷ [])
-one-of [] e = absurd (omega arith)
-one-of (t ∷ []) e = (t, refl)
-one-of (t ∷ u ∷ ts) e = absurd (omega arith)
+-- the query that texts of tokens make: of one text it is a term, of more it is longer than the first text's term
+module _ (f : List ℕ) (G : List (List ℕ) → Made) (no : madeLength (G []) ≡ 0) (one : (t : List ℕ) → G (t ∷ []) ≡ made (term f t))
+    (many : (t u : List ℕ) (us : List (List ℕ)) → 9 + length f + length t < madeLength (G (t ∷ u ∷ us))) where
+  first-alone : (ts : List (List ℕ)) (out out′ : List ℕ) → length out ≡ madeLength (G ts) → 0 < length out → FirstWritten ts f out true out′ → out′ ≡ madeBytes (G ts)
+  first-alone [] out out′ l h w = absurd (omega (arith, no))
+  first-alone (t ∷ []) out out′ l h w = w t [] refl .1 ∙ sym (ap madeBytes (one t))
+  first-alone (t ∷ u ∷ us) out out′ l h w = absurd (omega (arith, many t u us, w t (u ∷ us) refl .0))
+
+  first-of-many : (ts : List (List ℕ)) (out out′ : List ℕ) → length out ≡ madeLength (G ts) → FirstWritten ts f out false out′ → length ts ≡ 1 → ⊥
+  first-of-many [] out out′ l w e = absurd (omega arith)
+  first-of-many (t ∷ []) out out′ l w e = w .1 t [] refl (l ∙ ap madeLength (one t) ∙ length-term f t)
+  first-of-many (t ∷ u ∷ us) out out′ l w e = absurd (omega arith)
 
 module _ (o : ℕ) (f : List ℕ) where
   term-is : {t : List ℕ} {ts : List (List ℕ)} → ts ≡ t ∷ [] → termOf o f (placedFrom 0 ts) ≡ made (term f t)
@@ -177,14 +185,20 @@ module _ (o : ℕ) (f : List ℕ) where
   boolean-is (t ∷ []) n h = absurd (n refl)
   boolean-is (t ∷ u ∷ ts) n h = refl
 
-  -- what the code is to write, where there is one token and where there are several
-  pub write-one : (a : ℕ) (s out : List ℕ) → length (tokenTexts a s) ≡ 1 → length out ≡ madeLength (termOf o f (tokenize a s))
-      → (t : List ℕ) × (tokenTexts a s ≡ t ∷ []) × (length out ≡ length (encode (term f t)))
-  write-one a s out e l = let z = one-of (tokenTexts a s) e in (z .0, z .1, l ∙ ap madeLength (term-is (z .1)))
+  no-term : madeLength (termOf o f (placedFrom 0 [])) ≡ 0
+  unfolding termOf placedFrom
+  no-term = refl
 
-  pub wrote-one : (a : ℕ) (s out : List ℕ) → length (tokenTexts a s) ≡ 1 → ((t : List ℕ) → tokenTexts a s ≡ t ∷ [] → out ≡ encode (term f t))
-      → out ≡ madeBytes (termOf o f (tokenize a s))
-  wrote-one a s out e w = let z = one-of (tokenTexts a s) e in w (z .0) (z .1) ∙ sym (ap madeBytes (term-is (z .1)))
+  terms-longer : (t u : List ℕ) (us : List (List ℕ)) → 9 + length f + length t < madeLength (termOf o f (placedFrom 0 (t ∷ u ∷ us)))
+  unfolding tallied
+  terms-longer t u us = omega (arith, term-length-many f o (t ∷ u ∷ us) (λ e. omega arith) (λ e. omega arith))
+
+  pub term-alone : (ts : List (List ℕ)) (out out′ : List ℕ) → length out ≡ madeLength (termOf o f (placedFrom 0 ts)) → 0 < length out → FirstWritten ts f out true out′
+      → out′ ≡ madeBytes (termOf o f (placedFrom 0 ts))
+  term-alone = first-alone f (λ ts. termOf o f (placedFrom 0 ts)) no-term (λ t. term-is refl) terms-longer
+
+  pub term-of-many : (ts : List (List ℕ)) (out out′ : List ℕ) → length out ≡ madeLength (termOf o f (placedFrom 0 ts)) → FirstWritten ts f out false out′ → length ts ≡ 1 → ⊥
+  term-of-many = first-of-many f (λ ts. termOf o f (placedFrom 0 ts)) no-term (λ t. term-is refl) terms-longer
 
   module _ (a : ℕ) (s out : List ℕ) (n : length (tokenTexts a s) ≡ 1 → ⊥) (h : 0 < length out) (l : length out ≡ madeLength (termOf o f (tokenize a s))) where
     row : List ℕ
@@ -219,13 +233,20 @@ module _ (f : List ℕ) where
   phrase-is (t ∷ []) n h = absurd (n refl)
   phrase-is (t ∷ u ∷ ts) n h = refl
 
-  pub phrase-write-one : (a : ℕ) (s out : List ℕ) → length (tokenTexts a s) ≡ 1 → length out ≡ madeLength (phraseOf f (tokenize a s))
-      → (t : List ℕ) × (tokenTexts a s ≡ t ∷ []) × (length out ≡ length (encode (term f t)))
-  phrase-write-one a s out e l = let z = one-of (tokenTexts a s) e in (z .0, z .1, l ∙ ap madeLength (phrase-one (z .1)))
+  no-phrase : madeLength (phraseOf f (placedFrom 0 [])) ≡ 0
+  unfolding phraseOf placedFrom
+  no-phrase = refl
 
-  pub phrase-wrote-one : (a : ℕ) (s out : List ℕ) → length (tokenTexts a s) ≡ 1 → ((t : List ℕ) → tokenTexts a s ≡ t ∷ [] → out ≡ encode (term f t))
-      → out ≡ madeBytes (phraseOf f (tokenize a s))
-  phrase-wrote-one a s out e w = let z = one-of (tokenTexts a s) e in w (z .0) (z .1) ∙ sym (ap madeBytes (phrase-one (z .1)))
+  phrase-longer : (t u : List ℕ) (us : List (List ℕ)) → 9 + length f + length t < madeLength (phraseOf f (placedFrom 0 (t ∷ u ∷ us)))
+  unfolding tallied
+  phrase-longer t u us = omega (arith, phrase-length-many f (t ∷ u ∷ us) (λ e. omega arith) (λ e. omega arith))
+
+  pub phrase-alone : (ts : List (List ℕ)) (out out′ : List ℕ) → length out ≡ madeLength (phraseOf f (placedFrom 0 ts)) → 0 < length out → FirstWritten ts f out true out′
+      → out′ ≡ madeBytes (phraseOf f (placedFrom 0 ts))
+  phrase-alone = first-alone f (λ ts. phraseOf f (placedFrom 0 ts)) no-phrase (λ t. phrase-one refl) phrase-longer
+
+  pub phrase-of-many : (ts : List (List ℕ)) (out out′ : List ℕ) → length out ≡ madeLength (phraseOf f (placedFrom 0 ts)) → FirstWritten ts f out false out′ → length ts ≡ 1 → ⊥
+  phrase-of-many = first-of-many f (λ ts. phraseOf f (placedFrom 0 ts)) no-phrase (λ t. phrase-one refl) phrase-longer
 
   module _ (a : ℕ) (s out : List ℕ) (n : length (tokenTexts a s) ≡ 1 → ⊥) (h : 0 < length out) (l : length out ≡ madeLength (phraseOf f (tokenize a s))) where
     phrase-bytes : madeBytes (phraseOf f (tokenize a s)) ≡ encode (phrase f (tokenize a s))

@@ -3,12 +3,13 @@ use mathlib.Core.Path.{_≡_}
 use Prim.Native.Nat.{ℕ, suc, _+_}
 use mathlib.Core.List.{List, [], _∷_, _++_}
 use lib.ListN.{length}
-use mathlib.Core.Bool.{cond}
-use lib.Dec.{eqb}
-use Rattle.rules.specs.Numbers.{simpleAnalyzer}
-use Rattle.rules.specs.Analysis.{lower}
+use mathlib.Core.Bool.{Bool, true, false}
+use Rattle.rules.specs.Numbers.{Refusal, Read, fuzzyTerm, sloppyPhrase}
 use Rattle.rules.specs.Bytes.{part}
-use Rattle.rules.specs.Query.{term}
+use Rattle.rules.specs.Query.{Word, term}
+use Rattle.rules.specs.Lexing.{Token, termKind, quotedKind}
+use Rattle.rules.specs.Setup.{Setup}
+use Rattle.rules.specs.Parsing.{Made, Found, termOf, phraseOf, plainAt, quotedAt}
 use Rattle.rules.specs.Stored.{encode}
 
 -- the bytes of all the texts, with `each` more for every one
@@ -21,9 +22,32 @@ unfoldable pub termRow : ℕ → List ℕ → List (List ℕ) → List ℕ
 termRow tag f [] = []
 termRow tag f (t ∷ ts) = part tag (encode (term f t)) ++ termRow tag f ts
 
--- a byte as an analyzer spells it
-abbrev pub spellOf : ℕ → ℕ → ℕ
-spellOf a c = cond (eqb a simpleAnalyzer) (lower c) c
+-- the first token's term, in a stretch that is as long; false where it is not
+abbrev pub FirstWritten : List (List ℕ) → List ℕ → List ℕ → Bool → List ℕ → Type 0
+FirstWritten ts f out true out′ =
+    (t : List ℕ) (us : List (List ℕ)) → ts ≡ t ∷ us → (length out ≡ 9 + length f + length t) × (out′ ≡ encode (term f t))
+FirstWritten ts f out false out′ =
+    (out′ ≡ out) × ((t : List ℕ) (us : List (List ℕ)) → ts ≡ t ∷ us → length out ≡ 9 + length f + length t → ⊥)
+
+-- ---- a term, and with false a quoted text
+
+abbrev pub leafOf : Bool → ℕ → List ℕ → List Word → Made
+leafOf true o f ws = termOf o f ws
+leafOf false o f ws = phraseOf f ws
+
+abbrev pub leafKind : Bool → ℕ
+leafKind true = termKind
+leafKind false = quotedKind
+
+abbrev pub leafFault : Bool → Refusal
+leafFault true = fuzzyTerm
+leafFault false = sloppyPhrase
+
+abbrev pub leafAt : Bool → Setup → List Token → List ℕ → ℕ → Read Found
+leafAt true st ts f i = plainAt st ts f i
+leafAt false st ts f i = quotedAt st ts f i
+
+-- ---- the tokens of a text counted
 
 pub record Tallied (ts : List (List ℕ)) (each count bytes : ℕ) : Type 0 where
   pub counted : count ≡ length ts

@@ -5,14 +5,14 @@ use mathlib.Core.List.{List, [], _++_}
 use mathlib.Core.Bool.{Bool, true, false, _&&_, cond}
 use lib.ListN.{length, getD, set}
 use Rattle.rules.specs.Numbers.{Read, got, refused}
-use Rattle.rules.specs.Bytes.{big}
+use Rattle.rules.specs.Bytes.{big, part}
 use Rattle.rules.specs.Query.{Query, Clauses, none}
 use Rattle.rules.specs.Stored.{encode}
 use Rattle.rules.specs.Lexing.{Token, termKind, caretKind}
 use Rattle.rules.specs.Numerals.{numeralBits}
 use Rattle.rules.specs.Setup.{Setup}
 use Rattle.rules.specs.Parsing.{Made, made, Found, found, Kept, kept, isAt, textAt, queryOf, plainAt, quotedAt, touched}
-use Rattle.stored.specs.Laid.{header}
+use Rattle.stored.specs.Laid.{Put, header}
 use Rattle.lexer.specs.Row.{tokensOf, nameFrom}
 use Rattle.parser.specs.Kinds.{conjunctionOf, lastTag, isAlone, madeLength}
 use Rattle.parser.specs.Measured.{Says, Tuned, clauseRun, clausesRun}
@@ -55,6 +55,17 @@ pub record QueryToWrite (room : List ℕ) (k : ℕ) (default : List ℕ) (operat
   pub is : Eventually (clausesRun st (tokensOf room k) (nameFrom room default from) depth none i) (got (kept cs j))
   pub alone-is : alone ≡ isAlone cs
   pub fills : n ≡ madeLength (queryOf cs)
+
+-- ---- the front of a Boolean, and of its clauses
+
+-- the first eight bytes of a Boolean of n bytes
+abbrev pub boolFront : ℕ → List ℕ
+boolFront n = header 3 (n - 3) ++ part 0x13 (big 2 0)
+
+-- laid, unless a query is its one clause: then nothing is, and the clause begins at 0
+abbrev pub PutUnless : Bool → List ℕ → ℕ → List ℕ → ℕ → List ℕ → Type 0
+PutUnless true out at s r out′ = (r ≡ 0) × (out′ ≡ out)
+PutUnless false out at s r out′ = Put out at s r out′
 
 -- ---- the last clause's kind
 

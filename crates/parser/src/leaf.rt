@@ -1,6 +1,5 @@
 // Terms and phrases: how long the query of a text is, and its bytes.
 use crate::kinds::operator_tag;
-use analysis::classes;
 use analysis::tokens;
 use stored::big::put_big4;
 use stored::write::put_header;
@@ -19,7 +18,7 @@ ghost use Rattle.rules.specs.Parsing.{termOf, phraseOf};
 ghost use Rattle.analysis.specs.Tokens.{spelled};
 ghost use Rattle.stored.specs.Laid.{Put};
 ghost use Rattle.parser.specs.Kinds.{madeLength, madeBytes};
-ghost use Rattle.parser.specs.Leaves.{Tallied, termRow, spellOf};
+ghost use Rattle.parser.specs.Leaves.{Tallied, termRow, leafOf, FirstWritten};
 
 pub struct Tally {
     count: usize,
@@ -31,12 +30,11 @@ fn count_tokens(text: &[u8], analyzer: u8, each: usize) -> Tally
     requires { ⌜ (each ≤ 44) × (length (now text) ≤ textMost) ⌝ }
     ensures { λ r. ⌜ Tallied (tokenTexts analyzer (now (text .entry))) each (r .count) (r .bytes) ⌝ }
 {
-    let table = classes::table();
     let mut at: usize = 0;
     let mut count: usize = 0;
     let mut bytes: usize = 0;
     loop {
-        let t = tokens::next_token_in(&table, text, analyzer, at);
+        let t = tokens::next_token(text, analyzer, at);
         if t.len == 0 {
             return Tally {
                 count: count,
@@ -50,7 +48,7 @@ fn count_tokens(text: &[u8], analyzer: u8, each: usize) -> Tally
 }
 
 // One token makes a term, several a Boolean of terms; 0 where there is none. The field has `field` bytes.
-pub fn term_len(text: &[u8], analyzer: u8, field: usize) -> usize
+fn term_len(text: &[u8], analyzer: u8, field: usize) -> usize
     requires { ⌜ (field ≤ fieldMost) × (length (now text) ≤ textMost) ⌝ }
     ensures made { λ r. ⌜ ((o : ℕ) (f : List ℕ) → length f ≡ field → r ≡ madeLength (termOf o f (tokenize analyzer (now (text .entry))))) ⌝ }
     ensures bound { λ r. ⌜ r ≤ 8 + 45 * length (now (text .entry)) ⌝ }
@@ -66,7 +64,7 @@ pub fn term_len(text: &[u8], analyzer: u8, field: usize) -> usize
 }
 
 // One token makes a term, several a phrase; 0 where there is none.
-pub fn phrase_len(text: &[u8], analyzer: u8, field: usize) -> usize
+fn phrase_len(text: &[u8], analyzer: u8, field: usize) -> usize
     requires { ⌜ (field ≤ fieldMost) × (length (now text) ≤ textMost) ⌝ }
     ensures made { λ r. ⌜ ((f : List ℕ) → length f ≡ field → r ≡ madeLength (phraseOf f (tokenize analyzer (now (text .entry))))) ⌝ }
     ensures bound { λ r. ⌜ r ≤ 8 + 45 * length (now (text .entry)) ⌝ }
@@ -81,14 +79,16 @@ pub fn phrase_len(text: &[u8], analyzer: u8, field: usize) -> usize
     6 + field + t.bytes
 }
 
-// A byte as the analyzer spells it: simple lowercases.
-fn spell(analyzer: u8, c: u8) -> u8
-    ensures { λ r. ⌜ r ≡ spellOf analyzer c ⌝ }
+// How long the query of a term's text is, or of a quoted text.
+pub fn leaf_len(plain: bool, text: &[u8], analyzer: u8, field: usize) -> usize
+    requires { ⌜ (field ≤ fieldMost) × (length (now text) ≤ textMost) ⌝ }
+    ensures made { λ r. ⌜ ((o : ℕ) (f : List ℕ) → length f ≡ field → r ≡ madeLength (leafOf plain o f (tokenize analyzer (now (text .entry))))) ⌝ }
+    ensures bound { λ r. ⌜ r ≤ 8 + 45 * length (now (text .entry)) ⌝ }
 {
-    if analyzer == 2 {
-        return classes::lower(c);
+    if plain {
+        return term_len(text, analyzer, field);
     }
-    c
+    phrase_len(text, analyzer, field)
 }
 
 // Lays a token's text as the analyzer spells it.
@@ -98,7 +98,7 @@ fn put_spelled(out: &mut [u8], at: usize, analyzer: u8, s: &[u8]) -> usize
 {
     let mut k = 0;
     while k < s.len() {
-        out[at + k] = spell(analyzer, s[k]);
+        out[at + k] = tokens::written(analyzer, s[k]);
         k += 1;
     }
     at + s.len()
@@ -137,11 +137,10 @@ fn put_clauses(out: &mut [u8], at: usize, tag: u8, field: &[u8], analyzer: u8, t
     requires { ⌜ (at + length (termRow tag (now field) (tokenTexts analyzer (now text))) ≤ length (now out)) × (length (now field) ≤ fieldMost) × (length (now text) ≤ textMost) ⌝ }
     ensures { λ r. ⌜ Put (now (out .entry)) at (termRow tag (now (field .entry)) (tokenTexts analyzer (now (text .entry)))) r (now (out .exit)) ⌝ }
 {
-    let table = classes::table();
     let mut from: usize = 0;
     let mut w = at;
     loop {
-        let t = tokens::next_token_in(&table, text, analyzer, from);
+        let t = tokens::next_token(text, analyzer, from);
         if t.len == 0 {
             return w;
         }
@@ -157,12 +156,11 @@ fn put_words(out: &mut [u8], at: usize, analyzer: u8, text: &[u8]) -> usize
     requires { ⌜ (at + length (encodeWords (tokenize analyzer (now text))) ≤ length (now out)) × (length (now text) ≤ textMost) ⌝ }
     ensures { λ r. ⌜ Put (now (out .entry)) at (encodeWords (tokenize analyzer (now (text .entry)))) r (now (out .exit)) ⌝ }
 {
-    let table = classes::table();
     let mut from: usize = 0;
     let mut w = at;
     let mut position: u32 = 0;
     loop {
-        let t = tokens::next_token_in(&table, text, analyzer, from);
+        let t = tokens::next_token(text, analyzer, from);
         if t.len == 0 {
             return w;
         }
@@ -174,15 +172,19 @@ fn put_words(out: &mut [u8], at: usize, analyzer: u8, text: &[u8]) -> usize
     }
 }
 
-// The one token of a text, as a term that fills the stretch.
-fn write_one(field: &[u8], analyzer: u8, text: &[u8], out: &mut [u8])
-    requires { ⌜ ((t : List ℕ) × (tokenTexts analyzer (now text) ≡ t ∷ []) × (length (now out) ≡ length (encode (term (now field) t)))) × (length (now field) ≤ fieldMost) × (length (now text) ≤ textMost) ⌝ }
-    ensures { λ _. ⌜ ((t : List ℕ) → tokenTexts analyzer (now (text .entry)) ≡ t ∷ [] → now (out .exit) ≡ encode (term (now (field .entry)) t)) ⌝ }
+// The first token of a text as a term, where that fills the stretch: then it is the only one. Nothing is written where it does not.
+fn write_first(field: &[u8], analyzer: u8, text: &[u8], out: &mut [u8]) -> bool
+    requires { ⌜ (length (now field) ≤ fieldMost) × (length (now text) ≤ textMost) ⌝ }
+    ensures { λ r. ⌜ FirstWritten (tokenTexts analyzer (now (text .entry))) (now (field .entry)) (now (out .entry)) r (now (out .exit)) ⌝ }
 {
     let t = tokens::next_token(text, analyzer, 0);
+    if out.len() != 9 + field.len() + t.len {
+        return false;
+    }
     let start = t.start;
     let end = start + t.len;
     put_term(out, 0, field, analyzer, &text[start..end]);
+    true
 }
 
 // Fills the stretch with the query of a term's text: a term, or a Boolean of the default operator's kind.
@@ -190,8 +192,7 @@ pub fn write_term(operator: u8, field: &[u8], analyzer: u8, text: &[u8], out: &m
     requires { ⌜ (length (now out) ≡ madeLength (termOf operator (now field) (tokenize analyzer (now text)))) × (0 < length (now out)) × (length (now field) ≤ fieldMost) × (length (now text) ≤ textMost) × (length (now out) ≤ 65000) ⌝ }
     ensures { λ _. ⌜ now (out .exit) ≡ madeBytes (termOf operator (now (field .entry)) (tokenize analyzer (now (text .entry)))) ⌝ }
 {
-    if tokens::token_count(text, analyzer) == 1 {
-        write_one(field, analyzer, text, out);
+    if write_first(field, analyzer, text, out) {
         return;
     }
     let n = out.len() - 3;
@@ -205,8 +206,7 @@ pub fn write_phrase(field: &[u8], analyzer: u8, text: &[u8], out: &mut [u8])
     requires { ⌜ (length (now out) ≡ madeLength (phraseOf (now field) (tokenize analyzer (now text)))) × (0 < length (now out)) × (length (now field) ≤ fieldMost) × (length (now text) ≤ textMost) × (length (now out) ≤ 65000) ⌝ }
     ensures { λ _. ⌜ now (out .exit) ≡ madeBytes (phraseOf (now (field .entry)) (tokenize analyzer (now (text .entry)))) ⌝ }
 {
-    if tokens::token_count(text, analyzer) == 1 {
-        write_one(field, analyzer, text, out);
+    if write_first(field, analyzer, text, out) {
         return;
     }
     let n = out.len() - 3;

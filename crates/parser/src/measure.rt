@@ -7,8 +7,7 @@ use crate::kinds::Measured;
 use crate::kinds::Start;
 use crate::kinds::Sum;
 use crate::kinds::is_at;
-use crate::leaf::phrase_len;
-use crate::leaf::term_len;
+use crate::leaf::leaf_len;
 use boost::numeral::Answer;
 use boost::numeral::numeral;
 use lexer::row::field_part;
@@ -18,12 +17,12 @@ ghost use mathlib.Core.Path.{_≡_};
 ghost use mathlib.Core.Bool.{true};
 ghost use Prim.Native.Nat.{ℕ, suc, _+_, _*_, _-_, _≤_, _<_};
 ghost use lib.ListN.{length};
-ghost use Rattle.rules.specs.Numbers.{textMost, Read, onRead, andThen};
-ghost use Rattle.rules.specs.Lexing.{termKind, quotedKind};
+ghost use Rattle.rules.specs.Numbers.{textMost, number, Read, onRead, andThen};
 ghost use Rattle.rules.specs.Setup.{Setup};
-ghost use Rattle.rules.specs.Parsing.{Made, Kept, isAt, boostAt, plainAt, quotedAt, closedAt, queryFound};
+ghost use Rattle.rules.specs.Parsing.{Made, Kept, isAt, boostAt, closedAt, queryFound};
 ghost use Rattle.lexer.specs.Row.{roomLeast, tokensOf, nameFrom};
 ghost use Rattle.parser.specs.Kinds.{madeLength};
+ghost use Rattle.parser.specs.Leaves.{leafKind, leafFault, leafAt};
 ghost use Rattle.parser.specs.Measured.{Rowed, Fielded, Tuned, noteAt, MeansFound, MeansKept, WithinClause, WithinClauses, MeantClause, MeantClauses};
 ghost use Rattle.parser.specs.Starting.{Starts, WithinBoost};
 
@@ -90,45 +89,35 @@ pub fn with_boost(room: &[u8], n: usize, len: usize, i: usize) -> Measured
     Measured::Clause { len: len, next: i }
 }
 
-// The term at i, in the field in force.
-fn measure_plain<'a>(
-    room: &'a [u8],
-    n: usize,
-    default: &'a [u8],
-    from: usize,
-    analyzer: u8,
-    i: usize,
-) -> Measured
-    requires { ⌜ (Rowed (now room) n) × (Fielded (now room) n (now default) from) × (isAt termKind (tokensOf (now room) n) i ≡ true) × (i ≤ 4000) ⌝ }
-    ensures means { λ r. ⌜ ((st : Setup) (o : ℕ) → Tuned st o (now (room .entry)) n (now (default .entry)) from analyzer → MeansFound r (plainAt st (tokensOf (now (room .entry)) n) (nameFrom (now (room .entry)) (now (default .entry)) from) i)) ⌝ }
-    ensures within { λ r. ⌜ WithinClause (tokensOf (now (room .entry)) n) n i r ⌝ }
+// The refusal of a tilde behind a term, or behind a quote.
+fn leaf_fault(plain: bool) -> u8
+    ensures { λ r. ⌜ r ≡ number (leafFault plain) ⌝ }
 {
-    if is_at(room, n, 12, i + 1) {
-        return Measured::Refused(8);
+    if plain {
+        return 8;
     }
-    let field = field_part(room, default, from);
-    let len = term_len(text_at(room, i), analyzer, field.len());
-    with_boost(room, n, len, i + 1)
+    9
 }
 
-// The quote at i, in the field in force.
-fn measure_quoted<'a>(
+// The term or the quote at i, in the field in force.
+fn measure_leaf<'a>(
     room: &'a [u8],
     n: usize,
     default: &'a [u8],
     from: usize,
     analyzer: u8,
+    plain: bool,
     i: usize,
 ) -> Measured
-    requires { ⌜ (Rowed (now room) n) × (Fielded (now room) n (now default) from) × (isAt quotedKind (tokensOf (now room) n) i ≡ true) × (i ≤ 4000) ⌝ }
-    ensures means { λ r. ⌜ ((st : Setup) (o : ℕ) → Tuned st o (now (room .entry)) n (now (default .entry)) from analyzer → MeansFound r (quotedAt st (tokensOf (now (room .entry)) n) (nameFrom (now (room .entry)) (now (default .entry)) from) i)) ⌝ }
+    requires { ⌜ (Rowed (now room) n) × (Fielded (now room) n (now default) from) × (isAt (leafKind plain) (tokensOf (now room) n) i ≡ true) × (i ≤ 4000) ⌝ }
+    ensures means { λ r. ⌜ ((st : Setup) (o : ℕ) → Tuned st o (now (room .entry)) n (now (default .entry)) from analyzer → MeansFound r (leafAt plain st (tokensOf (now (room .entry)) n) (nameFrom (now (room .entry)) (now (default .entry)) from) i)) ⌝ }
     ensures within { λ r. ⌜ WithinClause (tokensOf (now (room .entry)) n) n i r ⌝ }
 {
     if is_at(room, n, 12, i + 1) {
-        return Measured::Refused(9);
+        return Measured::Refused(leaf_fault(plain));
     }
     let field = field_part(room, default, from);
-    let len = phrase_len(text_at(room, i), analyzer, field.len());
+    let len = leaf_len(plain, text_at(room, i), analyzer, field.len());
     with_boost(room, n, len, i + 1)
 }
 
@@ -174,7 +163,7 @@ pub fn measure_clause<'a>(
         Start::At { from, analyzer, i } => {
             let t = kind_at(room, n, i);
             if t == 1 {
-                return measure_plain(room, n, default, from, analyzer, i);
+                return measure_leaf(room, n, default, from, analyzer, true, i);
             }
             if t == 9 {
                 if depth < 24 {
@@ -193,7 +182,7 @@ pub fn measure_clause<'a>(
                 return Measured::Refused(16);
             }
             if t == 2 {
-                return measure_quoted(room, n, default, from, analyzer, i);
+                return measure_leaf(room, n, default, from, analyzer, false, i);
             }
             if t == 0 {
                 return Measured::Refused(10);

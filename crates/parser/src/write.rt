@@ -13,27 +13,26 @@ use crate::measure::measure_query;
 use boost::numeral::Answer;
 use boost::numeral::numeral;
 use lexer::row::field_part;
-use lexer::row::kind_at;
 use lexer::row::text_at;
 use stored::big::put_big4;
 use stored::write::put_header;
 use stored::write::put_minimum;
 ghost use mathlib.Core.Path.{_≡_};
-ghost use mathlib.Core.Bool.{true};
+ghost use mathlib.Core.Bool.{true, false};
 ghost use Prim.Native.Nat.{ℕ, suc, _+_, _*_, _-_, _≤_, _<_};
 ghost use lib.ListN.{length};
-ghost use Rattle.rules.specs.Numbers.{textMost, got};
-ghost use Rattle.rules.specs.Query.{Query, Kind, Clauses, none, clause};
+ghost use Rattle.rules.specs.Numbers.{textMost};
+ghost use Rattle.rules.specs.Query.{Query, Clauses};
 ghost use Rattle.rules.specs.Stored.{encode};
 ghost use Rattle.rules.specs.Lexing.{termKind, quotedKind, caretKind};
 ghost use Rattle.rules.specs.Numerals.{numeralBits};
 ghost use Rattle.rules.specs.Setup.{Setup};
-ghost use Rattle.rules.specs.Parsing.{isAt, textAt, made, found, kept, queryOf};
-ghost use Rattle.stored.specs.Laid.{Put};
-ghost use Rattle.lexer.specs.Row.{roomLeast, tokensOf, nameFrom};
+ghost use Rattle.rules.specs.Parsing.{isAt, textAt, queryOf};
+ghost use Rattle.stored.specs.Laid.{Put, header};
+ghost use Rattle.lexer.specs.Row.{roomLeast, tokensOf};
 ghost use Rattle.parser.specs.Kinds.{madeBytes};
-ghost use Rattle.parser.specs.Measured.{Says, Rowed, Fielded, Tuned, clauseRun, clausesRun};
-ghost use Rattle.parser.specs.Written.{Eventually, bitsIn, isBoosted, boostFront, Touches, LeafToWrite, ClauseToWrite, QueryToWrite};
+ghost use Rattle.parser.specs.Measured.{Rowed, Fielded};
+ghost use Rattle.parser.specs.Written.{bitsIn, isBoosted, boostFront, boolFront, PutUnless, Touches, LeafToWrite, ClauseToWrite, QueryToWrite};
 
 // The bits of the numeral at the token i.
 fn bits_at(room: &[u8], n: usize, i: usize) -> u32
@@ -69,52 +68,45 @@ fn write_leaf<'a>(
     operator: u8,
     from: usize,
     analyzer: u8,
+    plain: bool,
     i: usize,
     out: &mut [u8],
 )
-    requires { ⌜ (Rowed (now room) n) × (Fielded (now room) n (now default) from) × (i < n) × (0 < length (now out)) × (length (now out) ≤ 65000) × ((st : Setup) × (q : Query) × (j : ℕ) × LeafToWrite (now room) n (now default) operator from analyzer i (length (now out)) st q j) ⌝ }
+    requires { ⌜ (Rowed (now room) n) × (Fielded (now room) n (now default) from) × (i < n) × (0 < length (now out)) × (length (now out) ≤ 65000) × (plain ≡ isAt termKind (tokensOf (now room) n) i) × ((st : Setup) × (q : Query) × (j : ℕ) × LeafToWrite (now room) n (now default) operator from analyzer i (length (now out)) st q j) ⌝ }
     ensures { λ _. ⌜ ((st : Setup) (q : Query) (j : ℕ) → LeafToWrite (now (room .entry)) n (now (default .entry)) operator from analyzer i (length (now (out .entry))) st q j → now (out .exit) ≡ encode q) ⌝ }
 {
     let b = put_boost_front(room, n, i + 1, out);
     let field = field_part(room, default, from);
     let text = text_at(room, i);
-    if is_at(room, n, 1, i) {
+    if plain {
         write_term(operator, field, analyzer, text, &mut out[b..]);
         return;
     }
     write_phrase(field, analyzer, text, &mut out[b..]);
 }
 
-// Where the one clause stands that a query keeps.
-fn first_kept<'a>(
-    room: &'a [u8],
-    n: usize,
-    default: &'a [u8],
-    operator: u8,
-    from: usize,
-    analyzer: u8,
-    depth: usize,
-    at: usize,
-) -> usize
-    requires { ⌜ (Rowed (now room) n) × (Fielded (now room) n (now default) from) × (at ≤ n) × (depth ≤ 24) ⌝ }
-    ensures place { λ r. ⌜ (at ≤ r) × (r ≤ 2000) ⌝ }
-    ensures kept { λ r. ⌜ ((st : Setup) → Tuned st operator (now (room .entry)) n (now (default .entry)) from analyzer → (k : Kind) (q : Query) (j : ℕ) → Eventually (clausesRun st (tokensOf (now (room .entry)) n) (nameFrom (now (room .entry)) (now (default .entry)) from) depth none at) (got (kept (clause k q none) j)) → (h : ℕ) × Eventually (clauseRun st (tokensOf (now (room .entry)) n) (nameFrom (now (room .entry)) (now (default .entry)) from) depth r) (got (found (made q) h))) ⌝ }
+// The front of a Boolean that fills the stretch; none where a query is its one clause.
+fn put_query_front(out: &mut [u8], alone: bool) -> usize
+    requires { ⌜ (alone ≡ false → 8 ≤ length (now out)) × (length (now out) ≤ 65000) ⌝ }
+    ensures { λ r. ⌜ PutUnless alone (now (out .entry)) 0 (boolFront (length (now (out .entry)))) r (now (out .exit)) ⌝ }
 {
-    let mut i = at;
-    while kinds::more_at(room, n, i) {
-        let m = kinds::modifier_at(room, n, i);
-        let k = kinds::after(m, i);
-        match measure_clause(room, n, default, operator, from, analyzer, depth, k) {
-            Measured::Refused(_) => return k,
-            Measured::Clause { len, next } => {
-                if len != 0 {
-                    return k;
-                }
-                i = next;
-            }
-        }
+    if alone {
+        return 0;
     }
-    i
+    let len = out.len() - 3;
+    let b = put_header(out, 0, 0x03, len);
+    put_minimum(out, b, 0)
+}
+
+// The header of a clause; none where a query is its one clause.
+fn put_clause_front(out: &mut [u8], alone: bool, at: usize, tag: u8, len: usize) -> usize
+    requires { ⌜ (alone ≡ false → at + 3 ≤ length (now out)) × (len < 65536) ⌝ }
+    ensures { λ r. ⌜ PutUnless alone (now (out .entry)) at (header tag len) r (now (out .exit)) ⌝ }
+{
+    if alone {
+        return 0;
+    }
+    put_header(out, at, tag, len)
 }
 
 // The conjunction c alters the kind of the clause that was kept last, whose header stands at `last`.
@@ -172,7 +164,11 @@ fn write_clause<'a>(
                     }
                 }
             }
-            write_leaf(room, n, default, operator, from, analyzer, i, out);
+            if is_at(room, n, 1, i) {
+                write_leaf(room, n, default, operator, from, analyzer, true, i, out);
+                return;
+            }
+            write_leaf(room, n, default, operator, from, analyzer, false, i, out);
         }
     }
 }
@@ -193,14 +189,7 @@ pub fn write_query<'a>(
     requires { ⌜ (Rowed (now room) n) × (Fielded (now room) n (now default) from) × (at ≤ n) × (depth ≤ 24) × (0 < length (now out)) × (length (now out) ≤ 65000) × ((st : Setup) × (cs : Clauses) × (j : ℕ) × QueryToWrite (now room) n (now default) operator from analyzer depth at alone (length (now out)) st cs j) ⌝ }
     ensures { λ _. ⌜ ((st : Setup) (cs : Clauses) (j : ℕ) → QueryToWrite (now (room .entry)) n (now (default .entry)) operator from analyzer depth at alone (length (now (out .entry))) st cs j → now (out .exit) ≡ madeBytes (queryOf cs)) ⌝ }
 {
-    if alone {
-        let k = first_kept(room, n, default, operator, from, analyzer, depth, at);
-        write_clause(room, n, default, operator, from, analyzer, depth, k, out);
-        return;
-    }
-    let len = out.len() - 3;
-    let b = put_header(out, 0, 0x03, len);
-    let mut w = put_minimum(out, b, 0);
+    let mut w = put_query_front(out, alone);
     let mut last = 0;
     let mut i = at;
     while kinds::more_at(room, n, i) {
@@ -216,7 +205,7 @@ pub fn write_query<'a>(
                 if len == 0 {
                     continue;
                 }
-                let start = put_header(out, w, kinds::tag_after(operator, c, m), len);
+                let start = put_clause_front(out, alone, w, kinds::tag_after(operator, c, m), len);
                 let end = start + len;
                 write_clause(
                     room,
@@ -229,6 +218,9 @@ pub fn write_query<'a>(
                     k,
                     &mut out[start..end],
                 );
+                if alone {
+                    return;
+                }
                 last = w;
                 w = end;
             }

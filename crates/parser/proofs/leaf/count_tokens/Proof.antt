@@ -1,6 +1,4 @@
 -- `parser::leaf::count_tokens` meets its contract.
-use Rattle.rules.specs.Analysis.{classes}
-use mathlib.Core.Path.{_≡_}
 use lib.ListN.{length}
 use Prim.Native.Nat.{_-_}
 use Rattle.parser.proofs.Tallying.{Counting, counting-starts, counting-ends, counting-goes, counting-few, counting-most}
@@ -10,40 +8,37 @@ use Rattle.parser.proofs.leaf.count_tokens.Statement.{statement}
 use Rattle.parser.proofs.leaf.count_tokens.Tie as tie
 
 abbrev Inv-loop : tie.InvT-loop
-Inv-loop text analyzer each table at₀ count₀ bytes₀ at count bytes = Counting analyzer text each at count bytes × (table ≡ classes)
+Inv-loop text analyzer each at₀ count₀ bytes₀ at count bytes = Counting analyzer text each at count bytes
 
 abbrev μ-loop : tie.MeasureT-loop
-μ-loop text analyzer each table at₀ count₀ bytes₀ at count bytes = length text - at
-
-table-requires : tie.Need-table-requires Inv-loop μ-loop
-table-requires c κs = search needs
+μ-loop text analyzer each at₀ count₀ bytes₀ at count bytes = length text - at
 
 loop-holds : tie.Need-loop-holds Inv-loop μ-loop
-loop-holds c = (counting-starts _ _ _, c .table .ensures)
+loop-holds c = counting-starts _ _ _
 
-next-token-in-requires : tie.Need-next-token-in-requires Inv-loop μ-loop
-next-token-in-requires c κs = search needs
+next-token-requires : tie.Need-next-token-requires Inv-loop μ-loop
+next-token-requires c κs = search needs
 
 returns : tie.Need-returns Inv-loop μ-loop
-returns c = counting-ends (c .before .before .before .before .loop .inv .0) (c .before .before .next-token-in .ensures .found (c .before .before .before .before .loop .inv .1)) (c .if1 .taken)
+returns c = counting-ends (c .before .before .before .loop .inv) (c .before .before .next-token .ensures) (c .if1 .taken)
 
 add-count : tie.Need-add-count Inv-loop μ-loop
-add-count c = omega (arith, counting-few (c .before .before .before .before .loop .inv .0) (c .before .before .before .before .before .before .before .pre .0), c .before .before .before .before .before .before .before .pre .1)
+add-count c = omega (arith, counting-few (c .before .before .before .loop .inv) (c .before .before .before .before .before .pre .0), c .before .before .before .before .before .pre .1)
 
 add-bytes : tie.Need-add-bytes Inv-loop μ-loop
-add-bytes c = omega (arith, counting-most (c .before .before .before .before .loop .inv .0) (c .before .before .before .before .before .before .before .pre .0), c .before .before .before .before .before .before .before .pre .0, c .before .before .before .before .before .before .before .pre .1)
+add-bytes c = omega (arith, counting-most (c .before .before .before .loop .inv) (c .before .before .before .before .before .pre .0), c .before .before .before .before .before .pre .0, c .before .before .before .before .before .pre .1)
 
 add-bytes-2 : tie.Need-add-bytes-2 Inv-loop μ-loop
-add-bytes-2 c = omega (arith, counting-most (c .before .before .before .before .before .loop .inv .0) (c .before .before .before .before .before .before .before .before .pre .0), c .before .before .before .before .before .before .before .before .pre .0, c .before .before .before .before .before .before .before .before .pre .1, c .before .before .before .next-token-in .ensures .found (c .before .before .before .before .before .loop .inv .1) .within, c .before .before .before .before .before .loop .inv .0 .within)
+add-bytes-2 c = omega (arith, counting-most (c .before .before .before .before .loop .inv) (c .before .before .before .before .before .before .pre .0), c .before .before .before .before .before .before .pre .0, c .before .before .before .before .before .before .pre .1, c .before .before .before .next-token .ensures .within, c .before .before .before .before .loop .inv .within)
 
 add-at : tie.Need-add-at Inv-loop μ-loop
-add-at c = omega (arith, c .before .before .before .before .before .before .before .before .before .pre .1, c .before .before .before .before .next-token-in .ensures .found (c .before .before .before .before .before .before .loop .inv .1) .within, c .before .before .before .before .before .before .loop .inv .0 .within, c .before .before .if1 .left)
+add-at c = omega (arith, c .before .before .before .before .before .before .before .pre .1, c .before .before .before .before .next-token .ensures .within, c .before .before .before .before .before .loop .inv .within, c .before .before .if1 .left)
 
 loop-less : tie.Need-loop-less Inv-loop μ-loop
-loop-less c = let F = c .before .before .before .before .next-token-in .ensures .found (c .before .before .before .before .before .before .loop .inv .1) in omega (arith, F .within, F .onward, c .before .before .if1 .left, c .before .before .before .before .before .before .loop .inv .0 .within)
+loop-less c = let F = c .before .before .before .before .next-token .ensures in omega (arith, F .within, F .onward, c .before .before .if1 .left, c .before .before .before .before .before .loop .inv .within)
 
 loop-again : tie.Need-loop-again Inv-loop μ-loop
-loop-again c = (counting-goes (c .before .before .before .before .before .before .loop .inv .0) (c .before .before .before .before .next-token-in .ensures .found (c .before .before .before .before .before .before .loop .inv .1)) (c .before .before .if1 .left), c .before .before .before .before .before .before .loop .inv .1)
+loop-again c = counting-goes (c .before .before .before .before .before .loop .inv) (c .before .before .before .before .next-token .ensures) (c .before .before .if1 .left)
 
 pub count-tokens-spec : {M : Type 1} → statement M
 count-tokens-spec =
@@ -51,9 +46,8 @@ count-tokens-spec =
     (tie.spec
     Inv-loop
     μ-loop
-    table-requires
     loop-holds
-    next-token-in-requires
+    next-token-requires
     returns
     add-count
     add-bytes

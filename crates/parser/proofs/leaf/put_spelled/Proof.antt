@@ -20,11 +20,11 @@ abbrev μ-loop : tie.MeasureT-loop
 loop-holds : tie.Need-loop-holds Inv-loop μ-loop
 loop-holds c = (omega arith, c .before .before .pre, refl, paste-zero (c .before .before .args .out .now) (c .before .before .args .at) (spelled (c .before .before .args .analyzer) (c .before .before .args .s .now)))
 
-shared-slice-read-spell : tie.Need-shared-slice-read-spell Inv-loop μ-loop
-shared-slice-read-spell c = search needs
+shared-slice-read-written : tie.Need-shared-slice-read-written Inv-loop μ-loop
+shared-slice-read-written c = search needs
 
-spell-requires : tie.Need-spell-requires Inv-loop μ-loop
-spell-requires c κs = search needs
+written-requires : tie.Need-written-requires Inv-loop μ-loop
+written-requires c κs = search needs
 
 add-out : tie.Need-add-out Inv-loop μ-loop
 add-out c = omega (arith, c .before .before .before .loop .inv .1)
@@ -39,7 +39,7 @@ loop-less : tie.Need-loop-less Inv-loop μ-loop
 loop-less c = search needs
 
 loop-again : tie.Need-loop-again Inv-loop μ-loop
-loop-again c = (omega arith, c .before .before .before .loop .inv .1, simp length-set (c .before .before .before .loop .inv .2), spelled-turn (c .before .before .before .before .before .before .args .analyzer) (c .before .before .before .before .before .before .args .out .now) (c .before .before .before .loop .out) (c .before .before .before .before .before .before .args .s .now) (c .before .before .before .before .before .before .args .at) (c .before .before .before .loop .k) _ (c .before .before .before .loop .inv .1) (c .before .before .loop-test .taken) (c .spell .ensures) (c .before .before .before .loop .inv .3))
+loop-again c = (omega arith, c .before .before .before .loop .inv .1, simp length-set (c .before .before .before .loop .inv .2), spelled-turn (c .before .before .before .before .before .before .args .analyzer) (c .before .before .before .before .before .before .args .out .now) (c .before .before .before .loop .out) (c .before .before .before .before .before .before .args .s .now) (c .before .before .before .before .before .before .args .at) (c .before .before .before .loop .k) _ (c .before .before .before .loop .inv .1) (c .before .before .loop-test .taken) (c .written .ensures) (c .before .before .before .loop .inv .3))
 
 add-result : tie.Need-add-result Inv-loop μ-loop
 add-result c = omega (arith, c .before .loop .inv .1)
@@ -57,8 +57,8 @@ put-spelled-spec =
     Inv-loop
     μ-loop
     loop-holds
-    shared-slice-read-spell
-    spell-requires
+    shared-slice-read-written
+    written-requires
     add-out
     slice-write-out
     add-k

@@ -1,6 +1,5 @@
 -- `parser::measure::measure_clause` and `parser::measure::measure_query` call each other and meet their contracts: unread tokens fall, then a call rank.
 use Rattle.parser.proofs.Steps.{past-one, Bounds, Turn, led, bounds-start, bounds-on, bounds-small, clause-small, turn-start, turn-end, turn-refused, turn-found}
-use Rattle.parser.proofs.Steps.{Bounds, Turn, led, bounds-start, bounds-on, bounds-small, clause-small, turn-start, turn-end, turn-refused, turn-found}
 use Rattle.parser.proofs.Bodies.{body-plain, body-open, body-deep, body-quoted, body-end, body-other, meant-start, within-start}
 use Rattle.parser.proofs.Rows.{kind-in, goes-in}
 use Rattle.parser.specs.Measured.{Tuned}
@@ -13,7 +12,6 @@ use Prim.Native.Nat.{ℕ, _<_, _+_, _-_, _*_}
 use mathlib.Core.Path.{refl, sym, _∙_}
 use native.Mathlib.Omega.{arith}
 use borrow.Author.Needs.{needs}
-use Prim.Native.Nat.{ℕ}
 use borrow.Fn.Kinds.{In}
 use borrow.Fn.PlainCycle.{Measures, is, falls, and}
 use Rattle.parser.proofs.measure.measure_clause.Reads as measure-clause
@@ -22,6 +20,7 @@ use Rattle.parser.proofs.measure.+measure_clause+measure_query.Lts-meas
 use Rattle.parser.proofs.measure.measure_query.Reads as measure-query
 use Rattle.parser.proofs.measure.measure_query.Kinds as measure-query-kinds
 use Rattle.parser.proofs.measure.+measure_clause+measure_query.Lts-measure_query as measure-query-lts
+use Rattle.lexer.proofs.row.kind_at.Reads as kind-at-reads
 use Rattle.parser.proofs.kinds.added.Reads as added-reads
 use Rattle.parser.proofs.kinds.after.Reads as after-reads
 use Rattle.parser.proofs.kinds.conjunction_at.Reads as conjunction-at-reads
@@ -29,9 +28,7 @@ use Rattle.parser.proofs.kinds.modifier_at.Reads as modifier-at-reads
 use Rattle.parser.proofs.kinds.more_at.Reads as more-at-reads
 use Rattle.parser.proofs.measure.clause_start.Reads as clause-start-reads
 use Rattle.parser.proofs.measure.closing.Reads as closing-reads
-use Rattle.parser.proofs.measure.measure_plain.Reads as measure-plain-reads
-use Rattle.parser.proofs.measure.measure_quoted.Reads as measure-quoted-reads
-use Rattle.lexer.proofs.row.kind_at.Reads as kind-at-reads
+use Rattle.parser.proofs.measure.measure_leaf.Reads as measure-leaf-reads
 use Rattle.parser.proofs.measure.+measure_clause+measure_query.{statement}
 use Rattle.parser.proofs.measure.+measure_clause+measure_query.Tie.{close}
 
@@ -71,7 +68,7 @@ measure-query-below t =
 
 -- what `measure-clause` is told of the functions that it calls
 abbrev measure-clause-calls : ℕ → measure-clause-lts.Claims
-measure-clause-calls t = (clause-start-reads.Asked, clause-start-reads.Learnt, kind-at-reads.Asked, kind-at-reads.Learnt, measure-plain-reads.Asked, measure-plain-reads.Learnt, measure-query-below t, measure-query.Post, closing-reads.Asked, closing-reads.Learnt, measure-quoted-reads.Asked, measure-quoted-reads.Learnt)
+measure-clause-calls t = (clause-start-reads.Asked, clause-start-reads.Learnt, kind-at-reads.Asked, kind-at-reads.Learnt, measure-leaf-reads.Asked, measure-leaf-reads.Learnt, measure-query-below t, measure-query.Post, closing-reads.Asked, closing-reads.Learnt)
 
 -- what `measure-query` is told of the functions that it calls
 abbrev measure-query-calls : ℕ → measure-query-lts.Claims
@@ -89,11 +86,11 @@ measure-clause-enum-known-from t c = search needs
 measure-clause-kind-at-requires : (t : ℕ) → measure-clause-lts.Need-kind-at-requires (measure-clause-calls t) (measure-clause-at t) measure-clause.Post
 measure-clause-kind-at-requires t c κs = (c .before .before .before .before .before .before .pre .1 .0 .few, c .before .before .before .before .before .before .pre .1 .0 .least)
 
-measure-clause-measure-plain-requires : (t : ℕ) → measure-clause-lts.Need-measure-plain-requires (measure-clause-calls t) (measure-clause-at t) measure-clause.Post
-measure-clause-measure-plain-requires t c κs = let S1 = rw (c .before .before .before .from .given .1) at (c .before .before .before .before .before .clause-start .ensures) in (c .before .before .before .before .before .before .before .before .pre .1 .0, S1 .fielded (c .before .before .before .before .before .before .before .before .args .default .now) (c .before .before .before .before .before .before .before .before .pre .1 .1), eq-eqb _ _ (sym (c .before .kind-at .ensures) ∙ c .if1 .taken), omega (arith, S1 .high, c .before .before .before .before .before .before .before .before .pre .1 .2))
+measure-clause-measure-leaf-requires : (t : ℕ) → measure-clause-lts.Need-measure-leaf-requires (measure-clause-calls t) (measure-clause-at t) measure-clause.Post
+measure-clause-measure-leaf-requires t c κs = let S1 = rw (c .before .before .before .from .given .1) at (c .before .before .before .before .before .clause-start .ensures) in (c .before .before .before .before .before .before .before .before .pre .1 .0, S1 .fielded (c .before .before .before .before .before .before .before .before .args .default .now) (c .before .before .before .before .before .before .before .before .pre .1 .1), eq-eqb _ _ (sym (c .before .kind-at .ensures) ∙ c .if1 .taken), omega (arith, S1 .high, c .before .before .before .before .before .before .before .before .pre .1 .2))
 
 measure-clause-returns : (t : ℕ) → measure-clause-lts.Need-returns (measure-clause-calls t) (measure-clause-at t) measure-clause.Post
-measure-clause-returns t c = let S1 = rw (c .before .before .before .before .from .given .1) at (c .before .before .before .before .before .before .clause-start .ensures) in ((λ st T. meant-start S1 st (c .before .before .before .before .before .before .before .before .before .args .default .now) (c .before .before .before .before .before .before .before .before .before .args .depth) _ (plainAt st (tokensOf (c .before .before .before .before .before .before .before .before .before .args .room .now) (c .before .before .before .before .before .before .before .before .before .args .n)) (nameFrom (c .before .before .before .before .before .before .before .before .before .args .room .now) (c .before .before .before .before .before .before .before .before .before .args .default .now) (c .before .before .before .before .from .given .0 .0)) (c .before .before .before .before .from .given .0 .1 .1 .0)) (λ k h. body-plain st (tokensOf (c .before .before .before .before .before .before .before .before .before .args .room .now) (c .before .before .before .before .before .before .before .before .before .args .n)) _ (nameFrom (c .before .before .before .before .before .before .before .before .before .args .room .now) (c .before .before .before .before .before .before .before .before .before .args .default .now) (c .before .before .before .before .from .given .0 .0)) (c .before .before .before .before .before .before .before .before .before .args .depth) (c .before .before .before .before .from .given .0 .1 .1 .0) _ (c .before .before .kind-at .ensures) (c .before .if1 .taken)) (c .measure-plain .ensures .0 st (c .before .before .before .before .before .before .before .before .before .args .operator) (S1 .tuned st (c .before .before .before .before .before .before .before .before .before .args .operator) (c .before .before .before .before .before .before .before .before .before .args .default .now) T))), within-start S1 (c .measure-plain .result) (c .measure-plain .ensures .1))
+measure-clause-returns t c = let S1 = rw (c .before .before .before .before .from .given .1) at (c .before .before .before .before .before .before .clause-start .ensures) in ((λ st T. meant-start S1 st (c .before .before .before .before .before .before .before .before .before .args .default .now) (c .before .before .before .before .before .before .before .before .before .args .depth) _ (plainAt st (tokensOf (c .before .before .before .before .before .before .before .before .before .args .room .now) (c .before .before .before .before .before .before .before .before .before .args .n)) (nameFrom (c .before .before .before .before .before .before .before .before .before .args .room .now) (c .before .before .before .before .before .before .before .before .before .args .default .now) (c .before .before .before .before .from .given .0 .0)) (c .before .before .before .before .from .given .0 .1 .1 .0)) (λ k h. body-plain st (tokensOf (c .before .before .before .before .before .before .before .before .before .args .room .now) (c .before .before .before .before .before .before .before .before .before .args .n)) _ (nameFrom (c .before .before .before .before .before .before .before .before .before .args .room .now) (c .before .before .before .before .before .before .before .before .before .args .default .now) (c .before .before .before .before .from .given .0 .0)) (c .before .before .before .before .before .before .before .before .before .args .depth) (c .before .before .before .before .from .given .0 .1 .1 .0) _ (c .before .before .kind-at .ensures) (c .before .if1 .taken)) (c .measure-leaf .ensures .0 st (c .before .before .before .before .before .before .before .before .before .args .operator) (S1 .tuned st (c .before .before .before .before .before .before .before .before .before .args .operator) (c .before .before .before .before .before .before .before .before .before .args .default .now) T))), within-start S1 (c .measure-leaf .result) (c .measure-leaf .ensures .1))
 
 measure-clause-add-measure-query : (t : ℕ) → measure-clause-lts.Need-add-measure-query (measure-clause-calls t) (measure-clause-at t) measure-clause.Post
 measure-clause-add-measure-query t c = omega (arith, c .before .before .before .before .before .before .before .before .before .before .pre .1 .3)
@@ -113,11 +110,11 @@ measure-clause-returns-2 t c = let S1 = rw (c .before .before .before .before .b
 measure-clause-returns-3 : (t : ℕ) → measure-clause-lts.Need-returns-3 (measure-clause-calls t) (measure-clause-at t) measure-clause.Post
 measure-clause-returns-3 t c = let S1 = rw (c .before .before .before .before .before .from .given .1) at (c .before .before .before .before .before .before .before .clause-start .ensures) in ((λ st T. meant-start S1 st (c .before .before .before .before .before .before .before .before .before .before .args .default .now) (c .before .before .before .before .before .before .before .before .before .before .args .depth) _ (refused manyBrackets) (λ k h. body-deep st (tokensOf (c .before .before .before .before .before .before .before .before .before .before .args .room .now) (c .before .before .before .before .before .before .before .before .before .before .args .n)) _ (nameFrom (c .before .before .before .before .before .before .before .before .before .before .args .room .now) (c .before .before .before .before .before .before .before .before .before .before .args .default .now) (c .before .before .before .before .before .from .given .0 .0)) (c .before .before .before .before .before .before .before .before .before .before .args .depth) (c .before .before .before .before .before .from .given .0 .1 .1 .0) _ (c .before .before .before .kind-at .ensures) (c .before .before .if1 .left) (c .before .if2 .taken) (c .if3 .left)) (manyBrackets, refl, refl)), omega arith)
 
-measure-clause-measure-quoted-requires : (t : ℕ) → measure-clause-lts.Need-measure-quoted-requires (measure-clause-calls t) (measure-clause-at t) measure-clause.Post
-measure-clause-measure-quoted-requires t c κs = let S1 = rw (c .before .before .before .before .before .from .given .1) at (c .before .before .before .before .before .before .before .clause-start .ensures) in (c .before .before .before .before .before .before .before .before .before .before .pre .1 .0, S1 .fielded (c .before .before .before .before .before .before .before .before .before .before .args .default .now) (c .before .before .before .before .before .before .before .before .before .before .pre .1 .1), eq-eqb _ _ (sym (c .before .before .before .kind-at .ensures) ∙ c .if4 .taken), omega (arith, S1 .high, c .before .before .before .before .before .before .before .before .before .before .pre .1 .2))
+measure-clause-measure-leaf-requires-2 : (t : ℕ) → measure-clause-lts.Need-measure-leaf-requires-2 (measure-clause-calls t) (measure-clause-at t) measure-clause.Post
+measure-clause-measure-leaf-requires-2 t c κs = let S1 = rw (c .before .before .before .before .before .from .given .1) at (c .before .before .before .before .before .before .before .clause-start .ensures) in (c .before .before .before .before .before .before .before .before .before .before .pre .1 .0, S1 .fielded (c .before .before .before .before .before .before .before .before .before .before .args .default .now) (c .before .before .before .before .before .before .before .before .before .before .pre .1 .1), eq-eqb _ _ (sym (c .before .before .before .kind-at .ensures) ∙ c .if4 .taken), omega (arith, S1 .high, c .before .before .before .before .before .before .before .before .before .before .pre .1 .2))
 
 measure-clause-returns-4 : (t : ℕ) → measure-clause-lts.Need-returns-4 (measure-clause-calls t) (measure-clause-at t) measure-clause.Post
-measure-clause-returns-4 t c = let S1 = rw (c .before .before .before .before .before .before .from .given .1) at (c .before .before .before .before .before .before .before .before .clause-start .ensures) in ((λ st T. meant-start S1 st (c .before .before .before .before .before .before .before .before .before .before .before .args .default .now) (c .before .before .before .before .before .before .before .before .before .before .before .args .depth) _ (quotedAt st (tokensOf (c .before .before .before .before .before .before .before .before .before .before .before .args .room .now) (c .before .before .before .before .before .before .before .before .before .before .before .args .n)) (nameFrom (c .before .before .before .before .before .before .before .before .before .before .before .args .room .now) (c .before .before .before .before .before .before .before .before .before .before .before .args .default .now) (c .before .before .before .before .before .before .from .given .0 .0)) (c .before .before .before .before .before .before .from .given .0 .1 .1 .0)) (λ k h. body-quoted st (tokensOf (c .before .before .before .before .before .before .before .before .before .before .before .args .room .now) (c .before .before .before .before .before .before .before .before .before .before .before .args .n)) _ (nameFrom (c .before .before .before .before .before .before .before .before .before .before .before .args .room .now) (c .before .before .before .before .before .before .before .before .before .before .before .args .default .now) (c .before .before .before .before .before .before .from .given .0 .0)) (c .before .before .before .before .before .before .before .before .before .before .before .args .depth) (c .before .before .before .before .before .before .from .given .0 .1 .1 .0) _ (c .before .before .before .before .kind-at .ensures) (c .before .before .before .if1 .left) (c .before .before .if2 .left) (c .before .if4 .taken)) (c .measure-quoted .ensures .0 st (c .before .before .before .before .before .before .before .before .before .before .before .args .operator) (S1 .tuned st (c .before .before .before .before .before .before .before .before .before .before .before .args .operator) (c .before .before .before .before .before .before .before .before .before .before .before .args .default .now) T))), within-start S1 (c .measure-quoted .result) (c .measure-quoted .ensures .1))
+measure-clause-returns-4 t c = let S1 = rw (c .before .before .before .before .before .before .from .given .1) at (c .before .before .before .before .before .before .before .before .clause-start .ensures) in ((λ st T. meant-start S1 st (c .before .before .before .before .before .before .before .before .before .before .before .args .default .now) (c .before .before .before .before .before .before .before .before .before .before .before .args .depth) _ (quotedAt st (tokensOf (c .before .before .before .before .before .before .before .before .before .before .before .args .room .now) (c .before .before .before .before .before .before .before .before .before .before .before .args .n)) (nameFrom (c .before .before .before .before .before .before .before .before .before .before .before .args .room .now) (c .before .before .before .before .before .before .before .before .before .before .before .args .default .now) (c .before .before .before .before .before .before .from .given .0 .0)) (c .before .before .before .before .before .before .from .given .0 .1 .1 .0)) (λ k h. body-quoted st (tokensOf (c .before .before .before .before .before .before .before .before .before .before .before .args .room .now) (c .before .before .before .before .before .before .before .before .before .before .before .args .n)) _ (nameFrom (c .before .before .before .before .before .before .before .before .before .before .before .args .room .now) (c .before .before .before .before .before .before .before .before .before .before .before .args .default .now) (c .before .before .before .before .before .before .from .given .0 .0)) (c .before .before .before .before .before .before .before .before .before .before .before .args .depth) (c .before .before .before .before .before .before .from .given .0 .1 .1 .0) _ (c .before .before .before .before .kind-at .ensures) (c .before .before .before .if1 .left) (c .before .before .if2 .left) (c .before .if4 .taken)) (c .measure-leaf2 .ensures .0 st (c .before .before .before .before .before .before .before .before .before .before .before .args .operator) (S1 .tuned st (c .before .before .before .before .before .before .before .before .before .before .before .args .operator) (c .before .before .before .before .before .before .before .before .before .before .before .args .default .now) T))), within-start S1 (c .measure-leaf2 .result) (c .measure-leaf2 .ensures .1))
 
 measure-clause-returns-5 : (t : ℕ) → measure-clause-lts.Need-returns-5 (measure-clause-calls t) (measure-clause-at t) measure-clause.Post
 measure-clause-returns-5 t c = let S1 = rw (c .before .before .before .before .before .before .from .given .1) at (c .before .before .before .before .before .before .before .before .clause-start .ensures) in ((λ st T. meant-start S1 st (c .before .before .before .before .before .before .before .before .before .before .before .args .default .now) (c .before .before .before .before .before .before .before .before .before .before .before .args .depth) _ (refused unexpectedEnd) (λ k h. body-end st (tokensOf (c .before .before .before .before .before .before .before .before .before .before .before .args .room .now) (c .before .before .before .before .before .before .before .before .before .before .before .args .n)) _ (nameFrom (c .before .before .before .before .before .before .before .before .before .before .before .args .room .now) (c .before .before .before .before .before .before .before .before .before .before .before .args .default .now) (c .before .before .before .before .before .before .from .given .0 .0)) (c .before .before .before .before .before .before .before .before .before .before .before .args .depth) (c .before .before .before .before .before .before .from .given .0 .1 .1 .0) _ (c .before .before .before .before .kind-at .ensures) (c .before .before .before .if1 .left) (c .before .before .if2 .left) (c .before .if4 .left) (c .if5 .taken)) (unexpectedEnd, refl, refl)), omega arith)
@@ -187,7 +184,7 @@ pub +measure-clause+measure-query-spec : {M : Type 1} → statement M
     (measure-clause-enum-told t)
     (measure-clause-enum-known-from t)
     (measure-clause-kind-at-requires t)
-    (measure-clause-measure-plain-requires t)
+    (measure-clause-measure-leaf-requires t)
     (measure-clause-returns t)
     (measure-clause-add-measure-query t)
     (measure-clause-add-measure-query-2 t)
@@ -195,7 +192,7 @@ pub +measure-clause+measure-query-spec : {M : Type 1} → statement M
     (measure-clause-closing-requires t)
     (measure-clause-returns-2 t)
     (measure-clause-returns-3 t)
-    (measure-clause-measure-quoted-requires t)
+    (measure-clause-measure-leaf-requires-2 t)
     (measure-clause-returns-4 t)
     (measure-clause-returns-5 t)
     (measure-clause-returns-6 t)
