@@ -1,3 +1,5 @@
 pub mod Laying
 pub mod Decimals
 pub mod Texts
+pub mod Nodes
+pub mod Queries

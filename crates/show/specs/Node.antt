@@ -25,8 +25,8 @@ orEmpty (refused r) = none
 unfoldable pub queryIn : List ℕ → Query
 queryIn s = orNone (decode (length s) s)
 
-unfoldable pub clausesOf : List ℕ → Clauses
-clausesOf s = orEmpty (clausesIn (decode (length s)) (length s) s)
+unfoldable pub rowIn : List ℕ → Clauses
+rowIn s = orEmpty (clausesIn (decode (length s)) (length s) s)
 
 -- ---- a query's own line, and what it nests
 

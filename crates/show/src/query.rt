@@ -8,7 +8,7 @@ use stored::part::tag_of;
 ghost use Rattle.rules.specs.Checked.{Stored};
 ghost use Rattle.rules.specs.Show.{line, show, showClauses};
 ghost use Rattle.show.specs.Lays.{Lays};
-ghost use Rattle.show.specs.Node.{node, queryIn, clausesOf, kindText, ToShow, ToShowAll};
+ghost use Rattle.show.specs.Node.{node, queryIn, rowIn, kindText, ToShow, ToShowAll};
 
 fn put_kind(out: &mut [u8], at: usize, kind: u8) -> usize
     ensures { λ r. ⌜ Lays (now (out .entry)) at (kindText kind) r (now (out .exit)) ⌝ }
@@ -36,7 +36,7 @@ fn put_line(out: &mut [u8], at: usize, d: usize, kind: u8, s: &[u8]) -> usize
 
 fn show_clauses(out: &mut [u8], at: usize, d: usize, cs: &[u8]) -> usize
     requires { ⌜ ToShowAll d (now cs) ⌝ }
-    ensures { λ r. ⌜ Lays (now (out .entry)) at (showClauses d (clausesOf (now (cs .entry)))) r (now (out .exit)) ⌝ }
+    ensures { λ r. ⌜ Lays (now (out .entry)) at (showClauses d (rowIn (now (cs .entry)))) r (now (out .exit)) ⌝ }
 {
     let mut t = cs;
     let mut a = at;

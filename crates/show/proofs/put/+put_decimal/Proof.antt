@@ -89,7 +89,7 @@ put-decimal-put-decimal-requires : (t : ℕ) → put-decimal-lts.Need-put-decima
   put-decimal-below t,
   put-decimal.Post,
 ) (put-decimal-at t) put-decimal.Post
-put-decimal-put-decimal-requires t c κs = ?
+put-decimal-put-decimal-requires t c κs = (omega (arith, c .before .before .before .pre .0, c .before .if1 .left), c .before .before .before .pre .1)
 
 -- src/put.rt:54:28
 put-decimal-cast-digit-2 : (t : ℕ) → put-decimal-lts.Need-cast-digit-2 (

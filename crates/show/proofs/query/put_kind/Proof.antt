@@ -93,7 +93,7 @@ same-length-5 c = search needs
 -- src/query.rt:13:1
 returns-5 : tie.Need-returns-5
 unfolding ascii kindText
-returns-5 c = ?
+returns-5 c = laying.lays-as (rw (ne-eqb (c .before .before .before .before .before .before .before .args .kind) 0x20 (c .before .before .before .before .before .match .rest .0 .0 .0 .1), ne-eqb (c .before .before .before .before .before .before .before .args .kind) 0x21 (c .before .before .before .before .before .match .rest .0 .0 .1), ne-eqb (c .before .before .before .before .before .before .before .args .kind) 0x22 (c .before .before .before .before .before .match .rest .0 .1), ne-eqb (c .before .before .before .before .before .before .before .args .kind) 0x23 (c .before .before .before .before .before .match .rest .1))) (c .before .before .put5 .ensures)
 
 pub put-kind-spec : {M : Type 1} → statement M
 put-kind-spec =
