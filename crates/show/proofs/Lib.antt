@@ -3,3 +3,5 @@ pub mod Decimals
 pub mod Texts
 pub mod Nodes
 pub mod Queries
+pub mod Cutting
+pub mod Lows
