@@ -5,3 +5,5 @@ pub mod Nodes
 pub mod Queries
 pub mod Cutting
 pub mod Lows
+pub mod Lengths
+pub mod Answering

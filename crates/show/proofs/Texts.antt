@@ -18,7 +18,7 @@ pub hex-next : (s : List ℕ) (k : ℕ) → k < length s → hex (drop k s) ≡ 
 unfolding hex
 hex-next s k h = rw (add-one k, drop-cons s k 0 h)
 
-shown-cons : (c : ℕ) (s : List ℕ) → shown (c ∷ s) ≡ shownByte c ++ shown s
+pub shown-cons : (c : ℕ) (s : List ℕ) → shown (c ∷ s) ≡ shownByte c ++ shown s
 unfolding shown
 shown-cons c s = by (isPlain c) (ascii "\\" ++ hex (c ∷ [])) (shown s)
   where

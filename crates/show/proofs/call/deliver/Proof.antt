@@ -1,3 +1,7 @@
+use Rattle.show.proofs.Answering as answering
+use Rattle.show.specs.Answer.{answerText}
+use mathlib.Core.List.{[]}
+use denote.Ref.{now}
 use native.Mathlib.Omega.{arith}
 use borrow.Author.Needs.{needs}
 use Rattle.show.proofs.call.deliver.Statement.{statement}
@@ -28,7 +32,7 @@ same-length c = search needs
 
 -- src/call.rt:31:9
 returns : tie.Need-returns
-returns c = ?
+returns c = let n = c .before .before .before .put-answer .ensures .place (answering.answer-length (c .before .before .before .before .before .before .before .before .pre) (omega arith)) in answering.too-long (answerText (c .before .before .before .before .before .before .before .before .args .refusal) (now (c .before .before .before .before .before .before .before .before .args .written)) (now (c .before .before .before .before .before .before .before .before .args .rewritten)) (c .before .before .before .before .before .before .before .before .args .rounds)) (now (c .before .before .before .before .before .before .before .before .args .out)) (c .before .before .before .put-answer .last .0) (omega (arith, c .before .before .before .put-answer .kept .0)) (omega (arith, n, c .if1 .taken))
 
 -- src/call.rt:33:5
 put-answer-requires-2 : tie.Need-put-answer-requires-2
@@ -40,7 +44,7 @@ same-length-2 c = search needs
 
 -- src/call.rt:19:1
 returns-2 : tie.Need-returns-2
-returns-2 c = ?
+returns-2 c = let n = c .before .before .before .before .before .before .before .put-answer .ensures .place (answering.answer-length (c .before .before .before .before .before .before .before .before .before .before .before .before .pre) (omega arith)) in answering.fits (answerText (c .before .before .before .before .before .before .before .before .before .before .before .before .args .refusal) (now (c .before .before .before .before .before .before .before .before .before .before .before .before .args .written)) (now (c .before .before .before .before .before .before .before .before .before .before .before .before .args .rewritten)) (c .before .before .before .before .before .before .before .before .before .before .before .before .args .rounds)) (now (c .before .before .before .before .before .before .before .before .before .before .before .before .args .out)) _ (c .before .before .before .before .before .before .before .put-answer .result) n (c .before .before .before .before .if1 .left) ?
 
 pub deliver-spec : {M : Type 1} → statement M
 deliver-spec =

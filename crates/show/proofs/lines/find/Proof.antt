@@ -18,7 +18,7 @@ abbrev μ-loop : tie.MeasureT-loop
 
 -- src/lines.rt:20:5
 loop-holds : tie.Need-loop-holds Inv-loop μ-loop
-loop-holds c = (omega arith, refl)
+loop-holds c = (omega arith, omega arith)
 
 -- src/lines.rt:21:12
 shared-slice-read-if1 : tie.Need-shared-slice-read-if1 Inv-loop μ-loop
