@@ -271,11 +271,15 @@ pub too-long : (t out last : List ℕ) → length last ≡ 0 → length out < le
 unfolding delivered call
 too-long t out last z h = rw (lt-leb (length t) (length out) h, empty-nil last (none-empty last z))
 
-pub fits : (t out out′ : List ℕ) (n : ℕ) → n ≡ 0 + length t → n ≤ length out → out′ ≡ laid out 0 t → leftOf (shown.Bytes n) out′ [] ≡ delivered t out []
+pub fits : (t out last : List ℕ) {out′ : List ℕ} (n : ℕ) {next : ℕ} → length last ≡ 0 → 0 + length t ≤ placeMost → n ≡ 0 + length t → n ≤ length (last ++ out)
+    → Lays (last ++ out) 0 t next out′ → leftOf (shown.Bytes n) out′ [] ≡ delivered t out []
 unfolding delivered call
-fits t out out′ n e h o =
+fits t out last {out′} n z far e h L =
     let m : n ≡ length t = omega arith in
-    rw (le-leb (length t) (length out) (omega arith), m, o) (ap (λ (x : List ℕ). leftOf (shown.Bytes (length t)) x []) (laid-front out t))
+    let k : last ≡ [] = empty-nil last (none-empty last z) in
+    let o : out′ ≡ t ++ drop (length t) out = L .bytes far (omega arith) ∙ ap (λ (l : List ℕ). laid (l ++ out) 0 t) k ∙ laid-front out t in
+    let j : length t ≤ length out = omega (arith, ap (λ (l : List ℕ). length (l ++ out)) k) in
+    rw (le-leb (length t) (length out) j, m, o)
 
 -- ---- the public call
 

@@ -16,13 +16,7 @@ pub enum Shown {
 }
 
 // Measures, and then writes what fits.
-fn deliver(
-    out: &mut [u8],
-    refusal: u8,
-    written: &[u8],
-    rewritten: &[u8],
-    rounds: usize,
-) -> Shown
+fn deliver(out: &mut [u8], refusal: u8, written: &[u8], rewritten: &[u8], rounds: usize) -> Shown
     requires { ⌜ ToSay refusal (now written) (now rewritten) rounds ⌝ }
     ensures { λ r. ⌜ leftOf r (now (out .exit)) [] ≡ delivered (answerText refusal (now (written .entry)) (now (rewritten .entry)) rounds) (now (out .entry)) [] ⌝ }
 {

@@ -60,9 +60,11 @@ same-length-2 c = search needs
 
 -- src/answer.rt:46:1
 returns : tie.Need-returns
-returns c = (let U = answering.unparsed (now (c .before .before .before .before .before .before .before .before .before .before .before .before .before .before .before .args .input)) (now (c .before .before .before .before .before .before .before .before .before .before .before .before .before .before .before .args .first)) (now (c .before .before .before .before .before .before .before .before .before .before .before .before .before .before .before .args .room)) (omega (arith, c .before .before .before .before .before .before .before .before .before .before .before .before .before .before .before .pre .2)) (c .before .before .before .before .before .before .before .before .before .before .before .before .before .before .before .pre .0) (answering.parse-refused (writtenIn (now (c .before .before .before .before .before .before .before .before .before .before .before .before .before .before .before .args .input))) (now (c .before .before .before .before .before .before .before .before .before .before .before .before .before .before .before .args .first)) (now (c .before .before .before .before .before .before .before .before .before .before .before .before .before .before .before .args .room)) (omega (arith, c .before .before .before .before .before .before .before .before .before .before .before .before .before .before .before .pre .2)) (c .before .before .e .given .0 .0) (c .before .before .before .before .before .before .before .before .parse-lines .last .1 .0) (c .before .before .before .before .before .before .before .before .parse-lines .last .1 .1 .0) (c .before .before .e .given .1) (c .before .before .before .before .before .before .before .before .parse-lines .ensures)) (c .refused .ensures .0) in
-    answering.makes-refused (U .0) (U .1) (c .before .before .before .before .before .before .before .before .parse-lines .last .1 .0) (now (c .before .before .before .before .before .before .before .before .before .before .before .before .before .before .before .args .second)) (c .refused .result .written) (c .refused .result .rewritten) (c .refused .result .rounds) (omega (arith, c .refused .ensures .1)) (omega (arith, c .refused .ensures .2)) (omega (arith, c .refused .ensures .1)) (omega (arith, c .refused .ensures .2)) (omega (arith, c .refused .ensures .3)),
-    answering.parse-room (writtenIn (now (c .before .before .before .before .before .before .before .before .before .before .before .before .before .before .before .args .input))) (now (c .before .before .before .before .before .before .before .before .before .before .before .before .before .before .before .args .first)) (now (c .before .before .before .before .before .before .before .before .before .before .before .before .before .before .before .args .room)) (omega (arith, c .before .before .before .before .before .before .before .before .before .before .before .before .before .before .before .pre .2)) (c .before .before .before .before .before .before .before .before .parse-lines .result) (c .before .before .before .before .before .before .before .before .parse-lines .last .1 .0) (c .before .before .before .before .before .before .before .before .parse-lines .last .1 .1 .0) (c .before .before .before .before .before .before .before .before .parse-lines .ensures))
+returns c = (
+  let U = answering.unparsed (now (c .before .before .before .before .before .before .before .before .before .before .before .before .before .before .before .args .input)) (now (c .before .before .before .before .before .before .before .before .before .before .before .before .before .before .before .args .first)) (now (c .before .before .before .before .before .before .before .before .before .before .before .before .before .before .before .args .room)) (omega (arith, c .before .before .before .before .before .before .before .before .before .before .before .before .before .before .before .pre .2)) (c .before .before .before .before .before .before .before .before .before .before .before .before .before .before .before .pre .0) (answering.parse-refused (writtenIn (now (c .before .before .before .before .before .before .before .before .before .before .before .before .before .before .before .args .input))) (now (c .before .before .before .before .before .before .before .before .before .before .before .before .before .before .before .args .first)) (now (c .before .before .before .before .before .before .before .before .before .before .before .before .before .before .before .args .room)) (omega (arith, c .before .before .before .before .before .before .before .before .before .before .before .before .before .before .before .pre .2)) (c .before .before .e .given .0 .0) (c .before .before .before .before .before .before .before .before .parse-lines .last .1 .0) (c .before .before .before .before .before .before .before .before .parse-lines .last .1 .1 .0) (c .before .before .e .given .1) (c .before .before .before .before .before .before .before .before .parse-lines .ensures)) (c .refused .ensures .0) in
+      answering.makes-refused (U .0) (U .1) (c .before .before .before .before .before .before .before .before .parse-lines .last .1 .0) (now (c .before .before .before .before .before .before .before .before .before .before .before .before .before .before .before .args .second)) (c .refused .result .written) (c .refused .result .rewritten) (c .refused .result .rounds) (omega (arith, c .refused .ensures .1)) (omega (arith, c .refused .ensures .2)) (omega (arith, c .refused .ensures .1)) (omega (arith, c .refused .ensures .2)) (omega (arith, c .refused .ensures .3)),
+  answering.parse-room (writtenIn (now (c .before .before .before .before .before .before .before .before .before .before .before .before .before .before .before .args .input))) (now (c .before .before .before .before .before .before .before .before .before .before .before .before .before .before .before .args .first)) (now (c .before .before .before .before .before .before .before .before .before .before .before .before .before .before .before .args .room)) (omega (arith, c .before .before .before .before .before .before .before .before .before .before .before .before .before .before .before .pre .2)) (c .before .before .before .before .before .before .before .before .parse-lines .result) (c .before .before .before .before .before .before .before .before .parse-lines .last .1 .0) (c .before .before .before .before .before .before .before .before .parse-lines .last .1 .1 .0) (c .before .before .before .before .before .before .before .before .parse-lines .ensures),
+)
 
 -- src/answer.rt:46:1
 same-length-3 : tie.Need-same-length-3
@@ -83,9 +85,10 @@ returns-2 c = let P = answering.parse-bytes (writtenIn (now (c .before .before .
     let t = answering.parsed-there (writtenIn (now (c .before .before .before .before .before .before .before .before .before .before .before .before .before .before .before .before .before .before .before .before .before .before .before .args .input))) (now (c .before .before .before .before .before .before .before .before .before .before .before .before .before .before .before .before .before .before .before .before .before .before .before .args .first)) (now (c .before .before .before .before .before .before .before .before .before .before .before .before .before .before .before .before .before .before .before .before .before .before .before .args .room)) (omega (arith, c .before .before .before .before .before .before .before .before .before .before .before .before .before .before .before .before .before .before .before .before .before .before .before .pre .2)) P in
     let l = answering.parsed-length (writtenIn (now (c .before .before .before .before .before .before .before .before .before .before .before .before .before .before .before .before .before .before .before .before .before .before .before .args .input))) (now (c .before .before .before .before .before .before .before .before .before .before .before .before .before .before .before .before .before .before .before .before .before .before .before .args .first)) (now (c .before .before .before .before .before .before .before .before .before .before .before .before .before .before .before .before .before .before .before .before .before .before .before .args .room)) (omega (arith, c .before .before .before .before .before .before .before .before .before .before .before .before .before .before .before .before .before .before .before .before .before .before .before .pre .2)) P in
     let z = answering.parse-room (writtenIn (now (c .before .before .before .before .before .before .before .before .before .before .before .before .before .before .before .before .before .before .before .before .before .before .before .args .input))) (now (c .before .before .before .before .before .before .before .before .before .before .before .before .before .before .before .before .before .before .before .before .before .before .before .args .first)) (now (c .before .before .before .before .before .before .before .before .before .before .before .before .before .before .before .before .before .before .before .before .before .before .before .args .room)) (omega (arith, c .before .before .before .before .before .before .before .before .before .before .before .before .before .before .before .before .before .before .before .before .before .before .before .pre .2)) (c .before .before .before .before .before .before .before .before .before .before .before .before .before .before .before .before .parse-lines .result) (c .before .before .before .before .before .before .before .before .before .before .before .before .before .before .before .before .parse-lines .last .1 .0) (c .before .before .before .before .before .before .before .before .before .before .before .before .before .before .before .before .parse-lines .last .1 .1 .0) (c .before .before .before .before .before .before .before .before .before .before .before .before .before .before .before .before .parse-lines .ensures) in
-    let k = ap length z ∙ length-replicate (length (now (c .before .before .before .before .before .before .before .before .before .before .before .before .before .before .before .before .before .before .before .before .before .before .before .args .room))) 0 in
-    (answering.makes-rewritten (now (c .before .before .before .before .before .before .before .before .before .before .before .before .before .before .before .before .before .before .before .before .before .before .before .args .input)) (P .is) (take (c .before .before .before .before .before .before .before .before .before .before .n .given .0 .0 - 0) (drop 0 (c .before .before .before .before .before .before .before .before .before .before .before .before .before .before .before .before .parse-lines .last .1 .0))) (now (c .before .before .before .before .before .before .before .before .before .before .before .before .before .before .before .before .before .before .before .before .before .before .before .args .second)) (c .before .before .before .before .before .before .before .before .before .before .before .before .before .before .before .before .parse-lines .last .1 .1 .0) e (omega (arith, k, c .before .before .before .before .before .before .before .before .before .before .before .before .before .before .before .before .before .before .before .before .before .before .before .pre .2)) (c .before .before .before .before .before .before .before .before .before .before .before .before .before .before .before .before .before .before .before .before .before .before .before .pre .1) (c .before .before .before .before .rewrite .ensures) (t ∙ sym e) (l .0) (omega (arith, l .1, c .before .before .before .before .before .before .before .before .before .before .before .before .before .before .before .before .before .before .before .before .before .before .before .pre .0)) (parts.bytes-take _ _ (λ i. omega (arith, c .before .before .before .before .before .before .before .before .before .before .before .before .before .before .slice-known4 .given i))),
-    answering.rewrite-room _ _ _ (c .before .before .before .before .rewrite .ensures) ∙ ap zeros z ∙ ap (λ (n : ℕ). replicate n 0) (length-replicate (length (now (c .before .before .before .before .before .before .before .before .before .before .before .before .before .before .before .before .before .before .before .before .before .before .before .args .room))) 0))
+    let k = ap length z ∙ length-replicate (length (now (c .before .before .before .before .before .before .before .before .before .before .before .before .before .before .before .before .before .before .before .before .before .before .before .args .room))) 0 in (
+      answering.makes-rewritten (now (c .before .before .before .before .before .before .before .before .before .before .before .before .before .before .before .before .before .before .before .before .before .before .before .args .input)) (P .is) (take (c .before .before .before .before .before .before .before .before .before .before .n .given .0 .0 - 0) (drop 0 (c .before .before .before .before .before .before .before .before .before .before .before .before .before .before .before .before .parse-lines .last .1 .0))) (now (c .before .before .before .before .before .before .before .before .before .before .before .before .before .before .before .before .before .before .before .before .before .before .before .args .second)) (c .before .before .before .before .before .before .before .before .before .before .before .before .before .before .before .before .parse-lines .last .1 .1 .0) e (omega (arith, k, c .before .before .before .before .before .before .before .before .before .before .before .before .before .before .before .before .before .before .before .before .before .before .before .pre .2)) (c .before .before .before .before .before .before .before .before .before .before .before .before .before .before .before .before .before .before .before .before .before .before .before .pre .1) (c .before .before .before .before .rewrite .ensures) (t ∙ sym e) (l .0) (omega (arith, l .1, c .before .before .before .before .before .before .before .before .before .before .before .before .before .before .before .before .before .before .before .before .before .before .before .pre .0)) (parts.bytes-take (c .before .before .before .before .before .before .before .before .before .before .n .given .0 .0 - 0) (c .before .before .before .before .before .before .before .before .before .before .before .before .before .before .before .before .parse-lines .last .1 .0) (λ i. omega (arith, c .before .before .before .before .before .before .before .before .before .before .before .before .before .before .slice-known4 .given i))),
+      answering.rewrite-room _ _ _ (c .before .before .before .before .rewrite .ensures) ∙ ap zeros z ∙ ap (λ (n : ℕ). replicate n 0) (length-replicate (length (now (c .before .before .before .before .before .before .before .before .before .before .before .before .before .before .before .before .before .before .before .before .before .before .before .args .room))) 0),
+    )
 
 pub make-spec : {M : Type 1} → statement M
 make-spec =

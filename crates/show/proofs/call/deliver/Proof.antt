@@ -44,7 +44,7 @@ same-length-2 c = search needs
 
 -- src/call.rt:19:1
 returns-2 : tie.Need-returns-2
-returns-2 c = let n = c .before .before .before .before .before .before .before .put-answer .ensures .place (answering.answer-length (c .before .before .before .before .before .before .before .before .before .before .before .before .pre) (omega arith)) in answering.fits (answerText (c .before .before .before .before .before .before .before .before .before .before .before .before .args .refusal) (now (c .before .before .before .before .before .before .before .before .before .before .before .before .args .written)) (now (c .before .before .before .before .before .before .before .before .before .before .before .before .args .rewritten)) (c .before .before .before .before .before .before .before .before .before .before .before .before .args .rounds)) (now (c .before .before .before .before .before .before .before .before .before .before .before .before .args .out)) _ (c .before .before .before .before .before .before .before .put-answer .result) n (c .before .before .before .before .if1 .left) ?
+returns-2 c = let far = answering.answer-length (c .before .before .before .before .before .before .before .before .before .before .before .before .pre) (omega arith) in answering.fits (answerText (c .before .before .before .before .before .before .before .before .before .before .before .before .args .refusal) (now (c .before .before .before .before .before .before .before .before .before .before .before .before .args .written)) (now (c .before .before .before .before .before .before .before .before .before .before .before .before .args .rewritten)) (c .before .before .before .before .before .before .before .before .before .before .before .before .args .rounds)) (now (c .before .before .before .before .before .before .before .before .before .before .before .before .args .out)) (c .before .before .before .before .before .before .before .put-answer .last .0) (c .before .before .before .before .before .before .before .put-answer .result) (omega (arith, c .before .before .before .before .before .before .before .put-answer .kept .0)) far (c .before .before .before .before .before .before .before .put-answer .ensures .place far) (c .before .before .before .before .if1 .left) (c .before .before .put-answer2 .ensures)
 
 pub deliver-spec : {M : Type 1} → statement M
 deliver-spec =
