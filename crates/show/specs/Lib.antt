@@ -1,0 +1,4 @@
+pub mod Answer
+pub mod Lays
+pub mod Lines
+pub mod Node

@@ -1,0 +1,85 @@
+// The two lines of an input: operator and default field, and the text. They are parsed here.
+use parser::parse::Parsed;
+use parser::parse::parse;
+use stored::bytes::same;
+ghost use mathlib.Core.Path.{_≡_};
+ghost use Prim.Native.Nat.{_≤_};
+ghost use lib.ListN.{length, drop};
+ghost use Rattle.rules.specs.Numbers.{onRead, parseRoom};
+ghost use Rattle.rules.specs.Analysis.{front, after};
+ghost use Rattle.rules.specs.Show.{inWord};
+ghost use Rattle.rules.specs.Answers.{call, storedReply};
+ghost use Rattle.parser.specs.Parsed.{leftOf};
+ghost use Rattle.show.specs.Lines.{other, operatorNumber, lineOperator, writtenIn};
+
+// Where the first byte b is, or the end.
+fn find(s: &[u8], b: u8) -> usize
+    ensures { λ r. ⌜ r ≡ length (front (other b) (now (s .entry))) ⌝ }
+{
+    let mut i = 0;
+    while i < s.len() {
+        if s[i] == b {
+            return i;
+        }
+        i += 1;
+    }
+    i
+}
+
+fn before(s: &[u8], b: u8) -> &[u8]
+    ensures { λ r. ⌜ now r ≡ front (other b) (now (s .entry)) ⌝ }
+{
+    let e = find(s, b);
+    &s[0..e]
+}
+
+fn behind(s: &[u8], b: u8) -> &[u8]
+    ensures { λ r. ⌜ now r ≡ drop 1 (after (other b) (now (s .entry))) ⌝ }
+{
+    let e = find(s, b);
+    if e < s.len() {
+        let a = e + 1;
+        return &s[a..];
+    }
+    &s[e..]
+}
+
+// The operator's number; 2, which no setup has, for any other word.
+fn operator(word: &[u8]) -> u8
+    ensures { λ r. ⌜ r ≡ operatorNumber (now (word .entry)) ⌝ }
+{
+    if same(word, b"or") {
+        return 0;
+    }
+    if same(word, b"and") {
+        return 1;
+    }
+    2
+}
+
+// The same for a line, in which a space has to follow the word.
+fn line_operator(line: &[u8]) -> u8
+    ensures { λ r. ⌜ r ≡ lineOperator (now (line .entry)) ⌝ }
+{
+    let word = before(line, 32);
+    if word.len() < line.len() {
+        return operator(word);
+    }
+    2
+}
+
+pub fn parse_lines(input: &[u8], out: &mut [u8], room: &mut [u8]) -> Parsed
+    ensures { λ r. ⌜ leftOf r (now (out .exit)) (now (room .exit)) ≡ call parseRoom (onRead storedReply (writtenIn (now (input .entry)))) (now (out .entry)) (now (room .entry)) ⌝ }
+{
+    let line = before(input, 10);
+    let text = before(behind(input, 10), 10);
+    parse(
+        line_operator(line),
+        2,
+        behind(line, 32),
+        &line[0..0],
+        text,
+        out,
+        room,
+    )
+}

@@ -1,0 +1,65 @@
+// A stored query and what it nests, a line for each: depth, clause kind, node.
+use crate::node::put_node;
+use crate::put::put;
+use crate::put::put_decimal;
+use stored::part::body;
+use stored::part::rest;
+use stored::part::tag_of;
+ghost use Rattle.rules.specs.Checked.{Stored};
+ghost use Rattle.rules.specs.Show.{line, show, showClauses};
+ghost use Rattle.show.specs.Lays.{Lays};
+ghost use Rattle.show.specs.Node.{node, queryIn, rowIn, kindText, ToShow, ToShowAll};
+
+fn put_kind(out: &mut [u8], at: usize, kind: u8) -> usize
+    ensures { λ r. ⌜ Lays (now (out .entry)) at (kindText kind) r (now (out .exit)) ⌝ }
+{
+    match kind {
+        0x20 => put(out, at, b"must"),
+        0x21 => put(out, at, b"should"),
+        0x22 => put(out, at, b"mustnot"),
+        0x23 => put(out, at, b"filter"),
+        _ => put(out, at, b"-"),
+    }
+}
+
+fn put_line(out: &mut [u8], at: usize, d: usize, kind: u8, s: &[u8]) -> usize
+    requires { ⌜ Stored (now s) ⌝ }
+    ensures { λ r. ⌜ Lays (now (out .entry)) at (line d (kindText kind) (node (queryIn (now (s .entry))))) r (now (out .exit)) ⌝ }
+{
+    let p = put_decimal(out, at, d);
+    let q = put(out, p, b" ");
+    let r = put_kind(out, q, kind);
+    let t = put(out, r, b" ");
+    let u = put_node(out, t, s);
+    put(out, u, b"\n")
+}
+
+fn show_clauses(out: &mut [u8], at: usize, d: usize, cs: &[u8]) -> usize
+    requires { ⌜ ToShowAll d (now cs) ⌝ }
+    ensures { λ r. ⌜ Lays (now (out .entry)) at (showClauses d (rowIn (now (cs .entry)))) r (now (out .exit)) ⌝ }
+{
+    let mut t = cs;
+    let mut a = at;
+    while t.len() > 0 {
+        a = show_query(out, a, d, tag_of(t), body(t));
+        let u = rest(t);
+        t = u;
+    }
+    a
+}
+
+// The kind is a clause's tag, or 0.
+pub fn show_query(out: &mut [u8], at: usize, d: usize, kind: u8, s: &[u8]) -> usize
+    requires { ⌜ ToShow d (now s) ⌝ }
+    ensures { λ r. ⌜ Lays (now (out .entry)) at (show d (kindText kind) (queryIn (now (s .entry)))) r (now (out .exit)) ⌝ }
+{
+    let a = put_line(out, at, d, kind, s);
+    let b = body(s);
+    let tag = tag_of(s);
+    match tag {
+        3 => show_clauses(out, a, d + 1, rest(b)),
+        4 => show_query(out, a, d + 1, 0, &b[4..]),
+        5 => show_query(out, a, d + 1, 0, b),
+        _ => a,
+    }
+}
