@@ -80,7 +80,7 @@ pub fn lower(c: u8) -> u8
 }
 
 // Each ASCII byte's classes as flags: 1 whitespace, 2 term end, 4 letter.
-const CLASSES: [u8; 128] = [
+pub const CLASSES: [u8; 128] = [
     0,
     0,
     0,

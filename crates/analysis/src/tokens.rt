@@ -94,7 +94,7 @@ pub fn next_token(text: &[u8], analyzer: u8, at: usize) -> Token
             len: n - at,
         };
     }
-    let table = classes::table();
+    let table = classes::CLASSES;
     let start = span(&table, text, analyzer, at, n, false);
     let end = span(&table, text, analyzer, start, chunk_end(start, n), true);
     Token {

@@ -41,7 +41,7 @@ pub fn lex(text: &[u8], room: &mut [u8]) -> Lexed
     ensures answer { λ r. ⌜ r ≡ answerOf (lex (now (text .entry))) ⌝ }
     ensures row { λ r. ⌜ Row (lex (now (text .entry))) (now (room .exit)) ⌝ }
 {
-    let table = classes::table();
+    let table = classes::CLASSES;
     let mut i = 0;
     let mut n: usize = 0;
     while i < text.len() {

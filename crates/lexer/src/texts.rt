@@ -35,7 +35,13 @@ pub fn read_term(table: &[u8; 128], text: &[u8], at: usize, room: &mut [u8]) -> 
         if classes::ends_term_in(table, c) {
             return Ended::At { next: i, len: len };
         }
-        let j = i + escape(c);
+        if c != 0x5c {
+            room[at + len] = c;
+            len += 1;
+            i += 1;
+            continue;
+        }
+        let j = i + 1;
         if text.len() <= j {
             return Ended::Refused(5);
         }

@@ -118,7 +118,13 @@ fn measure_leaf<'a>(
     }
     let field = field_part(room, default, from);
     let len = leaf_len(plain, text_at(room, i), analyzer, field.len());
-    with_boost(room, n, len, i + 1)
+    if is_at(room, n, 11, i + 1) {
+        return with_boost(room, n, len, i + 1);
+    }
+    Measured::Clause {
+        len: len,
+        next: i + 1,
+    }
 }
 
 // What a query in brackets gives, from its clauses: the bracket closes, and a boost may follow.

@@ -1,5 +1,6 @@
 -- `tokens::next_token` meets its contract: past the end, a whole text, or two spans by the table. Assumes nothing.
-use mathlib.Core.Path.{sym, _∙_}
+use mathlib.Core.Path.{refl, sym, _∙_}
+use Rattle.rules.specs.Analysis.{classes}
 use Rattle.analysis.proofs.Chunks.{past, whole, skipped, chunk}
 use native.Mathlib.Omega.{arith}
 use borrow.Author.Needs.{needs}
@@ -18,9 +19,6 @@ sub-t10 c = search needs
 returns-2 : tie.Need-returns-2
 returns-2 c = whole _ _ _ (sym (c .before .is-whole .ensures) ∙ c .if2 .taken)
 
-table-requires : tie.Need-table-requires
-table-requires c κs = search needs
-
 span-requires : tie.Need-span-requires
 span-requires c κs = omega arith
 
@@ -34,7 +32,8 @@ sub-t14 : tie.Need-sub-t14
 sub-t14 c = omega arith
 
 returns-3 : tie.Need-returns-3
-returns-3 c = rw (c .span2 .ensures .is) (chunk _ _ _ _ (c .before .before .before .before .before .table .ensures) _ _ (c .before .before .before .span .ensures .is ∙ skipped _ _ _ _) (c .before .chunk-end .ensures) (sym (c .before .before .before .before .before .before .before .is-whole .ensures) ∙ c .before .before .before .before .before .before .if2 .left))
+unfolding classes
+returns-3 c = rw (c .span2 .ensures .is) (chunk _ _ _ _ refl _ _ (c .before .before .before .span .ensures .is ∙ skipped _ _ _ _) (c .before .chunk-end .ensures) (sym (c .before .before .before .before .before .before .is-whole .ensures) ∙ c .before .before .before .before .before .if2 .left))
 
 pub next-token-spec : {M : Type 1} → statement M
 next-token-spec =
@@ -44,7 +43,6 @@ next-token-spec =
     is-whole-requires
     sub-t10
     returns-2
-    table-requires
     span-requires
     chunk-end-requires
     span-requires-2

@@ -1,14 +1,16 @@
 -- `texts::read_term` meets its contract. The loop's invariant: what the room holds from `at` on, before what is still to be read, is the term. The measure is what is left of the text. Assumes nothing.
-use Prim.Native.Nat.{_-_}
-use native.Mathlib.Omega.{arith}
+use mathlib.Core.Path.{_≡_}
+use Prim.Native.Nat.{_+_, _-_}
+use borrow.Author.Tests.{eq-eqb, ne-eqb}
 use lib.ListN.{length, getD}
-use borrow.Author.Needs.{needs}
 use Rattle.rules.proofs.Tokenizing.{term-unescapes}
 use Rattle.rules.specs.Analysis.{endsTerm}
-use Rattle.rules.specs.Lexing.{termText, isBackslash}
-use Rattle.lexer.proofs.Unescaped.{reading-at, reading-turn, reading-dangling, Reading, reading-none, escape-most, told-end, term-ends, term-over}
-use Rattle.lexer.proofs.texts.read_term.Tie as tie
+use Rattle.rules.specs.Lexing.{termText}
+use Rattle.lexer.proofs.Unescaped.{reading-at, reading-turn, reading-dangling, Reading, reading-none, told-end, term-ends, term-over}
+use native.Mathlib.Omega.{arith}
+use borrow.Author.Needs.{needs}
 use Rattle.lexer.proofs.texts.read_term.Statement.{statement}
+use Rattle.lexer.proofs.texts.read_term.Tie as tie
 
 abbrev Inv-loop : tie.InvT-loop
 Inv-loop table text at room₀ i₀ len₀ room i len = Reading termText text at at room₀ room i len
@@ -32,40 +34,57 @@ returns : tie.Need-returns Inv-loop μ-loop
 returns c = let t = c .before .before .before .before .before .before .before .args .text .now in let i = c .before .before .before .before .loop .i in
     reading-at termText t (c .before .before .before .before .before .before .before .args .at) (c .before .before .before .before .before .before .before .args .at) (c .before .before .before .before .loop .inv) i (term-ends t i (c .before .before .before .loop-test .taken) (told-end (getD t i 0) (c .before .ends-term-in .ensures) (c .before .before .before .before .before .before .before .pre .3) (c .if1 .taken))) (omega arith) (omega arith)
 
-escape-requires : tie.Need-escape-requires Inv-loop μ-loop
-escape-requires c κs = search needs
+add-room : tie.Need-add-room Inv-loop μ-loop
+add-room c = omega (arith, c .before .before .before .before .before .loop .inv .behind, c .before .before .before .before .loop-test .taken, c .before .before .before .before .before .before .before .before .pre .1)
+
+slice-write-room : tie.Need-slice-write-room Inv-loop μ-loop
+slice-write-room c = omega (arith, c .before .before .before .before .before .loop .inv .behind, c .before .before .before .before .before .loop .inv .as-long, c .before .before .before .before .loop-test .taken, c .before .before .before .before .before .before .before .before .pre .1, c .before .before .before .before .before .before .before .before .pre .2)
+
+add-len : tie.Need-add-len Inv-loop μ-loop
+add-len c = omega (arith, c .before .before .before .before .before .loop .inv .behind, c .before .before .before .before .loop-test .taken, c .before .before .before .before .before .before .before .before .pre .1)
+
+add-i : tie.Need-add-i Inv-loop μ-loop
+add-i c = omega (arith, c .before .before .before .before .loop-test .taken, c .before .before .before .before .before .before .before .before .pre .1)
+
+loop-less : tie.Need-loop-less Inv-loop μ-loop
+loop-less c = omega (arith, c .before .before .before .before .loop-test .taken)
+
+loop-again : tie.Need-loop-again Inv-loop μ-loop
+loop-again c = let t = c .before .before .before .before .before .before .before .before .args .text .now in let i = c .before .before .before .before .before .loop .i in
+    let e : i + 0 ≡ i = omega arith in
+    rw e at (reading-turn termText t (c .before .before .before .before .before .before .before .before .args .at) (c .before .before .before .before .before .before .before .before .args .at) (c .before .before .before .before .before .loop .inv) endsTerm term-unescapes 0 (c .before .before .before .before .loop-test .taken) (told-end (getD t i 0) (c .before .before .ends-term-in .ensures) (c .before .before .before .before .before .before .before .before .pre .3) (c .before .if1 .left)) (rw (ne-eqb _ _ (c .if2 .taken))) (rw e (c .before .before .before .before .loop-test .taken)) (c .before .before .before .before .before .before .before .before .pre .1) (c .before .before .before .before .before .before .before .before .pre .2))
 
 add-j : tie.Need-add-j Inv-loop μ-loop
-add-j c = omega (arith, c .escape .ensures, escape-most (isBackslash (getD (c .before .before .before .before .before .before .before .before .args .text .now) (c .before .before .before .before .before .loop .i) 0)))
+add-j c = omega (arith, c .before .before .before .before .loop-test .taken, c .before .before .before .before .before .before .before .before .pre .1)
 
 same-length-2 : tie.Need-same-length-2 Inv-loop μ-loop
 same-length-2 c = c .before .before .before .before .before .before .loop .inv .as-long
 
 returns-2 : tie.Need-returns-2 Inv-loop μ-loop
 returns-2 c = let t = c .before .before .before .before .before .before .before .before .before .args .text .now in let i = c .before .before .before .before .before .before .loop .i in
-    reading-dangling termText t (c .before .before .before .before .before .before .before .before .before .args .at) (c .before .before .before .before .before .before .before .before .before .args .at) (c .before .before .before .before .before .before .loop .inv) endsTerm term-unescapes (c .before .escape .result) (c .before .before .before .before .before .loop-test .taken) (told-end (getD t i 0) (c .before .before .before .ends-term-in .ensures) (c .before .before .before .before .before .before .before .before .before .pre .3) (c .before .before .if1 .left)) (c .before .escape .ensures) (c .if2 .taken)
+    reading-dangling termText t (c .before .before .before .before .before .before .before .before .before .args .at) (c .before .before .before .before .before .before .before .before .before .args .at) (c .before .before .before .before .before .before .loop .inv) endsTerm term-unescapes 1 (c .before .before .before .before .before .loop-test .taken) (told-end (getD t i 0) (c .before .before .before .ends-term-in .ensures) (c .before .before .before .before .before .before .before .before .before .pre .3) (c .before .before .if1 .left)) (rw (eq-eqb _ _ (c .before .if2 .left))) (c .if3 .taken)
 
 shared-slice-read-room : tie.Need-shared-slice-read-room Inv-loop μ-loop
 shared-slice-read-room c = omega arith
 
-add-room : tie.Need-add-room Inv-loop μ-loop
-add-room c = omega (arith, c .before .before .before .before .before .before .before .loop .inv .behind, c .before .before .before .before .before .before .loop-test .taken, c .before .before .before .before .before .before .before .before .before .before .pre .1)
+add-room-2 : tie.Need-add-room-2 Inv-loop μ-loop
+add-room-2 c = omega (arith, c .before .before .before .before .before .before .before .loop .inv .behind, c .before .before .before .before .before .before .loop-test .taken, c .before .before .before .before .before .before .before .before .before .before .pre .1)
 
-slice-write-room : tie.Need-slice-write-room Inv-loop μ-loop
-slice-write-room c = omega (arith, c .before .before .before .before .before .before .before .loop .inv .behind, c .before .before .before .before .before .before .before .loop .inv .as-long, c .before .before .before .before .before .before .loop-test .taken, c .before .before .before .before .before .before .before .before .before .before .pre .1, c .before .before .before .before .before .before .before .before .before .before .pre .2)
+slice-write-room-2 : tie.Need-slice-write-room-2 Inv-loop μ-loop
+slice-write-room-2 c = omega (arith, c .before .before .before .before .before .before .before .loop .inv .behind, c .before .before .before .before .before .before .before .loop .inv .as-long, c .before .before .before .before .before .before .loop-test .taken, c .before .before .before .before .before .before .before .before .before .before .pre .1, c .before .before .before .before .before .before .before .before .before .before .pre .2)
 
-add-len : tie.Need-add-len Inv-loop μ-loop
-add-len c = omega (arith, c .before .before .before .before .before .before .before .loop .inv .behind, c .before .before .before .before .before .before .loop-test .taken, c .before .before .before .before .before .before .before .before .before .before .pre .1)
+add-len-2 : tie.Need-add-len-2 Inv-loop μ-loop
+add-len-2 c = omega (arith, c .before .before .before .before .before .before .before .loop .inv .behind, c .before .before .before .before .before .before .loop-test .taken, c .before .before .before .before .before .before .before .before .before .before .pre .1)
 
-add-i : tie.Need-add-i Inv-loop μ-loop
-add-i c = omega (arith, c .before .if2 .left, c .before .before .before .before .before .before .before .before .before .before .pre .1)
+add-i-2 : tie.Need-add-i-2 Inv-loop μ-loop
+add-i-2 c = omega (arith, c .before .if3 .left, c .before .before .before .before .before .before .before .before .before .before .pre .1)
 
-loop-less : tie.Need-loop-less Inv-loop μ-loop
-loop-less c = omega (arith, c .before .if2 .left, c .before .before .before .before .before .before .loop-test .taken)
+loop-less-2 : tie.Need-loop-less-2 Inv-loop μ-loop
+loop-less-2 c = omega (arith, c .before .if3 .left, c .before .before .before .before .before .before .loop-test .taken)
 
-loop-again : tie.Need-loop-again Inv-loop μ-loop
-loop-again c = let t = c .before .before .before .before .before .before .before .before .before .before .args .text .now in let i = c .before .before .before .before .before .before .before .loop .i in
-    reading-turn termText t (c .before .before .before .before .before .before .before .before .before .before .args .at) (c .before .before .before .before .before .before .before .before .before .before .args .at) (c .before .before .before .before .before .before .before .loop .inv) endsTerm term-unescapes (c .before .before .escape .result) (c .before .before .before .before .before .before .loop-test .taken) (told-end (getD t i 0) (c .before .before .before .before .ends-term-in .ensures) (c .before .before .before .before .before .before .before .before .before .before .pre .3) (c .before .before .before .if1 .left)) (c .before .before .escape .ensures) (c .before .if2 .left) (c .before .before .before .before .before .before .before .before .before .before .pre .1) (c .before .before .before .before .before .before .before .before .before .before .pre .2)
+loop-again-2 : tie.Need-loop-again-2 Inv-loop μ-loop
+loop-again-2 c = let t = c .before .before .before .before .before .before .before .before .before .before .args .text .now in let i = c .before .before .before .before .before .before .before .loop .i in
+    reading-turn termText t (c .before .before .before .before .before .before .before .before .before .before .args .at) (c .before .before .before .before .before .before .before .before .before .before .args .at) (c .before .before .before .before .before .before .before .loop .inv) endsTerm term-unescapes 1 (c .before .before .before .before .before .before .loop-test .taken) (told-end (getD t i 0) (c .before .before .before .before .ends-term-in .ensures) (c .before .before .before .before .before .before .before .before .before .before .pre .3) (c .before .before .before .if1 .left)) (rw (eq-eqb _ _ (c .before .before .if2 .left))) (c .before .if3 .left) (c .before .before .before .before .before .before .before .before .before .before .pre .1) (c .before .before .before .before .before .before .before .before .before .before .pre .2)
 
 same-length-3 : tie.Need-same-length-3 Inv-loop μ-loop
 same-length-3 c = c .before .loop .inv .as-long
@@ -85,16 +104,21 @@ read-term-spec =
     ends-term-in-requires
     same-length
     returns
-    escape-requires
-    add-j
-    same-length-2
-    returns-2
-    shared-slice-read-room
     add-room
     slice-write-room
     add-len
     add-i
     loop-less
     loop-again
+    add-j
+    same-length-2
+    returns-2
+    shared-slice-read-room
+    add-room-2
+    slice-write-room-2
+    add-len-2
+    add-i-2
+    loop-less-2
+    loop-again-2
     same-length-3
     returns-3)
