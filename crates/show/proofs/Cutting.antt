@@ -93,11 +93,11 @@ module _ (s : List ℕ) {w : List ℕ} (e : w ≡ front inWord s) where
 
 -- ---- the setup
 
-two-refused : (f : List ℕ) → readSetup 2 simpleAnalyzer f [] ≡ refused badSetup
+pub two-refused : (f : List ℕ) → readSetup 2 simpleAnalyzer f [] ≡ refused badSetup
 unfolding readSetup entriesIn setupWith isSetup
 two-refused f = refl
 
-show-setup : (s : List ℕ) → readSetup (lineOperator s) simpleAnalyzer (drop 1 (after inWord s)) [] ≡ showSetup s
+pub show-setup : (s : List ℕ) → readSetup (lineOperator s) simpleAnalyzer (drop 1 (after inWord s)) [] ≡ showSetup s
 unfolding showSetup lineOperator operatorIn operatorNumber
 show-setup s = by (isEmpty (after inWord s)) (same (front inWord s) (ascii "or")) (same (front inWord s) (ascii "and"))
   where

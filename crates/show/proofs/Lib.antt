@@ -7,3 +7,4 @@ pub mod Cutting
 pub mod Lows
 pub mod Lengths
 pub mod Answering
+pub mod Prefixes
