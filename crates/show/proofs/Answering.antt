@@ -1,30 +1,29 @@
 -- From what the calls of parsing and rewriting answered to the text of the input, and from there to what the public call leaves.
-use mathlib.Core.Path.{_≡_, refl, sym, ap, _∙_, subst}
+use mathlib.Core.Path.{_≡_, refl, sym, ap, _∙_}
 use mathlib.Core.Logic.{_⊎_, inl, inr}
-use Prim.Native.Nat.{ℕ, zero, suc, _+_, _-_, _*_, _≤_, _<_}
-use mathlib.Core.List.{List, [], _∷_, _++_}
+use Prim.Native.Nat.{ℕ, _+_, _-_, _≤_, _<_}
+use mathlib.Core.List.{List, [], _++_}
 use mathlib.Core.Bool.{Bool, true, false, cond}
 use native.Mathlib.Omega.{arith}
-use lib.ListN.{length, take, drop, replicate, length-append, length-take, length-drop, length-replicate}
-use lib.Seq.{take-at, take-length, length-take-le}
+use lib.ListN.{length, take, drop, length-append, length-take, length-drop}
+use lib.Seq.{take-at}
 use lib.Dec.{leb, eqb}
 use borrow.Author.Tests.{le-leb, lt-leb, leb-true, leb-false, eqb-true, eq-eqb, ne-eqb}
-use Rattle.rules.specs.Numbers.{Refusal, number, Read, got, refused, need, onRead, andThen, longAnswer, longQuery, shortRoom, parseRoom, rewriteRoom, rewriterBytes, rewriterDepth, selectionBytes}
+use Rattle.rules.specs.Numbers.{Refusal, number, Read, got, refused, need, onRead, andThen, longAnswer, shortRoom, parseRoom, rewriteRoom, rewriterBytes, rewriterDepth, selectionBytes}
 use Rattle.rules.specs.Bytes.{Bytes, ascii}
 use Rattle.rules.specs.Query.{Query}
 use Rattle.rules.specs.Stored.{encode, Valid}
 use Rattle.rules.specs.Reading.{readForRewriting}
-use Rattle.rules.specs.Checked.{Is, Stored}
+use Rattle.rules.specs.Checked.{Is}
 use Rattle.rules.specs.Rewriting.{Rewritten, rewritten, weight, rewrite}
 use Rattle.rules.specs.Show.{decimal, noKind, show, showRewritten, showParsed, orRefusal, showSetup, firstLine, secondLine, showText}
 use Rattle.rules.specs.Parsing.{parse}
-use Rattle.rules.specs.Answers.{Answer, Left, Reply, zeros, leave, fitting, call, storedReply, rewrittenReply, rewriteReply, rewriteLeft}
-use Rattle.rules.proofs.Bools.{split, clash}
+use Rattle.rules.specs.Answers.{Left, Reply, zeros, leave, fitting, call, storedReply, rewrittenReply, rewriteReply, rewriteLeft}
 use Rattle.rules.proofs.Refusals.{number-some}
 use Rattle.rules.proofs.Parts.{none-empty, empty-nil}
 use Rattle.rules.proofs.Sizes.{length-encode}
 use Rattle.rules.proofs.Steps.{read-long}
-use Rattle.rules.proofs.Sound.{ReadAs, read-sound}
+use Rattle.rules.proofs.Sound.{read-sound}
 use Rattle.rules.proofs.Weights.{weight-length}
 use Rattle.rules.proofs.rewriting.Rounds.{resultOf, countOf}
 use Rattle.rules.proofs.rewriting.Weights.{few-rounds, valid-rewrite}

@@ -70,7 +70,8 @@ leaves (Bytes n) out room = (refl, refl)
 module _ {s out room out′ room′ out″ room″ : List ℕ} {p q : Shown} where
   pub no-second-show : leftOf p out′ room′ ≡ showLeft s out room → leftOf q out″ room″ ≡ showLeft s out room → (p ≡ q) × (out′ ≡ out″) × (room′ ≡ room″)
   no-second-show P Q =
-      let e = P ∙ sym Q in
-      ( same-answer p q out′ room′ out″ room″ e (subst Telling (sym (ap (λ (x : Left). x .answer) P)) (left-telling s out room))
-      , sym (leaves p out′ room′ .0) ∙ ap (λ (x : Left). x .output) e ∙ leaves q out″ room″ .0
-      , sym (leaves p out′ room′ .1) ∙ ap (λ (x : Left). x .room) e ∙ leaves q out″ room″ .1)
+      let e = P ∙ sym Q in (
+        same-answer p q out′ room′ out″ room″ e (subst Telling (sym (ap (λ (x : Left). x .answer) P)) (left-telling s out room)),
+        sym (leaves p out′ room′ .0) ∙ ap (λ (x : Left). x .output) e ∙ leaves q out″ room″ .0,
+        sym (leaves p out′ room′ .1) ∙ ap (λ (x : Left). x .room) e ∙ leaves q out″ room″ .1,
+      )

@@ -1,17 +1,15 @@
 -- The lines of an input: where each ends, the operator's number, and the setup that they make.
 use mathlib.Core.Path.{_≡_, refl, sym, ap, _∙_}
 use Prim.Native.Nat.{ℕ, suc, _+_, _-_, _≤_, _<_}
-use mathlib.Core.List.{List, [], _∷_, _++_}
+use mathlib.Core.List.{List, [], _∷_}
 use mathlib.Core.Bool.{Bool, true, false, not, cond}
 use native.Mathlib.Omega.{arith}
 use native.Mathlib.Numerals.{add-one}
 use lib.ListN.{length, getD, take, drop, length-append}
-use lib.Dec.{eqb}
 use lib.Seq.{drop-cons, drop-length, drop-drop}
 use borrow.Author.Tests.{eq-eqb, ne-eqb}
 use Rattle.rules.specs.Numbers.{Read, got, refused, need, andThen, onRead, badSetup, parseRoom, simpleAnalyzer}
 use Rattle.rules.specs.Bytes.{ascii, same, isEmpty}
-use Rattle.rules.specs.Query.{Query}
 use Rattle.rules.specs.Analysis.{front, after}
 use Rattle.rules.specs.Setup.{Setup, readSetup, entriesIn, setupWith, isSetup}
 use Rattle.rules.specs.Parsing.{parse}
@@ -95,11 +93,11 @@ module _ (s : List ℕ) {w : List ℕ} (e : w ≡ front inWord s) where
 
 -- ---- the setup
 
-two-refused : (f : List ℕ) → readSetup 2 simpleAnalyzer f [] ≡ refused badSetup
+pub two-refused : (f : List ℕ) → readSetup 2 simpleAnalyzer f [] ≡ refused badSetup
 unfolding readSetup entriesIn setupWith isSetup
 two-refused f = refl
 
-show-setup : (s : List ℕ) → readSetup (lineOperator s) simpleAnalyzer (drop 1 (after inWord s)) [] ≡ showSetup s
+pub show-setup : (s : List ℕ) → readSetup (lineOperator s) simpleAnalyzer (drop 1 (after inWord s)) [] ≡ showSetup s
 unfolding showSetup lineOperator operatorIn operatorNumber
 show-setup s = by (isEmpty (after inWord s)) (same (front inWord s) (ascii "or")) (same (front inWord s) (ascii "and"))
   where

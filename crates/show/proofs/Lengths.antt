@@ -1,6 +1,6 @@
 -- How long a text can be: far below the last place, so that no sum of places overflows. The bounds are generous.
-use mathlib.Core.Path.{_≡_, refl, sym, ap, _∙_}
-use Prim.Native.Nat.{ℕ, suc, _+_, _*_, _^_, _≤_, _<_}
+use mathlib.Core.Path.{_≡_, refl}
+use Prim.Native.Nat.{ℕ, suc, _+_, _*_, _≤_, _<_}
 use mathlib.Core.List.{List, [], _∷_, _++_}
 use mathlib.Core.Bool.{Bool, true, false, cond}
 use native.Mathlib.Omega.{arith}
@@ -10,7 +10,7 @@ use Rattle.rules.specs.Query.{Word, word, Kind, must, should, mustNot, filter, 
 use Rattle.rules.specs.Stored.{encode, encodes, encodeWords, Valid, Valids, ValidWords}
 use Rattle.rules.specs.Show.{decimal, hex, isPlain, shown, shownField, shownWords, shownNumbers, shownBound, kindName, noKind, line, show, showClauses}
 use Rattle.rules.proofs.Bigs.{length-big}
-use Rattle.rules.proofs.Sizes.{length-word, length-term, length-phrase, length-boolean, length-boost, length-constant-score, length-match-all, length-match-none, length-range, length-encode, length-clause}
+use Rattle.rules.proofs.Sizes.{length-word, length-term, length-phrase, length-boolean, length-boost, length-constant-score, length-match-all, length-match-none, length-range, length-clause}
 use Rattle.show.specs.Lays.{hexByte, shownByte}
 use Rattle.show.proofs.Decimals.{decimal-long}
 use Rattle.show.proofs.Texts.{shown-cons}

@@ -8,3 +8,4 @@ pub mod Lows
 pub mod Lengths
 pub mod Answering
 pub mod Answers
+pub mod Prefixes

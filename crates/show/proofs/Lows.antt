@@ -1,5 +1,5 @@
 -- Parsing refuses with no number above 17: an answer's length and a stored query are not its matter.
-use mathlib.Core.Path.{_≡_, refl, sym, ap, _∙_, subst}
+use mathlib.Core.Path.{_≡_, sym}
 use Prim.Native.Nat.{ℕ, zero, suc, _+_, _-_, _<_}
 use mathlib.Core.List.{List, [], _∷_}
 use mathlib.Core.Bool.{Bool, true, false, not, _&&_, cond}
@@ -8,11 +8,11 @@ use lib.ListN.{length, drop}
 use lib.Dec.{leb, ltb, eqb}
 use Rattle.rules.specs.Numbers.{Refusal, number, Read, got, refused, need, onRead, andThen, longText, notAscii, badSetup, openQuote, nothingEscaped, rangeBracket, wildcard, unexpectedEnd, badNumeral, simpleAnalyzer, fuzzyTerm, sloppyPhrase, unexpectedToken, openBracket, noNumeral, longField, manyBrackets, longNumeral, numeralMost, textMost, fieldMost, bracketsMost}
 use Rattle.rules.specs.Bytes.{ascii, same, isEmpty, isText}
-use Rattle.rules.specs.Query.{Query, boost, Clauses, none}
+use Rattle.rules.specs.Query.{boost, Clauses, none}
 use Rattle.rules.specs.Lexing.{Token, Piece, piece, Lexed, lexed, isQuote, isBackslash, isWildcard, isBracket, signKind, doubled, endKind, termKind, quotedKind, colonKind, openKind, closeKind, caretKind, tildeKind, onText, quotedEnd, termText, quotedText, before, termEnd, termFrom, quotedFrom, tokenAt, tokenThen, tokensStep, tokensIn, lex}
 use Rattle.rules.specs.Numerals.{Numeral, bad, infinite, notNumber, decimal, isMinus, unsigned, afterSign, bitsOf, numeralBits}
 use Rattle.rules.specs.Setup.{Setup, isSetup, readSetup, setupWith, entriesIn}
-use Rattle.rules.specs.Parsing.{Made, nothing, made, Found, found, Kept, kept, Conjunction, Modifier, textAt, queryFound, isAt, onMade, stopsAt, conjunctionAt, afterConjunction, modifierAt, afterModifier, boostAt, plainAt, quotedAt, closedAt, bracketAt, bodyAt, clauseAt, addClause, parseClauses, wholeQuery, parseTokens, parse}
+use Rattle.rules.specs.Parsing.{Made, nothing, made, Found, found, Kept, Conjunction, Modifier, textAt, queryFound, isAt, onMade, stopsAt, conjunctionAt, afterConjunction, modifierAt, afterModifier, boostAt, plainAt, quotedAt, closedAt, bracketAt, bodyAt, clauseAt, addClause, parseClauses, wholeQuery, parseTokens, parse}
 use Rattle.rules.specs.Analysis.{isSpace, endsTerm, front, after}
 use Rattle.rules.proofs.Refusals.{no-got}
 use Rattle.rules.specs.Show.{inWord, operatorIn, showSetup, firstLine, secondLine}

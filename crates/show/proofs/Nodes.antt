@@ -1,22 +1,22 @@
 -- Bodies of stored queries, and the text of each.
-use mathlib.Core.Path.{_≡_, refl, sym, ap, _∙_}
-use Prim.Native.Nat.{ℕ, zero, suc, _+_, _≤_, _<_, max}
-use mathlib.Core.List.{List, [], _∷_, _++_}
-use mathlib.Core.Bool.{Bool, true, false}
+use mathlib.Core.Path.{_≡_, sym, ap, _∙_}
+use Prim.Native.Nat.{ℕ, _+_, _≤_, _<_}
+use mathlib.Core.List.{List, [], _++_}
+use mathlib.Core.Bool.{true}
 use native.Mathlib.Omega.{arith}
-use lib.ListN.{length, take, drop}
+use lib.ListN.{length, take}
 use lib.Seq.{length-take-le, take-length}
-use Rattle.rules.specs.Numbers.{Read, got, fieldTag, textTag, wordTag, openTag, includedTag, excludedTag, minimumTag}
-use Rattle.rules.specs.Bytes.{Bytes, ascii, big, ofBig, isEmpty, tagOf, bodyOf, restOf, wholeOf, isFieldPart, every, each}
+use Rattle.rules.specs.Numbers.{fieldTag, textTag, wordTag, openTag, includedTag, excludedTag, minimumTag}
+use Rattle.rules.specs.Bytes.{Bytes, ascii, big, ofBig, tagOf, bodyOf, restOf, wholeOf, isFieldPart, each}
 use Rattle.rules.specs.Query.{Numbers, whole, float, Query, term, phrase, boolean, boost, constantScore, matchAll, matchNone, range, Clauses, none, clause, depth, depths}
-use Rattle.rules.specs.Stored.{rangeTag, encode, encodes, Valid}
+use Rattle.rules.specs.Stored.{rangeTag, encode, encodes}
 use Rattle.rules.specs.Reading.{isWord, wordOf, isBound, boundOf}
 use Rattle.rules.specs.Checked.{Is, Stored}
 use Rattle.rules.specs.Show.{hex, shownField, shownWords, shownBound, shownNumbers}
 use Rattle.rules.proofs.Bigs.{write-big}
 use Rattle.rules.proofs.Parts.{part-is, field-is, bytes-body, bytes-take, more-empty, less-empty}
 use Rattle.rules.proofs.Rows.{each-next, each-done}
-use Rattle.rules.proofs.Leaves.{WordIs, word-is, BoundIs, is-open, is-included, is-excluded, bound-is, at-open, at-included, at-excluded}
+use Rattle.rules.proofs.Leaves.{word-is, BoundIs, is-open, is-included, is-excluded, bound-is, at-open, at-included, at-excluded}
 use Rattle.rules.proofs.Tags.{QueryTag, t-term, t-phrase, t-boolean, t-boost, t-constantScore, t-matchAll, t-matchNone, t-range}
 use Rattle.rules.proofs.Views as views
 use Rattle.rules.proofs.Inverse.{decode-encode}

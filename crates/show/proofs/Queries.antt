@@ -1,22 +1,21 @@
 -- A query's text is its own line and what it nests; a row of clauses, one at a time.
 use mathlib.Core.Path.{_≡_, refl, sym, ap, _∙_}
-use Prim.Native.Nat.{ℕ, suc, _+_, _≤_, _<_}
-use mathlib.Core.List.{List, [], _∷_, _++_, append-nil}
-use mathlib.Core.Bool.{true, false}
+use Prim.Native.Nat.{ℕ, _+_, _≤_, _<_}
+use mathlib.Core.List.{List, [], _++_, append-nil}
+use mathlib.Core.Bool.{true}
 use native.Mathlib.Omega.{arith}
 use native.Mathlib.Numerals.{add-one}
 use lib.ListN.{length, drop, length-drop}
-use Rattle.rules.specs.Bytes.{Bytes, ascii, tagOf, bodyOf, restOf, wholeOf, isPart}
-use Rattle.rules.specs.Query.{Kind, must, should, mustNot, filter, Query, term, phrase, boolean, boost, constantScore, matchAll, matchNone, range, Clauses, none, clause}
+use Rattle.rules.specs.Bytes.{tagOf, bodyOf, restOf, wholeOf}
+use Rattle.rules.specs.Query.{Kind, must, should, mustNot, filter, Query, term, phrase, boolean, boost, constantScore, matchAll, matchNone, range, Clauses}
 use Rattle.rules.specs.Stored.{kindTag, encode, encodes}
-use Rattle.rules.specs.Checked.{Is, Are, Stored, StoredClauses}
+use Rattle.rules.specs.Checked.{Are, Stored, StoredClauses}
 use Rattle.rules.specs.Show.{kindName, line, noKind, show, showClauses}
-use Rattle.rules.proofs.Parts.{more-empty, less-empty, body-shorter, rest-shorter, length-whole, length-rest}
-use Rattle.rules.proofs.Tags.{QueryTag, t-term, t-phrase, t-boolean, t-boost, t-constantScore, t-matchAll, t-matchNone, t-range}
+use Rattle.rules.proofs.Parts.{more-empty, less-empty, body-shorter, length-rest}
 use Rattle.rules.proofs.Views as views
 use Rattle.rules.proofs.Inverse.{clauses-encodes}
 use Rattle.show.specs.Node.{queryIn, rowIn, node, inside, kindText, ToShow, ToShowAll}
-use Rattle.show.proofs.Nodes.{depths-length, query-in, stored-whole, boolean-at, boost-at, score-at, minimum-whole, holds-minimum}
+use Rattle.show.proofs.Nodes.{depths-length, query-in, stored-whole, boolean-at, boost-at, score-at}
 
 pub row-in : {s : List ℕ} {cs : Clauses} → Are s cs → rowIn s ≡ cs
 unfolding rowIn

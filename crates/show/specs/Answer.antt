@@ -1,7 +1,7 @@
 -- What an input asks to be shown, from the numbers of the calls and the stored bytes that they left; and what the public call leaves.
 use mathlib.Core.Path.{_≡_}
-use Prim.Native.Nat.{ℕ, _+_, _≤_, _<_}
-use mathlib.Core.List.{List, [], _++_}
+use Prim.Native.Nat.{ℕ, _+_, _≤_}
+use mathlib.Core.List.{List, _++_}
 use mathlib.Core.Bool.{cond}
 use lib.ListN.{length, take}
 use lib.Dec.{eqb}

@@ -1,16 +1,16 @@
 -- The text of stored bytes: the query that they hold, its node, and the text of each body that a node shows.
 use mathlib.Core.Path.{_≡_}
-use Prim.Native.Nat.{ℕ, suc, _+_, _≤_}
-use mathlib.Core.List.{List, [], _∷_, _++_}
-use mathlib.Core.Bool.{Bool, true, cond}
+use Prim.Native.Nat.{ℕ, _+_, _≤_}
+use mathlib.Core.List.{List, [], _++_}
+use mathlib.Core.Bool.{true, cond}
 use lib.ListN.{length, take, drop}
 use lib.Dec.{eqb}
 use Rattle.rules.specs.Numbers.{Read, got, refused, mustTag, shouldTag, mustNotTag, filterTag, textTag, minimumTag, wholeRangeTag}
 use Rattle.rules.specs.Bytes.{ascii, big, ofBig, bodyOf, restOf, isPart, isFieldPart, every, each}
-use Rattle.rules.specs.Query.{Word, Kind, must, should, mustNot, filter, Numbers, whole, float, Bound, Query, term, phrase, boolean, boost, constantScore, matchAll, matchNone, range, Clauses, none, clause}
+use Rattle.rules.specs.Query.{must, should, filter, whole, float, Query, term, phrase, boolean, boost, constantScore, matchAll, matchNone, range, Clauses, none}
 use Rattle.rules.specs.Reading.{isWord, wordOf, isBound, boundOf, decode, clausesIn}
 use Rattle.rules.specs.Checked.{Stored, StoredClauses}
-use Rattle.rules.specs.Show.{decimal, hex, shown, shownField, kindName, shownWords, shownNumbers, shownBound, noKind, show, showClauses}
+use Rattle.rules.specs.Show.{decimal, hex, shown, shownField, shownWords, shownNumbers, shownBound, noKind, show, showClauses}
 
 -- ---- what stored bytes hold; a MatchNone, and no clause, where they hold nothing
 

@@ -22,7 +22,8 @@ fn run_on(input: &[u8]) {
     run(input, &mut out);
 }
 
-// The first 1,062 bytes decide the text: a first line over 36 bytes is refused, and so is a second line over 1,024, whatever follows.
+// The first 1,062 bytes decide the text: a first line over 36 bytes is refused, and so is a second line over 1,024, whatever follows. The crate `show`
+// has that as a theorem, `prefix`.
 fn main() {
     let mut input = [0u8; 2048];
     let n = io::read_full(libc::STDIN_FILENO, &mut input);

@@ -1,3 +1,4 @@
+-- `show::answer::make` meets its contract.
 use Rattle.rules.specs.Answers.{zeros}
 use lib.ListN.{replicate}
 use Rattle.show.proofs.Answering as answering
@@ -5,60 +6,43 @@ use Rattle.show.specs.Lines.{writtenIn}
 use Rattle.rules.proofs.Parts as parts
 use lib.ListN.{take, drop, length, length-replicate}
 use Prim.Native.Nat.{ℕ, _-_}
-use mathlib.Core.Path.{refl, sym, ap, _∙_}
-use mathlib.Core.List.{List}
+use mathlib.Core.Path.{sym, ap, _∙_}
 use denote.Ref.{now}
 use native.Mathlib.Omega.{arith}
 use borrow.Author.Needs.{needs}
 use Rattle.show.proofs.answer.make.Statement.{statement}
 use Rattle.show.proofs.answer.make.Tie as tie
-use Rattle.show.proofs.answer.make.Reads as reads
-use Rattle.show.proofs.answer.make.Lts as lts
-use Rattle.rewriter.proofs.rounds.rewrite.Reads as rewrite-reads
-use Rattle.show.proofs.answer.refused.Reads as refused-reads
-use Rattle.show.proofs.lines.parse_lines.Reads as parse-lines-reads
 
--- src/answer.rt:51:11
 parse-lines-requires : tie.Need-parse-lines-requires
 parse-lines-requires c κs = search needs
 
--- src/answer.rt:52:25
 enum-known-e : tie.Need-enum-known-e
 enum-known-e c = search needs
 
--- src/answer.rt:52:31
 refused-requires : tie.Need-refused-requires
 refused-requires c κs = search needs
 
--- src/answer.rt:53:23
 enum-known-n : tie.Need-enum-known-n
 enum-known-n c = search needs
 
--- src/answer.rt:54:29
 sub-rewrite : tie.Need-sub-rewrite
 sub-rewrite c = search needs
 
--- src/answer.rt:54:29
 part-rewrite-start : tie.Need-part-rewrite-start
 part-rewrite-start c = search needs
 
--- src/answer.rt:54:29
 part-rewrite-end : tie.Need-part-rewrite-end
 part-rewrite-end c = answering.parsed-length (writtenIn (now (c .before .before .before .before .before .before .before .before .before .before .before .before .before .before .before .args .input))) (now (c .before .before .before .before .before .before .before .before .before .before .before .before .before .before .before .args .first)) (now (c .before .before .before .before .before .before .before .before .before .before .before .before .before .before .before .args .room)) (omega (arith, c .before .before .before .before .before .before .before .before .before .before .before .before .before .before .before .pre .2)) (answering.parse-bytes (writtenIn (now (c .before .before .before .before .before .before .before .before .before .before .before .before .before .before .before .args .input))) (now (c .before .before .before .before .before .before .before .before .before .before .before .before .before .before .before .args .first)) (now (c .before .before .before .before .before .before .before .before .before .before .before .before .before .before .before .args .room)) (omega (arith, c .before .before .before .before .before .before .before .before .before .before .before .before .before .before .before .pre .2)) (c .before .before .n .given .0 .0) (c .before .before .before .before .before .before .before .before .parse-lines .last .1 .0) (c .before .before .before .before .before .before .before .before .parse-lines .last .1 .1 .0) (c .before .before .n .given .1) (c .before .before .before .before .before .before .before .before .parse-lines .ensures)) .0
 
--- src/answer.rt:54:17
 rewrite-requires : tie.Need-rewrite-requires
 rewrite-requires c κs = search needs
 
--- src/answer.rt:46:1
 same-length : tie.Need-same-length
 same-length c = search needs
 
--- src/answer.rt:46:1
 same-length-2 : tie.Need-same-length-2
 same-length-2 c = search needs
 
--- src/answer.rt:46:1
 returns : tie.Need-returns
 returns c = (
   let U = answering.unparsed (now (c .before .before .before .before .before .before .before .before .before .before .before .before .before .before .before .args .input)) (now (c .before .before .before .before .before .before .before .before .before .before .before .before .before .before .before .args .first)) (now (c .before .before .before .before .before .before .before .before .before .before .before .before .before .before .before .args .room)) (omega (arith, c .before .before .before .before .before .before .before .before .before .before .before .before .before .before .before .pre .2)) (c .before .before .before .before .before .before .before .before .before .before .before .before .before .before .before .pre .0) (answering.parse-refused (writtenIn (now (c .before .before .before .before .before .before .before .before .before .before .before .before .before .before .before .args .input))) (now (c .before .before .before .before .before .before .before .before .before .before .before .before .before .before .before .args .first)) (now (c .before .before .before .before .before .before .before .before .before .before .before .before .before .before .before .args .room)) (omega (arith, c .before .before .before .before .before .before .before .before .before .before .before .before .before .before .before .pre .2)) (c .before .before .e .given .0 .0) (c .before .before .before .before .before .before .before .before .parse-lines .last .1 .0) (c .before .before .before .before .before .before .before .before .parse-lines .last .1 .1 .0) (c .before .before .e .given .1) (c .before .before .before .before .before .before .before .before .parse-lines .ensures)) (c .refused .ensures .0) in
@@ -66,19 +50,15 @@ returns c = (
   answering.parse-room (writtenIn (now (c .before .before .before .before .before .before .before .before .before .before .before .before .before .before .before .args .input))) (now (c .before .before .before .before .before .before .before .before .before .before .before .before .before .before .before .args .first)) (now (c .before .before .before .before .before .before .before .before .before .before .before .before .before .before .before .args .room)) (omega (arith, c .before .before .before .before .before .before .before .before .before .before .before .before .before .before .before .pre .2)) (c .before .before .before .before .before .before .before .before .parse-lines .result) (c .before .before .before .before .before .before .before .before .parse-lines .last .1 .0) (c .before .before .before .before .before .before .before .before .parse-lines .last .1 .1 .0) (c .before .before .before .before .before .before .before .before .parse-lines .ensures),
 )
 
--- src/answer.rt:46:1
 same-length-3 : tie.Need-same-length-3
 same-length-3 c = search needs
 
--- src/answer.rt:46:1
 same-length-4 : tie.Need-same-length-4
 same-length-4 c = search needs
 
--- src/answer.rt:46:1
 same-length-5 : tie.Need-same-length-5
 same-length-5 c = search needs
 
--- src/answer.rt:46:1
 returns-2 : tie.Need-returns-2
 returns-2 c = let P = answering.parse-bytes (writtenIn (now (c .before .before .before .before .before .before .before .before .before .before .before .before .before .before .before .before .before .before .before .before .before .before .before .args .input))) (now (c .before .before .before .before .before .before .before .before .before .before .before .before .before .before .before .before .before .before .before .before .before .before .before .args .first)) (now (c .before .before .before .before .before .before .before .before .before .before .before .before .before .before .before .before .before .before .before .before .before .before .before .args .room)) (omega (arith, c .before .before .before .before .before .before .before .before .before .before .before .before .before .before .before .before .before .before .before .before .before .before .before .pre .2)) (c .before .before .before .before .before .before .before .before .before .before .n .given .0 .0) (c .before .before .before .before .before .before .before .before .before .before .before .before .before .before .before .before .parse-lines .last .1 .0) (c .before .before .before .before .before .before .before .before .before .before .before .before .before .before .before .before .parse-lines .last .1 .1 .0) (c .before .before .before .before .before .before .before .before .before .before .n .given .1) (c .before .before .before .before .before .before .before .before .before .before .before .before .before .before .before .before .parse-lines .ensures) in
     let e = answering.parsed-cut (writtenIn (now (c .before .before .before .before .before .before .before .before .before .before .before .before .before .before .before .before .before .before .before .before .before .before .before .args .input))) (now (c .before .before .before .before .before .before .before .before .before .before .before .before .before .before .before .before .before .before .before .before .before .before .before .args .first)) (now (c .before .before .before .before .before .before .before .before .before .before .before .before .before .before .before .before .before .before .before .before .before .before .before .args .room)) (omega (arith, c .before .before .before .before .before .before .before .before .before .before .before .before .before .before .before .before .before .before .before .before .before .before .before .pre .2)) P in

@@ -1,75 +1,55 @@
+-- `show::answer::put_answer` meets its contract.
 use borrow.Author.Tests.{eq-eqb, ne-eqb}
 use Rattle.show.specs.Node.{kindText}
 use Rattle.show.specs.Answer.{answerText}
 use Rattle.rules.specs.Show.{showRewritten}
 use Rattle.rules.specs.Bytes.{ascii}
 use Rattle.show.proofs.Laying as laying
-use denote.Ref.{now}
 use native.Mathlib.Omega.{arith}
 use borrow.Author.Needs.{needs}
 use Rattle.show.proofs.answer.put_answer.Statement.{statement}
 use Rattle.show.proofs.answer.put_answer.Tie as tie
-use Rattle.show.proofs.answer.put_answer.Reads as reads
-use Rattle.show.proofs.answer.put_answer.Lts as lts
-use Rattle.show.proofs.answer.put_refusal.Reads as put-refusal-reads
-use Rattle.show.proofs.put.put.Reads as put-reads
-use Rattle.show.proofs.put.put_decimal.Reads as put-decimal-reads
-use Rattle.show.proofs.query.show_query.Reads as show-query-reads
 
--- src/answer.rt:85:9
 put-refusal-requires : tie.Need-put-refusal-requires
 put-refusal-requires c κs = search needs
 
--- src/answer.rt:85:9
 same-length : tie.Need-same-length
 same-length c = search needs
 
--- src/answer.rt:85:9
 returns : tie.Need-returns
 unfolding answerText
 returns c = laying.lays-as (rw (ne-eqb (c .before .before .before .before .before .before .before .before .args .refusal) 0 (c .before .before .before .before .if1 .taken))) (c .before .before .put-refusal .ensures)
 
--- src/answer.rt:87:26
 slice-aggregate-put : tie.Need-slice-aggregate-put
 slice-aggregate-put c = search needs
 
--- src/answer.rt:87:9
 put-requires : tie.Need-put-requires
 put-requires c κs = search needs
 
--- src/answer.rt:88:9
 show-query-requires : tie.Need-show-query-requires
 show-query-requires c κs = record { stored = c .before .before .before .before .before .before .before .before .before .before .pre .written (c .before .before .before .before .before .before .if1 .left); low = omega (arith, c .before .before .before .before .before .before .before .before .before .before .pre .short) }
 
--- src/answer.rt:89:25
 slice-aggregate-put-2 : tie.Need-slice-aggregate-put-2
 slice-aggregate-put-2 c = search needs
 
--- src/answer.rt:89:9
 put-requires-2 : tie.Need-put-requires-2
 put-requires-2 c κs = search needs
 
--- src/answer.rt:90:9
 put-decimal-requires : tie.Need-put-decimal-requires
 put-decimal-requires c κs = search needs
 
--- src/answer.rt:91:25
 slice-aggregate-put-3 : tie.Need-slice-aggregate-put-3
 slice-aggregate-put-3 c = search needs
 
--- src/answer.rt:91:9
 put-requires-3 : tie.Need-put-requires-3
 put-requires-3 c κs = search needs
 
--- src/answer.rt:92:5
 show-query-requires-2 : tie.Need-show-query-requires-2
 show-query-requires-2 c κs = record { stored = c .before .before .before .before .before .before .before .before .before .before .before .before .before .before .before .before .before .before .before .before .before .before .before .before .before .before .before .before .pre .rewritten (c .before .before .before .before .before .before .before .before .before .before .before .before .before .before .before .before .before .before .before .before .before .before .before .before .if1 .left); low = omega (arith, c .before .before .before .before .before .before .before .before .before .before .before .before .before .before .before .before .before .before .before .before .before .before .before .before .before .before .before .before .pre .shorter) }
 
--- src/answer.rt:73:1
 same-length-2 : tie.Need-same-length-2
 same-length-2 c = search needs
 
--- src/answer.rt:73:1
 returns-2 : tie.Need-returns-2
 unfolding answerText ascii showRewritten kindText
 returns-2 c = laying.lays-as (rw (eq-eqb (c .before .before .before .before .before .before .before .before .before .before .before .before .before .before .before .before .before .before .before .before .before .before .before .before .before .before .before .before .before .before .before .args .refusal) 0 (c .before .before .before .before .before .before .before .before .before .before .before .before .before .before .before .before .before .before .before .before .before .before .before .before .before .before .before .if1 .left))) (laying.lays-then (laying.lays-then (laying.lays-then (laying.lays-then (laying.lays-then (c .before .before .before .before .before .before .before .before .before .before .before .before .before .before .before .before .before .before .before .before .before .before .before .before .put .ensures) (c .before .before .before .before .before .before .before .before .before .before .before .before .before .before .before .before .before .before .before .before .show-query .ensures)) (c .before .before .before .before .before .before .before .before .before .before .before .before .before .before .before .put2 .ensures)) (c .before .before .before .before .before .before .before .before .before .before .before .put-decimal .ensures)) (c .before .before .before .before .before .before .put3 .ensures)) (c .before .before .show-query2 .ensures))

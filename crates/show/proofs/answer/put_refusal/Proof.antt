@@ -1,40 +1,29 @@
+-- `show::answer::put_refusal` meets its contract.
 use Rattle.show.specs.Answer.{refusalText}
 use Rattle.rules.specs.Bytes.{ascii}
 use Rattle.show.proofs.Laying as laying
-use native.Mathlib.Omega.{arith}
 use borrow.Author.Needs.{needs}
 use Rattle.show.proofs.answer.put_refusal.Statement.{statement}
 use Rattle.show.proofs.answer.put_refusal.Tie as tie
-use Rattle.show.proofs.answer.put_refusal.Reads as reads
-use Rattle.show.proofs.answer.put_refusal.Lts as lts
-use Rattle.show.proofs.put.put.Reads as put-reads
-use Rattle.show.proofs.put.put_decimal.Reads as put-decimal-reads
 
--- src/answer.rt:68:26
 slice-aggregate-put : tie.Need-slice-aggregate-put
 slice-aggregate-put c = search needs
 
--- src/answer.rt:68:9
 put-requires : tie.Need-put-requires
 put-requires c κs = search needs
 
--- src/answer.rt:69:9
 put-decimal-requires : tie.Need-put-decimal-requires
 put-decimal-requires c κs = search needs
 
--- src/answer.rt:70:17
 slice-aggregate-put-2 : tie.Need-slice-aggregate-put-2
 slice-aggregate-put-2 c = search needs
 
--- src/answer.rt:70:5
 put-requires-2 : tie.Need-put-requires-2
 put-requires-2 c κs = search needs
 
--- src/answer.rt:65:1
 same-length : tie.Need-same-length
 same-length c = search needs
 
--- src/answer.rt:65:1
 returns : tie.Need-returns
 unfolding ascii refusalText
 returns c = laying.lays-then (laying.lays-then (c .before .before .before .before .before .before .before .before .before .before .before .put .ensures) (c .before .before .before .before .before .before .before .put-decimal .ensures)) (c .before .before .put2 .ensures)

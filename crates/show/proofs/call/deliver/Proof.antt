@@ -1,48 +1,36 @@
+-- `show::call::deliver` meets its contract.
 use Rattle.show.proofs.Answering as answering
 use Rattle.show.specs.Answer.{answerText}
-use mathlib.Core.List.{[]}
 use denote.Ref.{now}
 use native.Mathlib.Omega.{arith}
 use borrow.Author.Needs.{needs}
 use Rattle.show.proofs.call.deliver.Statement.{statement}
 use Rattle.show.proofs.call.deliver.Tie as tie
-use Rattle.show.proofs.call.deliver.Reads as reads
-use Rattle.show.proofs.call.deliver.Lts as lts
-use Rattle.show.proofs.answer.put_answer.Reads as put-answer-reads
 
--- src/call.rt:29:24
 sub-put-answer : tie.Need-sub-put-answer
 sub-put-answer c = search needs
 
--- src/call.rt:29:24
 part-put-answer-start : tie.Need-part-put-answer-start
 part-put-answer-start c = search needs
 
--- src/call.rt:29:24
 part-put-answer-end : tie.Need-part-put-answer-end
 part-put-answer-end c = search needs
 
--- src/call.rt:29:9
 put-answer-requires : tie.Need-put-answer-requires
 put-answer-requires c κs = search needs
 
--- src/call.rt:31:9
 same-length : tie.Need-same-length
 same-length c = search needs
 
--- src/call.rt:31:9
 returns : tie.Need-returns
 returns c = let n = c .before .before .before .put-answer .ensures .place (answering.answer-length (c .before .before .before .before .before .before .before .before .pre) (omega arith)) in answering.too-long (answerText (c .before .before .before .before .before .before .before .before .args .refusal) (now (c .before .before .before .before .before .before .before .before .args .written)) (now (c .before .before .before .before .before .before .before .before .args .rewritten)) (c .before .before .before .before .before .before .before .before .args .rounds)) (now (c .before .before .before .before .before .before .before .before .args .out)) (c .before .before .before .put-answer .last .0) (omega (arith, c .before .before .before .put-answer .kept .0)) (omega (arith, n, c .if1 .taken))
 
--- src/call.rt:33:5
 put-answer-requires-2 : tie.Need-put-answer-requires-2
 put-answer-requires-2 c κs = search needs
 
--- src/call.rt:19:1
 same-length-2 : tie.Need-same-length-2
 same-length-2 c = search needs
 
--- src/call.rt:19:1
 returns-2 : tie.Need-returns-2
 returns-2 c = let far = answering.answer-length (c .before .before .before .before .before .before .before .before .before .before .before .before .pre) (omega arith) in answering.fits (answerText (c .before .before .before .before .before .before .before .before .before .before .before .before .args .refusal) (now (c .before .before .before .before .before .before .before .before .before .before .before .before .args .written)) (now (c .before .before .before .before .before .before .before .before .before .before .before .before .args .rewritten)) (c .before .before .before .before .before .before .before .before .before .before .before .before .args .rounds)) (now (c .before .before .before .before .before .before .before .before .before .before .before .before .args .out)) (c .before .before .before .before .before .before .before .put-answer .last .0) (c .before .before .before .before .before .before .before .put-answer .result) (omega (arith, c .before .before .before .before .before .before .before .put-answer .kept .0)) far (c .before .before .before .before .before .before .before .put-answer .ensures .place far) (c .before .before .before .before .if1 .left) (c .before .before .put-answer2 .ensures)
 

@@ -1,47 +1,34 @@
+-- `show::call::show` meets its contract.
 use Rattle.show.proofs.Answering as answering
 use denote.Ref.{now}
-use native.Mathlib.Omega.{arith}
 use borrow.Author.Needs.{needs}
 use Rattle.show.proofs.call.show.Statement.{statement}
 use Rattle.show.proofs.call.show.Tie as tie
-use Rattle.show.proofs.call.show.Reads as reads
-use Rattle.show.proofs.call.show.Lts as lts
-use Rattle.show.proofs.call.show_with.Reads as show-with-reads
-use Rattle.stored.proofs.bytes.clear.Reads as clear-reads
 
--- src/call.rt:60:9
 clear-requires : tie.Need-clear-requires
 clear-requires c κs = search needs
 
--- src/call.rt:61:9
 same-length : tie.Need-same-length
 same-length c = search needs
 
--- src/call.rt:61:9
 returns : tie.Need-returns
 returns c = answering.short-left (now (c .before .before .before .before .before .before .before .before .args .input)) (now (c .before .before .before .before .before .before .before .before .args .out)) (now (c .before .before .before .before .before .before .before .before .args .room)) _ (c .before .before .before .before .if1 .taken) (c .before .before .clear .ensures)
 
--- src/call.rt:65:27
 slice-aggregate-show-with : tie.Need-slice-aggregate-show-with
 slice-aggregate-show-with c = search needs
 
--- src/call.rt:65:39
 slice-aggregate-show-with-2 : tie.Need-slice-aggregate-show-with-2
 slice-aggregate-show-with-2 c = search needs
 
--- src/call.rt:65:5
 show-with-requires : tie.Need-show-with-requires
 show-with-requires c κs = search needs
 
--- src/call.rt:56:1
 same-length-2 : tie.Need-same-length-2
 same-length-2 c = search needs
 
--- src/call.rt:56:1
 same-length-3 : tie.Need-same-length-3
 same-length-3 c = search needs
 
--- src/call.rt:56:1
 returns-2 : tie.Need-returns-2
 returns-2 c = c .before .before .before .before .before .before .show-with .ensures
 

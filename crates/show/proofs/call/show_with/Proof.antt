@@ -1,63 +1,46 @@
+-- `show::call::show_with` meets its contract.
 use Rattle.show.proofs.Answering as answering
 use denote.Ref.{now}
-use native.Mathlib.Omega.{arith}
 use borrow.Author.Needs.{needs}
 use Rattle.show.proofs.call.show_with.Statement.{statement}
 use Rattle.show.proofs.call.show_with.Tie as tie
-use Rattle.show.proofs.call.show_with.Reads as reads
-use Rattle.show.proofs.call.show_with.Lts as lts
-use Rattle.show.proofs.answer.make.Reads as make-reads
-use Rattle.show.proofs.call.deliver.Reads as deliver-reads
 
--- src/call.rt:47:9
 make-requires : tie.Need-make-requires
 make-requires c κs = search needs
 
--- src/call.rt:50:29
 sub-deliver : tie.Need-sub-deliver
 sub-deliver c = search needs
 
--- src/call.rt:50:29
 part-deliver-start : tie.Need-part-deliver-start
 part-deliver-start c = search needs
 
--- src/call.rt:50:29
 part-deliver-end : tie.Need-part-deliver-end
 part-deliver-end c = search needs
 
--- src/call.rt:50:43
 sub-deliver-2 : tie.Need-sub-deliver-2
 sub-deliver-2 c = search needs
 
--- src/call.rt:50:43
 part-deliver-start-2 : tie.Need-part-deliver-start-2
 part-deliver-start-2 c = search needs
 
--- src/call.rt:50:43
 part-deliver-end-2 : tie.Need-part-deliver-end-2
 part-deliver-end-2 c = search needs
 
--- src/call.rt:50:5
 deliver-requires : tie.Need-deliver-requires
 deliver-requires c κs = answering.made-to-say (c .before .before .before .before .before .before .before .before .before .before .before .make .ensures .0)
 
--- src/call.rt:37:1
 same-length : tie.Need-same-length
 same-length c = search needs
 
--- src/call.rt:37:1
 same-length-2 : tie.Need-same-length-2
 same-length-2 c = search needs
 
--- src/call.rt:37:1
 same-length-3 : tie.Need-same-length-3
 same-length-3 c = search needs
 
--- src/call.rt:37:1
 same-length-4 : tie.Need-same-length-4
 same-length-4 c = search needs
 
--- src/call.rt:37:1
 returns : tie.Need-returns
 returns c = answering.whole-left (now (c .before .before .before .before .before .before .before .before .before .before .before .before .before .before .before .before .before .before .before .before .before .before .before .args .input)) (now (c .before .before .before .before .before .before .before .before .before .before .before .before .before .before .before .before .before .before .before .before .before .before .before .args .out)) (now (c .before .before .before .before .before .before .before .before .before .before .before .before .before .before .before .before .before .before .before .before .before .before .before .args .room)) (c .before .before .before .before .before .before .before .before .before .before .before .before .before .before .before .before .before .before .before .before .before .before .before .pre .2) (c .before .before .deliver .result) _ (c .before .before .deliver .last .0) (c .before .before .before .before .before .before .before .before .before .before .before .before .before .before .make .last .1 .1 .1 .0) (c .before .before .deliver .ensures) (answering.made-text (c .before .before .before .before .before .before .before .before .before .before .before .before .before .before .make .ensures .0)) (c .before .before .before .before .before .before .before .before .before .before .before .before .before .before .make .ensures .1)
 

@@ -1,41 +1,31 @@
+-- `show::lines::operator` meets its contract.
 use Rattle.show.proofs.Cutting as cutting
 use Rattle.rules.specs.Bytes.{ascii}
 use denote.Ref.{now}
-use native.Mathlib.Omega.{arith}
 use borrow.Author.Needs.{needs}
 use Rattle.show.proofs.lines.operator.Statement.{statement}
 use Rattle.show.proofs.lines.operator.Tie as tie
-use Rattle.show.proofs.lines.operator.Reads as reads
-use Rattle.show.proofs.lines.operator.Lts as lts
-use Rattle.stored.proofs.bytes.same.Reads as same-reads
 
--- src/lines.rt:51:19
 slice-aggregate-same : tie.Need-slice-aggregate-same
 slice-aggregate-same c = search needs
 
--- src/lines.rt:51:8
 same-requires : tie.Need-same-requires
 same-requires c κs = search needs
 
--- src/lines.rt:52:9
 returns : tie.Need-returns
 unfolding ascii
 returns c = cutting.is-or (now (c .before .before .before .before .args .word)) (c .before .same .ensures) (c .if1 .taken)
 
--- src/lines.rt:54:19
 slice-aggregate-same-2 : tie.Need-slice-aggregate-same-2
 slice-aggregate-same-2 c = search needs
 
--- src/lines.rt:54:8
 same-requires-2 : tie.Need-same-requires-2
 same-requires-2 c κs = search needs
 
--- src/lines.rt:55:9
 returns-2 : tie.Need-returns-2
 unfolding ascii
 returns-2 c = cutting.is-and (now (c .before .before .before .before .before .before .before .args .word)) (c .before .before .before .before .same .ensures) (c .before .same2 .ensures) (c .before .before .before .if1 .left) (c .if2 .taken)
 
--- src/lines.rt:48:1
 returns-3 : tie.Need-returns-3
 unfolding ascii
 returns-3 c = cutting.is-neither (now (c .before .before .before .before .before .before .before .args .word)) (c .before .before .before .before .same .ensures) (c .before .same2 .ensures) (c .before .before .before .if1 .left) (c .if2 .left)

@@ -1,45 +1,33 @@
+-- `show::node::put_boolean` meets its contract.
 use Rattle.show.specs.Node.{booleanText}
 use Rattle.rules.specs.Show.{decimal}
 use Rattle.rules.specs.Bytes.{ascii}
-use mathlib.Core.Path.{ap, _∙_}
+use mathlib.Core.Path.{ap}
 use Rattle.show.proofs.Nodes as nodes
 use Rattle.show.proofs.Laying as laying
 use native.Mathlib.Omega.{arith}
 use borrow.Author.Needs.{needs}
 use Rattle.show.proofs.node.put_boolean.Statement.{statement}
 use Rattle.show.proofs.node.put_boolean.Tie as tie
-use Rattle.show.proofs.node.put_boolean.Reads as reads
-use Rattle.show.proofs.node.put_boolean.Lts as lts
-use Rattle.show.proofs.put.put.Reads as put-reads
-use Rattle.show.proofs.put.put_decimal.Reads as put-decimal-reads
-use Rattle.stored.proofs.big.big2.Reads as big2-reads
-use Rattle.stored.proofs.part.body.Reads as body-reads
 
--- src/node.rt:73:26
 slice-aggregate-put : tie.Need-slice-aggregate-put
 slice-aggregate-put c = search needs
 
--- src/node.rt:73:9
 put-requires : tie.Need-put-requires
 put-requires c κs = search needs
 
--- src/node.rt:74:30
 body-requires : tie.Need-body-requires
 body-requires c κs = nodes.minimum-whole (c .before .before .before .before .before .before .before .before .pre)
 
--- src/node.rt:74:25
 big2-requires : tie.Need-big2-requires
 big2-requires c κs = rw (c .body .ensures) (omega (arith, c .before .before .before .before .before .before .before .before .before .pre .two))
 
--- src/node.rt:74:5
 put-decimal-requires : tie.Need-put-decimal-requires
 put-decimal-requires c κs = search needs
 
--- src/node.rt:69:1
 same-length : tie.Need-same-length
 same-length c = search needs
 
--- src/node.rt:69:1
 returns : tie.Need-returns
 unfolding ascii booleanText
 returns c = laying.lays-then (c .before .before .before .before .before .before .before .before .put .ensures) (laying.lays-as (ap decimal (nodes.minimum-bits (c .before .before .before .before .before .before .before .before .before .before .before .before .before .pre) (c .before .before .before .before .body .ensures) (c .before .before .before .big2 .ensures .0))) (c .before .before .put-decimal .ensures))

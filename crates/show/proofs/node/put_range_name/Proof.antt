@@ -1,46 +1,34 @@
+-- `show::node::put_range_name` meets its contract.
 use Rattle.show.specs.Node.{rangeName}
 use Rattle.rules.specs.Bytes.{ascii}
-use mathlib.Core.Path.{sym}
 use borrow.Author.Tests.{eq-eqb, ne-eqb}
 use Rattle.show.proofs.Laying as laying
-use native.Mathlib.Omega.{arith}
 use borrow.Author.Needs.{needs}
 use Rattle.show.proofs.node.put_range_name.Statement.{statement}
 use Rattle.show.proofs.node.put_range_name.Tie as tie
-use Rattle.show.proofs.node.put_range_name.Reads as reads
-use Rattle.show.proofs.node.put_range_name.Lts as lts
-use Rattle.show.proofs.put.put.Reads as put-reads
 
--- src/node.rt:105:29
 slice-aggregate-put : tie.Need-slice-aggregate-put
 slice-aggregate-put c = search needs
 
--- src/node.rt:105:9
 put-requires : tie.Need-put-requires
 put-requires c κs = search needs
 
--- src/node.rt:105:9
 same-length : tie.Need-same-length
 same-length c = search needs
 
--- src/node.rt:105:9
 returns : tie.Need-returns
 unfolding ascii rangeName
 returns c = laying.lays-as (rw (eq-eqb (c .before .before .before .before .before .before .before .args .tag) 8 (c .before .before .before .before .before .if1 .taken))) (c .before .before .put .ensures)
 
--- src/node.rt:107:18
 slice-aggregate-put-2 : tie.Need-slice-aggregate-put-2
 slice-aggregate-put-2 c = search needs
 
--- src/node.rt:107:5
 put-requires-2 : tie.Need-put-requires-2
 put-requires-2 c κs = search needs
 
--- src/node.rt:101:1
 same-length-2 : tie.Need-same-length-2
 same-length-2 c = search needs
 
--- src/node.rt:101:1
 returns-2 : tie.Need-returns-2
 unfolding ascii rangeName
 returns-2 c = laying.lays-as (rw (ne-eqb (c .before .before .before .before .before .before .before .args .tag) 8 (c .before .before .before .before .before .if1 .left))) (c .before .before .put2 .ensures)

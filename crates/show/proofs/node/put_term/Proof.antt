@@ -1,3 +1,4 @@
+-- `show::node::put_term` meets its contract.
 use Rattle.show.specs.Node.{termText}
 use Rattle.rules.specs.Show.{shownField, shown}
 use Rattle.rules.specs.Bytes.{ascii, bodyOf}
@@ -5,59 +6,40 @@ use denote.Ref.{now}
 use mathlib.Core.Path.{ap, _∙_}
 use Rattle.show.proofs.Nodes as nodes
 use Rattle.show.proofs.Laying as laying
-use native.Mathlib.Omega.{arith}
 use borrow.Author.Needs.{needs}
 use Rattle.show.proofs.node.put_term.Statement.{statement}
 use Rattle.show.proofs.node.put_term.Tie as tie
-use Rattle.show.proofs.node.put_term.Reads as reads
-use Rattle.show.proofs.node.put_term.Lts as lts
-use Rattle.show.proofs.put.put.Reads as put-reads
-use Rattle.show.proofs.text.put_field.Reads as put-field-reads
-use Rattle.show.proofs.text.put_shown.Reads as put-shown-reads
-use Rattle.stored.proofs.part.body.Reads as body-reads
-use Rattle.stored.proofs.part.rest.Reads as rest-reads
 
--- src/node.rt:28:26
 slice-aggregate-put : tie.Need-slice-aggregate-put
 slice-aggregate-put c = search needs
 
--- src/node.rt:28:9
 put-requires : tie.Need-put-requires
 put-requires c κs = search needs
 
--- src/node.rt:29:31
 body-requires : tie.Need-body-requires
 body-requires c κs = nodes.field-whole (now (c .before .before .before .before .before .before .before .before .args .b)) (c .before .before .before .before .before .before .before .before .pre .field)
 
--- src/node.rt:29:9
 put-field-requires : tie.Need-put-field-requires
 put-field-requires c κs = search needs
 
--- src/node.rt:30:25
 slice-aggregate-put-2 : tie.Need-slice-aggregate-put-2
 slice-aggregate-put-2 c = search needs
 
--- src/node.rt:30:9
 put-requires-2 : tie.Need-put-requires-2
 put-requires-2 c κs = search needs
 
--- src/node.rt:31:28
 rest-requires : tie.Need-rest-requires
 rest-requires c κs = nodes.field-whole (now (c .before .before .before .before .before .before .before .before .before .before .before .before .before .before .before .before .before .before .args .b)) (c .before .before .before .before .before .before .before .before .before .before .before .before .before .before .before .before .before .before .pre .field)
 
--- src/node.rt:31:23
 body-requires-2 : tie.Need-body-requires-2
 body-requires-2 c κs = rw (c .rest .ensures) (nodes.text-whole (c .before .before .before .before .before .before .before .before .before .before .before .before .before .before .before .before .before .before .before .pre))
 
--- src/node.rt:31:5
 put-shown-requires : tie.Need-put-shown-requires
 put-shown-requires c κs = search needs
 
--- src/node.rt:24:1
 same-length : tie.Need-same-length
 same-length c = search needs
 
--- src/node.rt:24:1
 returns : tie.Need-returns
 unfolding ascii termText
 returns c = laying.lays-then (laying.lays-then (laying.lays-then (c .before .before .before .before .before .before .before .before .before .before .before .before .before .before .before .before .before .before .put .ensures) (laying.lays-as (ap shownField (c .before .before .before .before .before .before .before .before .before .before .before .before .before .before .body .ensures)) (c .before .before .before .before .before .before .before .before .before .before .before .before .before .put-field .ensures))) (c .before .before .before .before .before .before .before .before .put2 .ensures)) (laying.lays-as (ap shown (c .before .before .before .body2 .ensures ∙ ap bodyOf (c .before .before .before .before .rest .ensures))) (c .before .before .put-shown .ensures))

@@ -1,3 +1,4 @@
+-- `show::put::put_decimal` meets its contract: the number falls at each call.
 use mathlib.Core.Path.{sym}
 use Rattle.show.proofs.Decimals as decimals
 use Rattle.show.proofs.Laying as laying
@@ -25,136 +26,45 @@ abbrev put-decimal-below : ℕ → In 1 put-decimal-kinds.ps
 put-decimal-below t =
     and 1 put-decimal-kinds.ps (falls 1 put-decimal-kinds.ps _<_ μ-put-decimal t) put-decimal.Pre
 
--- src/put.rt:51:40
-put-decimal-cast-digit : (t : ℕ) → put-decimal-lts.Need-cast-digit (
-  digit-reads.Asked,
-  digit-reads.Learnt,
-  put-byte-reads.Asked,
-  put-byte-reads.Learnt,
-  put-decimal-below t,
-  put-decimal.Post,
-) (put-decimal-at t) put-decimal.Post
+-- what `put-decimal` is told of the functions that it calls
+abbrev put-decimal-calls : ℕ → put-decimal-lts.Claims
+put-decimal-calls t = (digit-reads.Asked, digit-reads.Learnt, put-byte-reads.Asked, put-byte-reads.Learnt, put-decimal-below t, put-decimal.Post)
+
+put-decimal-cast-digit : (t : ℕ) → put-decimal-lts.Need-cast-digit (put-decimal-calls t) (put-decimal-at t) put-decimal.Post
 put-decimal-cast-digit t c = search needs
 
--- src/put.rt:51:34
-put-decimal-digit-requires : (t : ℕ) → put-decimal-lts.Need-digit-requires (
-  digit-reads.Asked,
-  digit-reads.Learnt,
-  put-byte-reads.Asked,
-  put-byte-reads.Learnt,
-  put-decimal-below t,
-  put-decimal.Post,
-) (put-decimal-at t) put-decimal.Post
+put-decimal-digit-requires : (t : ℕ) → put-decimal-lts.Need-digit-requires (put-decimal-calls t) (put-decimal-at t) put-decimal.Post
 put-decimal-digit-requires t c κs = search needs
 
--- src/put.rt:51:9
-put-decimal-put-byte-requires : (t : ℕ) → put-decimal-lts.Need-put-byte-requires (
-  digit-reads.Asked,
-  digit-reads.Learnt,
-  put-byte-reads.Asked,
-  put-byte-reads.Learnt,
-  put-decimal-below t,
-  put-decimal.Post,
-) (put-decimal-at t) put-decimal.Post
+put-decimal-put-byte-requires : (t : ℕ) → put-decimal-lts.Need-put-byte-requires (put-decimal-calls t) (put-decimal-at t) put-decimal.Post
 put-decimal-put-byte-requires t c κs = search needs
 
--- src/put.rt:51:9
-put-decimal-same-length : (t : ℕ) → put-decimal-lts.Need-same-length (
-  digit-reads.Asked,
-  digit-reads.Learnt,
-  put-byte-reads.Asked,
-  put-byte-reads.Learnt,
-  put-decimal-below t,
-  put-decimal.Post,
-) (put-decimal-at t) put-decimal.Post
+put-decimal-same-length : (t : ℕ) → put-decimal-lts.Need-same-length (put-decimal-calls t) (put-decimal-at t) put-decimal.Post
 put-decimal-same-length t c = search needs
 
--- src/put.rt:51:9
-put-decimal-returns : (t : ℕ) → put-decimal-lts.Need-returns (
-  digit-reads.Asked,
-  digit-reads.Learnt,
-  put-byte-reads.Asked,
-  put-byte-reads.Learnt,
-  put-decimal-below t,
-  put-decimal.Post,
-) (put-decimal-at t) put-decimal.Post
+put-decimal-returns : (t : ℕ) → put-decimal-lts.Need-returns (put-decimal-calls t) (put-decimal-at t) put-decimal.Post
 put-decimal-returns t c = laying.lays-as (sym (decimals.decimal-last (c .before .before .before .before .before .before .before .args .n) (c .before .before .before .before .before .if1 .taken))) (laying.lays-digit (c .before .before .before .digit .ensures) (c .before .before .put-byte .ensures))
 
--- src/put.rt:53:9
-put-decimal-put-decimal-requires : (t : ℕ) → put-decimal-lts.Need-put-decimal-requires (
-  digit-reads.Asked,
-  digit-reads.Learnt,
-  put-byte-reads.Asked,
-  put-byte-reads.Learnt,
-  put-decimal-below t,
-  put-decimal.Post,
-) (put-decimal-at t) put-decimal.Post
+put-decimal-put-decimal-requires : (t : ℕ) → put-decimal-lts.Need-put-decimal-requires (put-decimal-calls t) (put-decimal-at t) put-decimal.Post
 put-decimal-put-decimal-requires t c κs = (omega (arith, c .before .before .before .pre .0, c .before .if1 .left), c .before .before .before .pre .1)
 
--- src/put.rt:54:28
-put-decimal-cast-digit-2 : (t : ℕ) → put-decimal-lts.Need-cast-digit-2 (
-  digit-reads.Asked,
-  digit-reads.Learnt,
-  put-byte-reads.Asked,
-  put-byte-reads.Learnt,
-  put-decimal-below t,
-  put-decimal.Post,
-) (put-decimal-at t) put-decimal.Post
+put-decimal-cast-digit-2 : (t : ℕ) → put-decimal-lts.Need-cast-digit-2 (put-decimal-calls t) (put-decimal-at t) put-decimal.Post
 put-decimal-cast-digit-2 t c = search needs
 
--- src/put.rt:54:22
-put-decimal-digit-requires-2 : (t : ℕ) → put-decimal-lts.Need-digit-requires-2 (
-  digit-reads.Asked,
-  digit-reads.Learnt,
-  put-byte-reads.Asked,
-  put-byte-reads.Learnt,
-  put-decimal-below t,
-  put-decimal.Post,
-) (put-decimal-at t) put-decimal.Post
+put-decimal-digit-requires-2 : (t : ℕ) → put-decimal-lts.Need-digit-requires-2 (put-decimal-calls t) (put-decimal-at t) put-decimal.Post
 put-decimal-digit-requires-2 t c κs = search needs
 
--- src/put.rt:54:5
-put-decimal-put-byte-requires-2 : (t : ℕ) → put-decimal-lts.Need-put-byte-requires-2 (
-  digit-reads.Asked,
-  digit-reads.Learnt,
-  put-byte-reads.Asked,
-  put-byte-reads.Learnt,
-  put-decimal-below t,
-  put-decimal.Post,
-) (put-decimal-at t) put-decimal.Post
+put-decimal-put-byte-requires-2 : (t : ℕ) → put-decimal-lts.Need-put-byte-requires-2 (put-decimal-calls t) (put-decimal-at t) put-decimal.Post
 put-decimal-put-byte-requires-2 t c κs = search needs
 
--- src/put.rt:47:1
-put-decimal-same-length-2 : (t : ℕ) → put-decimal-lts.Need-same-length-2 (
-  digit-reads.Asked,
-  digit-reads.Learnt,
-  put-byte-reads.Asked,
-  put-byte-reads.Learnt,
-  put-decimal-below t,
-  put-decimal.Post,
-) (put-decimal-at t) put-decimal.Post
+put-decimal-same-length-2 : (t : ℕ) → put-decimal-lts.Need-same-length-2 (put-decimal-calls t) (put-decimal-at t) put-decimal.Post
 put-decimal-same-length-2 t c = search needs
 
--- src/put.rt:47:1
-put-decimal-returns-2 : (t : ℕ) → put-decimal-lts.Need-returns-2 (
-  digit-reads.Asked,
-  digit-reads.Learnt,
-  put-byte-reads.Asked,
-  put-byte-reads.Learnt,
-  put-decimal-below t,
-  put-decimal.Post,
-) (put-decimal-at t) put-decimal.Post
+put-decimal-returns-2 : (t : ℕ) → put-decimal-lts.Need-returns-2 (put-decimal-calls t) (put-decimal-at t) put-decimal.Post
 put-decimal-returns-2 t c = laying.lays-as (sym (decimals.decimal-more (c .before .before .before .before .before .before .before .before .before .before .before .args .n) (c .before .before .before .before .before .before .before .before .before .if1 .left))) (laying.lays-then (c .before .before .before .before .before .before .before .put-decimal .ensures) (laying.lays-digit (c .before .before .before .digit2 .ensures) (c .before .before .put-byte2 .ensures)))
 
 pub +put-decimal-spec : {M : Type 1} → statement M
-+put-decimal-spec = close μ-put-decimal λ t. put-decimal-lts.spec (
-  digit-reads.Asked,
-  digit-reads.Learnt,
-  put-byte-reads.Asked,
-  put-byte-reads.Learnt,
-  put-decimal-below t,
-  put-decimal.Post,
-)
++put-decimal-spec = close μ-put-decimal λ t. put-decimal-lts.spec (put-decimal-calls t)
     (put-decimal-at t)
     put-decimal.Post
     (put-decimal-cast-digit t)

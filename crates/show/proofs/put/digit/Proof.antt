@@ -1,24 +1,18 @@
+-- `show::put::digit` meets its contract.
 use borrow.Author.Tests.{lt-ltb, le-ltb}
-use native.Mathlib.Omega.{arith}
 use borrow.Author.Needs.{needs}
 use Rattle.show.proofs.put.digit.Statement.{statement}
 use Rattle.show.proofs.put.digit.Tie as tie
-use Rattle.show.proofs.put.digit.Reads as reads
-use Rattle.show.proofs.put.digit.Lts as lts
 
--- src/put.rt:44:17
 add-result : tie.Need-add-result
 add-result c = search needs
 
--- src/put.rt:44:33
 add-result-2 : tie.Need-add-result-2
 add-result-2 c = search needs
 
--- src/put.rt:40:1
 returns : tie.Need-returns
 returns c = rw (lt-ltb _ 10 (c .if1 .taken))
 
--- src/put.rt:40:1
 returns-2 : tie.Need-returns-2
 returns-2 c = rw (le-ltb _ 10 (c .if1 .left))
 

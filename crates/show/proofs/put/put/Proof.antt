@@ -1,3 +1,4 @@
+-- `show::put::put` meets its contract.
 use mathlib.Core.Path.{refl}
 use denote.Ref.{now}
 use Rattle.show.proofs.Laying as laying
@@ -5,35 +6,25 @@ use native.Mathlib.Omega.{arith}
 use borrow.Author.Needs.{needs}
 use Rattle.show.proofs.put.put.Statement.{statement}
 use Rattle.show.proofs.put.put.Tie as tie
-use Rattle.show.proofs.put.put.Reads as reads
-use Rattle.show.proofs.put.put.Lts as lts
-use Rattle.stored.proofs.bytes.copy.Reads as copy-reads
 
--- src/put.rt:14:9
 returns : tie.Need-returns
 returns c = laying.lays-far (now (c .before .before .before .args .out)) _ (now (c .before .before .before .args .s)) (c .before .before .before .args .at) _ (omega arith)
 
--- src/put.rt:17:9
 returns-2 : tie.Need-returns-2
 returns-2 c = laying.lays-far (now (c .before .before .before .before .args .out)) _ (now (c .before .before .before .before .args .s)) (c .before .before .before .before .args .at) _ (omega arith)
 
--- src/put.rt:19:13
 add-e : tie.Need-add-e
 add-e c = search needs
 
--- src/put.rt:21:9
 returns-3 : tie.Need-returns-3
 returns-3 c = laying.lays-beyond (now (c .before .before .before .before .before .args .out)) _ (now (c .before .before .before .before .before .args .s)) (c .before .before .before .before .before .args .at) _ refl (c .if3 .taken)
 
--- src/put.rt:23:5
 copy-requires : tie.Need-copy-requires
 copy-requires c κs = search needs
 
--- src/put.rt:10:1
 same-length : tie.Need-same-length
 same-length c = search needs
 
--- src/put.rt:10:1
 returns-4 : tie.Need-returns-4
 returns-4 c = laying.of-put (c .before .before .copy .ensures)
 

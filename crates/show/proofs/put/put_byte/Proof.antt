@@ -1,3 +1,4 @@
+-- `show::put::put_byte` meets its contract.
 use mathlib.Core.List.{[], _∷_}
 use mathlib.Core.Path.{refl}
 use denote.Ref.{now}
@@ -6,34 +7,25 @@ use native.Mathlib.Omega.{arith}
 use borrow.Author.Needs.{needs}
 use Rattle.show.proofs.put.put_byte.Statement.{statement}
 use Rattle.show.proofs.put.put_byte.Tie as tie
-use Rattle.show.proofs.put.put_byte.Reads as reads
-use Rattle.show.proofs.put.put_byte.Lts as lts
 
--- src/put.rt:30:9
 returns : tie.Need-returns
 returns c = laying.lays-far (now (c .before .args .out)) _ (c .before .args .b ∷ []) (c .before .args .at) _ (omega arith)
 
--- src/put.rt:33:16
 add-result : tie.Need-add-result
 add-result c = search needs
 
--- src/put.rt:33:9
 returns-2 : tie.Need-returns-2
 returns-2 c = laying.lays-beyond (now (c .before .before .args .out)) _ (c .before .before .args .b ∷ []) (c .before .before .args .at) _ refl (omega arith)
 
--- src/put.rt:35:5
 slice-write-out : tie.Need-slice-write-out
 slice-write-out c = search needs
 
--- src/put.rt:36:5
 add-result-2 : tie.Need-add-result-2
 add-result-2 c = search needs
 
--- src/put.rt:26:1
 same-length : tie.Need-same-length
 same-length c = search needs
 
--- src/put.rt:26:1
 returns-3 : tie.Need-returns-3
 returns-3 c = laying.lays-byte (now (c .before .before .args .out)) (c .before .before .args .at) (c .before .before .args .b) (c .if2 .left)
 

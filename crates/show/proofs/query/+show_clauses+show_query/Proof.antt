@@ -1,3 +1,4 @@
+-- `show::query::show_clauses` and `show::query::show_query` meet their contracts: what is left to read falls at each call.
 use Rattle.show.proofs.Queries as queries
 use Rattle.show.proofs.Nodes as nodes
 use Rattle.show.proofs.Laying as laying
@@ -7,9 +8,9 @@ use Rattle.rules.specs.Show.{show, showClauses}
 use Rattle.rules.specs.Checked.{StoredClauses}
 use Rattle.rules.specs.Bytes.{tagOf, bodyOf, restOf}
 use denote.Ref.{now}
-use lib.ListN.{length, drop}
+use lib.ListN.{length}
 use Prim.Native.Nat.{_+_, _≤_}
-use mathlib.Core.List.{List, []}
+use mathlib.Core.List.{List}
 use mathlib.Core.Path.{_≡_, refl, ap, _∙_}
 use native.Mathlib.Omega.{arith}
 use borrow.Author.Needs.{needs}
@@ -69,123 +70,93 @@ show-clauses-calls t = (tag-of-reads.Asked, tag-of-reads.Learnt, body-reads.Aske
 abbrev show-query-calls : ℕ → show-query-lts.Claims
 show-query-calls t = (put-line-reads.Asked, put-line-reads.Learnt, body-reads.Asked, body-reads.Learnt, tag-of-reads.Asked, tag-of-reads.Learnt, rest-reads.Asked, rest-reads.Learnt, show-clauses-below t, show-clauses.Post, show-query-below t, show-query.Post)
 
--- src/query.rt:43:5
 show-clauses-loop-holds : (t : ℕ) → show-clauses-lts.Need-loop-holds (show-clauses-calls t) (show-clauses-at t) show-clauses.Post show-clauses-Inv-loop show-clauses-μ-loop
 show-clauses-loop-holds t c = (c .before .before .pre .1 .stored, omega arith, refl, laying.going-start _ _ _)
 
--- src/query.rt:44:35
 show-clauses-tag-of-requires : (t : ℕ) → show-clauses-lts.Need-tag-of-requires (show-clauses-calls t) (show-clauses-at t) show-clauses.Post show-clauses-Inv-loop show-clauses-μ-loop
 show-clauses-tag-of-requires t c κs = search needs
 
--- src/query.rt:44:46
 show-clauses-body-requires : (t : ℕ) → show-clauses-lts.Need-body-requires (show-clauses-calls t) (show-clauses-at t) show-clauses.Post show-clauses-Inv-loop show-clauses-μ-loop
 show-clauses-body-requires t c κs = queries.clause-whole (c .before .before .before .loop .inv .0) (c .before .before .loop-test .taken)
 
--- src/query.rt:44:9
 show-clauses-show-query-requires : (t : ℕ) → show-clauses-lts.Need-show-query-requires (show-clauses-calls t) (show-clauses-at t) show-clauses.Post show-clauses-Inv-loop show-clauses-μ-loop
 show-clauses-show-query-requires t c κs = (omega (arith, c .before .before .before .before .before .before .before .pre .0, queries.clause-shorter (c .before .before .before .before .before .before .before .pre .1) (c .before .before .before .before .loop .inv .0) (c .before .before .before .loop-test .taken) (c .before .before .before .before .loop .inv .1) (c .body .ensures)), queries.clause-to-show (c .before .before .before .before .before .before .before .pre .1) (c .before .before .before .before .loop .inv .0) (c .before .before .before .loop-test .taken) (c .before .before .before .before .loop .inv .1) (c .body .ensures))
 
--- src/query.rt:45:13
 show-clauses-rest-requires : (t : ℕ) → show-clauses-lts.Need-rest-requires (show-clauses-calls t) (show-clauses-at t) show-clauses.Post show-clauses-Inv-loop show-clauses-μ-loop
 show-clauses-rest-requires t c κs = queries.clause-whole (c .before .before .before .before .before .before .before .loop .inv .0) (c .before .before .before .before .before .before .loop-test .taken)
 
--- src/query.rt:43:5
 show-clauses-loop-less : (t : ℕ) → show-clauses-lts.Need-loop-less (show-clauses-calls t) (show-clauses-at t) show-clauses.Post show-clauses-Inv-loop show-clauses-μ-loop
 show-clauses-loop-less t c = rw (c .rest .ensures) (parts.rest-shorter (now (c .before .before .before .before .before .before .before .before .loop .t)) (c .before .before .before .before .before .before .before .loop-test .taken))
 
--- src/query.rt:43:5
 show-clauses-loop-again : (t : ℕ) → show-clauses-lts.Need-loop-again (show-clauses-calls t) (show-clauses-at t) show-clauses.Post show-clauses-Inv-loop show-clauses-μ-loop
 show-clauses-loop-again t c = (rw (c .rest .ensures) (queries.others-stored (c .before .before .before .before .before .before .before .before .loop .inv .0) (c .before .before .before .before .before .before .before .loop-test .taken)), rw (c .rest .ensures) (omega (arith, c .before .before .before .before .before .before .before .before .loop .inv .1, parts.rest-shorter (now (c .before .before .before .before .before .before .before .before .loop .t)) (c .before .before .before .before .before .before .before .loop-test .taken))), omega (arith, c .before .before .before .show-query .kept .0, c .before .before .before .before .before .before .before .before .loop .inv .2), rw (c .rest .ensures) (laying.going-next (c .before .before .before .before .before .before .before .before .loop .inv .3) (show (c .before .before .before .before .before .before .before .before .before .before .before .args .d) (kindText (tagOf (now (c .before .before .before .before .before .before .before .before .loop .t)))) (queryIn (bodyOf (now (c .before .before .before .before .before .before .before .before .loop .t))))) (showClauses (c .before .before .before .before .before .before .before .before .before .before .before .args .d) (rowIn (restOf (now (c .before .before .before .before .before .before .before .before .loop .t))))) (queries.clause-next (c .before .before .before .before .before .before .before .before .loop .inv .0) (c .before .before .before .before .before .before .before .loop-test .taken) (c .before .before .before .before .before .before .before .before .before .before .before .args .d)) (rw (c .before .before .before .before .body .ensures, c .before .before .before .before .before .tag-of .ensures) at (c .before .before .before .show-query .ensures))))
 
--- src/query.rt:37:1
 show-clauses-same-length : (t : ℕ) → show-clauses-lts.Need-same-length (show-clauses-calls t) (show-clauses-at t) show-clauses.Post show-clauses-Inv-loop show-clauses-μ-loop
 show-clauses-same-length t c = c .before .loop .inv .2
 
--- src/query.rt:37:1
 show-clauses-returns : (t : ℕ) → show-clauses-lts.Need-returns (show-clauses-calls t) (show-clauses-at t) show-clauses.Post show-clauses-Inv-loop show-clauses-μ-loop
 show-clauses-returns t c = laying.going-end (c .before .loop .inv .3) (queries.clauses-done (c .before .loop .inv .0) (c .loop-test .left) (c .before .before .before .before .args .d))
 
--- src/query.rt:56:9
 show-query-put-line-requires : (t : ℕ) → show-query-lts.Need-put-line-requires (show-query-calls t) (show-query-at t) show-query.Post
 show-query-put-line-requires t c κs = search needs
 
--- src/query.rt:57:9
 show-query-body-requires : (t : ℕ) → show-query-lts.Need-body-requires (show-query-calls t) (show-query-at t) show-query.Post
 show-query-body-requires t c κs = nodes.stored-whole (c .before .before .before .before .before .before .pre .1 .stored)
 
--- src/query.rt:58:9
 show-query-tag-of-requires : (t : ℕ) → show-query-lts.Need-tag-of-requires (show-query-calls t) (show-query-at t) show-query.Post
 show-query-tag-of-requires t c κs = omega (arith, parts.whole-le (now (c .before .before .before .before .before .before .before .args .s)) (nodes.stored-whole (c .before .before .before .before .before .before .before .pre .1 .stored)))
 
--- src/query.rt:60:35
 show-query-add-show-clauses : (t : ℕ) → show-query-lts.Need-add-show-clauses (show-query-calls t) (show-query-at t) show-query.Post
 show-query-add-show-clauses t c = search needs
 
--- src/query.rt:60:42
 show-query-rest-requires : (t : ℕ) → show-query-lts.Need-rest-requires (show-query-calls t) (show-query-at t) show-query.Post
 show-query-rest-requires t c κs = nodes.minimum-whole (nodes.holds-minimum (c .before .before .before .before .before .before .before .before .before .before .pre .1 .stored) (c .before .before .before .body .ensures) (c .before .before .tag-of .ensures) (c .before .match .keys1))
 
--- src/query.rt:60:14
 show-query-show-clauses-requires : (t : ℕ) → show-query-lts.Need-show-clauses-requires (show-query-calls t) (show-query-at t) show-query.Post
 show-query-show-clauses-requires t c κs = (omega (arith, c .before .before .before .before .before .before .before .before .before .before .before .pre .0, queries.row-shorter (c .before .before .before .before .before .before .before .before .before .before .before .pre .1) (c .before .before .before .before .body .ensures) (c .before .before .before .tag-of .ensures) (c .before .before .match .keys1) (c .rest .ensures)), queries.row-to-show (c .before .before .before .before .before .before .before .before .before .before .before .pre .1) (c .before .before .before .before .body .ensures) (c .before .before .before .tag-of .ensures) (c .before .before .match .keys1) (c .rest .ensures))
 
--- src/query.rt:61:33
 show-query-add-show-query : (t : ℕ) → show-query-lts.Need-add-show-query (show-query-calls t) (show-query-at t) show-query.Post
 show-query-add-show-query t c = search needs
 
--- src/query.rt:61:43
 show-query-sub-show-query : (t : ℕ) → show-query-lts.Need-sub-show-query (show-query-calls t) (show-query-at t) show-query.Post
 show-query-sub-show-query t c = nodes.boost-at (c .before .before .before .before .before .before .before .before .before .before .pre .1 .stored) (c .before .before .before .body .ensures) (c .before .before .tag-of .ensures) (c .before .match .keys2) .long
 
--- src/query.rt:61:43
 show-query-part-show-query-start : (t : ℕ) → show-query-lts.Need-part-show-query-start (show-query-calls t) (show-query-at t) show-query.Post
 show-query-part-show-query-start t c = nodes.boost-at (c .before .before .before .before .before .before .before .before .before .before .pre .1 .stored) (c .before .before .before .body .ensures) (c .before .before .tag-of .ensures) (c .before .match .keys2) .long
 
--- src/query.rt:61:43
 show-query-part-show-query-end : (t : ℕ) → show-query-lts.Need-part-show-query-end (show-query-calls t) (show-query-at t) show-query.Post
 show-query-part-show-query-end t c = search needs
 
--- src/query.rt:61:14
 show-query-show-query-requires : (t : ℕ) → show-query-lts.Need-show-query-requires (show-query-calls t) (show-query-at t) show-query.Post
 show-query-show-query-requires t c κs = (omega (arith, c .before .before .before .before .before .before .before .before .before .before .before .pre .0, queries.boosted-shorter (c .before .before .before .before .before .before .before .before .before .before .before .pre .1) (c .before .before .before .before .body .ensures) (c .before .before .before .tag-of .ensures) (c .before .before .match .keys2) (parts.cut-from 4 (now (c .before .before .before .before .body .result)))), queries.boosted-to-show (c .before .before .before .before .before .before .before .before .before .before .before .pre .1) (c .before .before .before .before .body .ensures) (c .before .before .before .tag-of .ensures) (c .before .before .match .keys2) (parts.cut-from 4 (now (c .before .before .before .before .body .result))))
 
--- src/query.rt:62:33
 show-query-add-show-query-2 : (t : ℕ) → show-query-lts.Need-add-show-query-2 (show-query-calls t) (show-query-at t) show-query.Post
 show-query-add-show-query-2 t c = search needs
 
--- src/query.rt:62:14
 show-query-show-query-requires-2 : (t : ℕ) → show-query-lts.Need-show-query-requires-2 (show-query-calls t) (show-query-at t) show-query.Post
 show-query-show-query-requires-2 t c κs = (omega (arith, c .before .before .before .before .before .before .before .before .before .before .pre .0, queries.scored-shorter (c .before .before .before .before .before .before .before .before .before .before .pre .1) (c .before .before .before .body .ensures) (c .before .before .tag-of .ensures) (c .before .match .keys3)), queries.scored-to-show (c .before .before .before .before .before .before .before .before .before .before .pre .1) (c .before .before .before .body .ensures) (c .before .before .tag-of .ensures) (c .before .match .keys3))
 
--- src/query.rt:52:1
 show-query-same-length : (t : ℕ) → show-query-lts.Need-same-length (show-query-calls t) (show-query-at t) show-query.Post
 show-query-same-length t c = search needs
 
--- src/query.rt:52:1
 show-query-returns : (t : ℕ) → show-query-lts.Need-returns (show-query-calls t) (show-query-at t) show-query.Post
 show-query-returns t c = laying.lays-as (queries.whole-text (c .before .before .before .before .before .before .before .before .before .before .before .before .before .before .args .d) (kindText (c .before .before .before .before .before .before .before .before .before .before .before .before .before .before .args .kind)) (now (c .before .before .before .before .before .before .before .before .before .before .before .before .before .before .args .s)) (ap (λ (l : List ℕ). showClauses (c .before .before .before .before .before .before .before .before .before .before .before .before .before .before .args .d + 1) (rowIn l)) (c .before .before .before .rest .ensures) ∙ queries.row-inside (c .before .before .before .before .before .before .before .before .before .before .before .before .before .before .pre .1 .stored) (c .before .before .before .before .before .before .before .body .ensures) (c .before .before .before .before .before .before .tag-of .ensures) (c .before .before .before .before .before .before .before .before .before .before .before .before .before .before .args .d + 1) (c .before .before .before .before .before .match .keys1))) (laying.lays-then (c .before .before .before .before .before .before .before .before .before .before .put-line .ensures) (c .before .before .show-clauses .ensures))
 
--- src/query.rt:52:1
 show-query-same-length-2 : (t : ℕ) → show-query-lts.Need-same-length-2 (show-query-calls t) (show-query-at t) show-query.Post
 show-query-same-length-2 t c = search needs
 
--- src/query.rt:52:1
 show-query-returns-2 : (t : ℕ) → show-query-lts.Need-returns-2 (show-query-calls t) (show-query-at t) show-query.Post
 show-query-returns-2 t c = laying.lays-as (queries.whole-text (c .before .before .before .before .before .before .before .before .before .before .before .before .before .before .args .d) (kindText (c .before .before .before .before .before .before .before .before .before .before .before .before .before .before .args .kind)) (now (c .before .before .before .before .before .before .before .before .before .before .before .before .before .before .args .s)) (ap (λ (l : List ℕ). show (c .before .before .before .before .before .before .before .before .before .before .before .before .before .before .args .d + 1) (kindText 0) (queryIn l)) (parts.cut-from 4 (now (c .before .before .before .before .before .before .before .body .result))) ∙ queries.boosted-inside (c .before .before .before .before .before .before .before .before .before .before .before .before .before .before .pre .1 .stored) (c .before .before .before .before .before .before .before .body .ensures) (c .before .before .before .before .before .before .tag-of .ensures) (c .before .before .before .before .before .before .before .before .before .before .before .before .before .before .args .d + 1) (c .before .before .before .before .before .match .keys2))) (laying.lays-then (c .before .before .before .before .before .before .before .before .before .before .put-line .ensures) (c .before .before .show-query .ensures))
 
--- src/query.rt:52:1
 show-query-same-length-3 : (t : ℕ) → show-query-lts.Need-same-length-3 (show-query-calls t) (show-query-at t) show-query.Post
 show-query-same-length-3 t c = search needs
 
--- src/query.rt:52:1
 show-query-returns-3 : (t : ℕ) → show-query-lts.Need-returns-3 (show-query-calls t) (show-query-at t) show-query.Post
 show-query-returns-3 t c = laying.lays-as (queries.whole-text (c .before .before .before .before .before .before .before .before .before .before .before .before .before .args .d) (kindText (c .before .before .before .before .before .before .before .before .before .before .before .before .before .args .kind)) (now (c .before .before .before .before .before .before .before .before .before .before .before .before .before .args .s)) (queries.scored-inside (c .before .before .before .before .before .before .before .before .before .before .before .before .before .pre .1 .stored) (c .before .before .before .before .before .before .body .ensures) (c .before .before .before .before .before .tag-of .ensures) (c .before .before .before .before .before .before .before .before .before .before .before .before .before .args .d + 1) (c .before .before .before .before .match .keys3))) (laying.lays-then (c .before .before .before .before .before .before .before .before .before .put-line .ensures) (c .before .before .show-query2 .ensures))
 
--- src/query.rt:52:1
 show-query-same-length-4 : (t : ℕ) → show-query-lts.Need-same-length-4 (show-query-calls t) (show-query-at t) show-query.Post
 show-query-same-length-4 t c = search needs
 
--- src/query.rt:52:1
 show-query-returns-4 : (t : ℕ) → show-query-lts.Need-returns-4 (show-query-calls t) (show-query-at t) show-query.Post
 show-query-returns-4 t c = laying.lays-as (queries.whole-text (c .before .before .before .before .before .before .before .before .before .args .d) (kindText (c .before .before .before .before .before .before .before .before .before .args .kind)) (now (c .before .before .before .before .before .before .before .before .before .args .s)) (queries.nothing-inside (c .before .before .before .before .before .before .before .before .before .pre .1 .stored) (c .before .before .body .ensures) (c .before .tag-of .ensures) (c .before .before .before .before .before .before .before .before .before .args .d + 1) (c .match .rest .0 .0 .1) (c .match .rest .0 .1) (c .match .rest .1))) (laying.lays-then (c .before .before .before .before .before .put-line .ensures) (laying.lays-none _ _))
 

@@ -1,96 +1,73 @@
+-- `show::query::put_kind` meets its contract.
 use Rattle.show.specs.Node.{kindText}
 use Rattle.rules.specs.Bytes.{ascii}
-use borrow.Author.Tests.{eq-eqb, ne-eqb}
+use borrow.Author.Tests.{ne-eqb}
 use Rattle.show.proofs.Laying as laying
-use native.Mathlib.Omega.{arith}
 use borrow.Author.Needs.{needs}
 use Rattle.show.proofs.query.put_kind.Statement.{statement}
 use Rattle.show.proofs.query.put_kind.Tie as tie
-use Rattle.show.proofs.query.put_kind.Reads as reads
-use Rattle.show.proofs.query.put_kind.Lts as lts
-use Rattle.show.proofs.put.put.Reads as put-reads
 
--- src/query.rt:17:30
 slice-aggregate-put : tie.Need-slice-aggregate-put
 slice-aggregate-put c = search needs
 
--- src/query.rt:17:17
 put-requires : tie.Need-put-requires
 put-requires c κs = search needs
 
--- src/query.rt:18:30
 slice-aggregate-put-2 : tie.Need-slice-aggregate-put-2
 slice-aggregate-put-2 c = search needs
 
--- src/query.rt:18:17
 put-requires-2 : tie.Need-put-requires-2
 put-requires-2 c κs = search needs
 
--- src/query.rt:19:30
 slice-aggregate-put-3 : tie.Need-slice-aggregate-put-3
 slice-aggregate-put-3 c = search needs
 
--- src/query.rt:19:17
 put-requires-3 : tie.Need-put-requires-3
 put-requires-3 c κs = search needs
 
--- src/query.rt:20:30
 slice-aggregate-put-4 : tie.Need-slice-aggregate-put-4
 slice-aggregate-put-4 c = search needs
 
--- src/query.rt:20:17
 put-requires-4 : tie.Need-put-requires-4
 put-requires-4 c κs = search needs
 
--- src/query.rt:21:27
 slice-aggregate-put-5 : tie.Need-slice-aggregate-put-5
 slice-aggregate-put-5 c = search needs
 
--- src/query.rt:21:14
 put-requires-5 : tie.Need-put-requires-5
 put-requires-5 c κs = search needs
 
--- src/query.rt:13:1
 same-length : tie.Need-same-length
 same-length c = search needs
 
--- src/query.rt:13:1
 returns : tie.Need-returns
 unfolding ascii kindText
 returns c = laying.lays-as (rw (c .before .before .before .before .before .match .keys1)) (c .before .before .put .ensures)
 
--- src/query.rt:13:1
 same-length-2 : tie.Need-same-length-2
 same-length-2 c = search needs
 
--- src/query.rt:13:1
 returns-2 : tie.Need-returns-2
 unfolding ascii kindText
 returns-2 c = laying.lays-as (rw (c .before .before .before .before .before .match .keys2)) (c .before .before .put2 .ensures)
 
--- src/query.rt:13:1
 same-length-3 : tie.Need-same-length-3
 same-length-3 c = search needs
 
--- src/query.rt:13:1
 returns-3 : tie.Need-returns-3
 unfolding ascii kindText
 returns-3 c = laying.lays-as (rw (c .before .before .before .before .before .match .keys3)) (c .before .before .put3 .ensures)
 
--- src/query.rt:13:1
 same-length-4 : tie.Need-same-length-4
 same-length-4 c = search needs
 
--- src/query.rt:13:1
 returns-4 : tie.Need-returns-4
 unfolding ascii kindText
 returns-4 c = laying.lays-as (rw (c .before .before .before .before .before .match .keys4)) (c .before .before .put4 .ensures)
 
--- src/query.rt:13:1
 same-length-5 : tie.Need-same-length-5
 same-length-5 c = search needs
 
--- src/query.rt:13:1
 returns-5 : tie.Need-returns-5
 unfolding ascii kindText
 returns-5 c = laying.lays-as (rw (ne-eqb (c .before .before .before .before .before .before .before .args .kind) 0x20 (c .before .before .before .before .before .match .rest .0 .0 .0 .1), ne-eqb (c .before .before .before .before .before .before .before .args .kind) 0x21 (c .before .before .before .before .before .match .rest .0 .0 .1), ne-eqb (c .before .before .before .before .before .before .before .args .kind) 0x22 (c .before .before .before .before .before .match .rest .0 .1), ne-eqb (c .before .before .before .before .before .before .before .args .kind) 0x23 (c .before .before .before .before .before .match .rest .1))) (c .before .before .put5 .ensures)

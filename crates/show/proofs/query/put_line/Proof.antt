@@ -1,58 +1,41 @@
+-- `show::query::put_line` meets its contract.
 use Rattle.rules.specs.Show.{line}
 use Rattle.rules.specs.Bytes.{ascii}
 use Rattle.show.proofs.Laying as laying
-use native.Mathlib.Omega.{arith}
 use borrow.Author.Needs.{needs}
 use Rattle.show.proofs.query.put_line.Statement.{statement}
 use Rattle.show.proofs.query.put_line.Tie as tie
-use Rattle.show.proofs.query.put_line.Reads as reads
-use Rattle.show.proofs.query.put_line.Lts as lts
-use Rattle.show.proofs.node.put_node.Reads as put-node-reads
-use Rattle.show.proofs.put.put.Reads as put-reads
-use Rattle.show.proofs.put.put_decimal.Reads as put-decimal-reads
-use Rattle.show.proofs.query.put_kind.Reads as put-kind-reads
 
--- src/query.rt:29:9
 put-decimal-requires : tie.Need-put-decimal-requires
 put-decimal-requires c κs = search needs
 
--- src/query.rt:30:25
 slice-aggregate-put : tie.Need-slice-aggregate-put
 slice-aggregate-put c = search needs
 
--- src/query.rt:30:9
 put-requires : tie.Need-put-requires
 put-requires c κs = search needs
 
--- src/query.rt:31:9
 put-kind-requires : tie.Need-put-kind-requires
 put-kind-requires c κs = search needs
 
--- src/query.rt:32:25
 slice-aggregate-put-2 : tie.Need-slice-aggregate-put-2
 slice-aggregate-put-2 c = search needs
 
--- src/query.rt:32:9
 put-requires-2 : tie.Need-put-requires-2
 put-requires-2 c κs = search needs
 
--- src/query.rt:33:9
 put-node-requires : tie.Need-put-node-requires
 put-node-requires c κs = search needs
 
--- src/query.rt:34:17
 slice-aggregate-put-3 : tie.Need-slice-aggregate-put-3
 slice-aggregate-put-3 c = search needs
 
--- src/query.rt:34:5
 put-requires-3 : tie.Need-put-requires-3
 put-requires-3 c κs = search needs
 
--- src/query.rt:25:1
 same-length : tie.Need-same-length
 same-length c = search needs
 
--- src/query.rt:25:1
 returns : tie.Need-returns
 unfolding ascii line
 returns c = laying.lays-then (laying.lays-then (laying.lays-then (laying.lays-then (laying.lays-then (c .before .before .before .before .before .before .before .before .before .before .before .before .before .before .before .before .before .before .before .before .before .before .before .before .before .put-decimal .ensures) (c .before .before .before .before .before .before .before .before .before .before .before .before .before .before .before .before .before .before .before .before .put .ensures)) (c .before .before .before .before .before .before .before .before .before .before .before .before .before .before .before .before .put-kind .ensures)) (c .before .before .before .before .before .before .before .before .before .before .before .put2 .ensures)) (c .before .before .before .before .before .before .before .put-node .ensures)) (c .before .before .put3 .ensures)

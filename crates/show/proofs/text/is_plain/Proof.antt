@@ -1,24 +1,17 @@
+-- `show::text::is_plain` meets its contract.
 use Rattle.show.proofs.Texts as texts
-use native.Mathlib.Omega.{arith}
-use borrow.Author.Needs.{needs}
 use Rattle.show.proofs.text.is_plain.Statement.{statement}
 use Rattle.show.proofs.text.is_plain.Tie as tie
-use Rattle.show.proofs.text.is_plain.Reads as reads
-use Rattle.show.proofs.text.is_plain.Lts as lts
 
--- src/text.rt:33:9
 returns : tie.Need-returns
 returns c = texts.plain-low _ (c .if1 .taken)
 
--- src/text.rt:36:9
 returns-2 : tie.Need-returns-2
 returns-2 c = texts.plain-high _ (c .if2 .taken)
 
--- src/text.rt:39:9
 returns-3 : tie.Need-returns-3
 returns-3 c = texts.plain-backslash _ (c .if3 .taken)
 
--- src/text.rt:29:1
 returns-4 : tie.Need-returns-4
 returns-4 c = texts.plain-other _ (c .before .before .if1 .left) (c .before .if2 .left) (c .if3 .left)
 

@@ -1,42 +1,31 @@
+-- `show::text::put_field` meets its contract.
 use Rattle.rules.specs.Bytes.{ascii}
 use denote.Ref.{now}
 use Rattle.show.proofs.Texts as texts
 use Rattle.show.proofs.Laying as laying
-use native.Mathlib.Omega.{arith}
 use borrow.Author.Needs.{needs}
 use Rattle.show.proofs.text.put_field.Statement.{statement}
 use Rattle.show.proofs.text.put_field.Tie as tie
-use Rattle.show.proofs.text.put_field.Reads as reads
-use Rattle.show.proofs.text.put_field.Lts as lts
-use Rattle.show.proofs.put.put.Reads as put-reads
-use Rattle.show.proofs.text.put_shown.Reads as put-shown-reads
 
--- src/text.rt:70:29
 slice-aggregate-put : tie.Need-slice-aggregate-put
 slice-aggregate-put c = search needs
 
--- src/text.rt:70:9
 put-requires : tie.Need-put-requires
 put-requires c κs = search needs
 
--- src/text.rt:70:9
 same-length : tie.Need-same-length
 same-length c = search needs
 
--- src/text.rt:70:9
 returns : tie.Need-returns
 unfolding ascii
 returns c = laying.lays-as (texts.field-none (now (c .before .before .before .before .before .before .before .before .args .f)) (c .before .before .before .before .before .if1 .taken)) (c .before .before .put .ensures)
 
--- src/text.rt:72:5
 put-shown-requires : tie.Need-put-shown-requires
 put-shown-requires c κs = search needs
 
--- src/text.rt:66:1
 same-length-2 : tie.Need-same-length-2
 same-length-2 c = search needs
 
--- src/text.rt:66:1
 returns-2 : tie.Need-returns-2
 returns-2 c = laying.lays-as (texts.field-some (now (c .before .before .before .before .before .before .before .args .f)) (c .before .before .before .before .if1 .left)) (c .before .before .put-shown .ensures)
 

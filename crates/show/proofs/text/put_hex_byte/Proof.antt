@@ -1,34 +1,24 @@
+-- `show::text::put_hex_byte` meets its contract.
 use Rattle.show.proofs.Laying as laying
-use native.Mathlib.Omega.{arith}
 use borrow.Author.Needs.{needs}
 use Rattle.show.proofs.text.put_hex_byte.Statement.{statement}
 use Rattle.show.proofs.text.put_hex_byte.Tie as tie
-use Rattle.show.proofs.text.put_hex_byte.Reads as reads
-use Rattle.show.proofs.text.put_hex_byte.Lts as lts
-use Rattle.show.proofs.put.digit.Reads as digit-reads
-use Rattle.show.proofs.put.put_byte.Reads as put-byte-reads
 
--- src/text.rt:12:31
 digit-requires : tie.Need-digit-requires
 digit-requires c κs = search needs
 
--- src/text.rt:12:9
 put-byte-requires : tie.Need-put-byte-requires
 put-byte-requires c κs = search needs
 
--- src/text.rt:13:22
 digit-requires-2 : tie.Need-digit-requires-2
 digit-requires-2 c κs = search needs
 
--- src/text.rt:13:5
 put-byte-requires-2 : tie.Need-put-byte-requires-2
 put-byte-requires-2 c κs = search needs
 
--- src/text.rt:9:1
 same-length : tie.Need-same-length
 same-length c = search needs
 
--- src/text.rt:9:1
 returns : tie.Need-returns
 returns c = laying.lays-then (laying.lays-digit (c .before .before .before .before .before .before .before .before .digit .ensures) (c .before .before .before .before .before .before .before .put-byte .ensures)) (laying.lays-digit (c .before .before .before .digit2 .ensures) (c .before .before .put-byte2 .ensures))
 

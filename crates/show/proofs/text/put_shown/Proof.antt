@@ -1,4 +1,5 @@
-use Rattle.show.specs.Lays.{hexByte, shownByte}
+-- `show::text::put_shown` meets its contract.
+use Rattle.show.specs.Lays.{shownByte}
 use lib.ListN.{getD}
 use Rattle.rules.specs.Show.{shown}
 use lib.ListN.{length, drop}
@@ -11,9 +12,6 @@ use native.Mathlib.Omega.{arith}
 use borrow.Author.Needs.{needs}
 use Rattle.show.proofs.text.put_shown.Statement.{statement}
 use Rattle.show.proofs.text.put_shown.Tie as tie
-use Rattle.show.proofs.text.put_shown.Reads as reads
-use Rattle.show.proofs.text.put_shown.Lts as lts
-use Rattle.show.proofs.text.put_shown_byte.Reads as put-shown-byte-reads
 
 abbrev Inv-loop : tie.InvT-loop
 Inv-loop out₀ at s k₀ a₀ out k a = (k ≤ length s) × (length out ≡ length out₀) × laying.Going (shown s) (shown (drop k s)) out₀ at out a
@@ -21,35 +19,27 @@ Inv-loop out₀ at s k₀ a₀ out k a = (k ≤ length s) × (length out ≡ len
 abbrev μ-loop : tie.MeasureT-loop
 μ-loop out₀ at s k₀ a₀ out k a = length s - k
 
--- src/text.rt:59:5
 loop-holds : tie.Need-loop-holds Inv-loop μ-loop
 loop-holds c = (omega arith, refl, laying.going-start _ _ _)
 
--- src/text.rt:60:36
 shared-slice-read-put-shown-byte : tie.Need-shared-slice-read-put-shown-byte Inv-loop μ-loop
 shared-slice-read-put-shown-byte c = search needs
 
--- src/text.rt:60:9
 put-shown-byte-requires : tie.Need-put-shown-byte-requires Inv-loop μ-loop
 put-shown-byte-requires c κs = search needs
 
--- src/text.rt:61:9
 add-k : tie.Need-add-k Inv-loop μ-loop
 add-k c = search needs
 
--- src/text.rt:59:5
 loop-less : tie.Need-loop-less Inv-loop μ-loop
 loop-less c = search needs
 
--- src/text.rt:59:5
 loop-again : tie.Need-loop-again Inv-loop μ-loop
 loop-again c = (omega arith, omega (arith, c .before .before .put-shown-byte .kept .0, c .before .before .before .before .before .before .loop .inv .1), laying.going-next (c .before .before .before .before .before .before .loop .inv .2) (shownByte (getD (now (c .before .before .before .before .before .before .before .before .before .args .s)) (c .before .before .before .before .before .before .loop .k) 0)) (shown (drop (c .before .before .before .before .before .before .loop .k + 1) (now (c .before .before .before .before .before .before .before .before .before .args .s)))) (texts.shown-next (now (c .before .before .before .before .before .before .before .before .before .args .s)) (c .before .before .before .before .before .before .loop .k) (c .before .before .before .before .before .loop-test .taken)) (c .before .before .put-shown-byte .ensures))
 
--- src/text.rt:54:1
 same-length : tie.Need-same-length Inv-loop μ-loop
 same-length c = c .before .loop .inv .1
 
--- src/text.rt:54:1
 returns : tie.Need-returns Inv-loop μ-loop
 returns c = laying.going-end (c .before .loop .inv .2) (texts.shown-done (now (c .before .before .before .before .args .s)) (c .before .loop .k) (c .before .loop .inv .0) (c .loop-test .left))
 

@@ -1,44 +1,31 @@
+-- `show::text::put_shown_byte` meets its contract.
 use Rattle.show.proofs.Texts as texts
 use Rattle.show.proofs.Laying as laying
-use native.Mathlib.Omega.{arith}
 use borrow.Author.Needs.{needs}
 use Rattle.show.proofs.text.put_shown_byte.Statement.{statement}
 use Rattle.show.proofs.text.put_shown_byte.Tie as tie
-use Rattle.show.proofs.text.put_shown_byte.Reads as reads
-use Rattle.show.proofs.text.put_shown_byte.Lts as lts
-use Rattle.show.proofs.put.put_byte.Reads as put-byte-reads
-use Rattle.show.proofs.text.is_plain.Reads as is-plain-reads
-use Rattle.show.proofs.text.put_hex_byte.Reads as put-hex-byte-reads
 
--- src/text.rt:47:8
 is-plain-requires : tie.Need-is-plain-requires
 is-plain-requires c κs = search needs
 
--- src/text.rt:48:9
 put-byte-requires : tie.Need-put-byte-requires
 put-byte-requires c κs = search needs
 
--- src/text.rt:48:9
 same-length : tie.Need-same-length
 same-length c = search needs
 
--- src/text.rt:48:9
 returns : tie.Need-returns
 returns c = laying.lays-as (texts.byte-plain (c .before .before .before .before .before .before .before .args .c) (c .before .before .before .before .before .is-plain .ensures) (c .before .before .before .before .if1 .taken)) (c .before .before .put-byte .ensures)
 
--- src/text.rt:50:9
 put-byte-requires-2 : tie.Need-put-byte-requires-2
 put-byte-requires-2 c κs = search needs
 
--- src/text.rt:51:5
 put-hex-byte-requires : tie.Need-put-hex-byte-requires
 put-hex-byte-requires c κs = search needs
 
--- src/text.rt:44:1
 same-length-2 : tie.Need-same-length-2
 same-length-2 c = search needs
 
--- src/text.rt:44:1
 returns-2 : tie.Need-returns-2
 returns-2 c = laying.lays-as (texts.byte-escaped (c .before .before .before .before .before .before .before .before .before .before .before .args .c) (c .before .before .before .before .before .before .before .before .before .is-plain .ensures) (c .before .before .before .before .before .before .before .before .if1 .left)) (laying.lays-then (c .before .before .before .before .before .before .put-byte2 .ensures) (c .before .before .put-hex-byte .ensures))
 
