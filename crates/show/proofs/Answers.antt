@@ -67,7 +67,7 @@ leaves : (p : Shown) (out room : List ℕ) → (leftOf p out room .output ≡ ou
 leaves (Refused n) out room = (refl, refl)
 leaves (Bytes n) out room = (refl, refl)
 
-module _ {s out room out′ room′ out″ room″ : List ℕ} {p q : Shown} where
+module _ (s out room : List ℕ) {out′ room′ out″ room″ : List ℕ} {p q : Shown} where
   pub no-second-show : leftOf p out′ room′ ≡ showLeft s out room → leftOf q out″ room″ ≡ showLeft s out room → (p ≡ q) × (out′ ≡ out″) × (room′ ≡ room″)
   no-second-show P Q =
       let e = P ∙ sym Q in (
