@@ -15,7 +15,7 @@ use Rattle.rules.specs.Parsing.{parse}
 use Rattle.rules.specs.Answers.{Answer, Left, Reply, storedReply, fitting, leave, call, parseReply, parseLeft}
 use Rattle.rules.proofs.Refusals.{number-some}
 use Rattle.rules.proofs.Weights.{weight-length, weight-some}
-use Rattle.stored.specs.Laid.{Put}
+use Rattle.parts.specs.Laid.{Put}
 use Rattle.parser.specs.Parsed.{answerOf, leftOf, Parses}
 use Rattle.parser.specs.declared.parse.Parsed.{Parsed}
 use Rattle.parser.specs.declared.parse.Parsed.the-variants.{Refused, Bytes}

@@ -19,8 +19,8 @@ use Rattle.rules.specs.Answers.{storedReply, fitting, zeros, leave, call, parse
 use Rattle.rules.proofs.Bools.{clash, both}
 use Rattle.rules.proofs.Sizes.{length-match-none, length-encode}
 use Rattle.rules.proofs.Tokenizing.{Standing, placeOf, lex-few, lex-standing}
-use Rattle.stored.specs.Laid.{laid, Put, header}
-use Rattle.stored.proofs.Laying.{laid-front, lent}
+use Rattle.parts.specs.Laid.{laid, Put, header}
+use Rattle.parts.proofs.Laying.{laid-front, lent}
 use Rattle.lexer.specs.Row.{roomLeast, tokensOf, Laid, nameFrom}
 use Rattle.lexer.specs.Lexing.{Row, answerOf as lexedOf}
 use Rattle.lexer.specs.declared.Lexed.the-variants as lexed

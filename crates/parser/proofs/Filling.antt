@@ -18,8 +18,8 @@ use Rattle.rules.specs.Parsing.{Made, nothing, made, Found, found, Kept, kept, 
 use Rattle.rules.proofs.Bools.{clash}
 use Rattle.rules.proofs.Refusals.{no-got}
 use Rattle.rules.proofs.Sizes.{length-boolean}
-use Rattle.stored.specs.Laid.{laid, Put, header}
-use Rattle.stored.proofs.Laying.{laid-front, laid-all, laid-over, put-then, put-body}
+use Rattle.parts.specs.Laid.{laid, Put, header}
+use Rattle.parts.proofs.Laying.{laid-front, laid-all, laid-over, put-then, put-body}
 use Rattle.parser.specs.Kinds.{conjunctionOf, modifierOf, isKept, lastTag, bytesOf, isAlone, madeBytes, madeLength, withMade}
 use Rattle.parser.specs.Measured.{clauseRun, clausesRun, MeansFound, MeantClause}
 use Rattle.parser.specs.Written.{Eventually, boolFront, Touches}

@@ -17,8 +17,8 @@ use Rattle.rules.specs.Parsing.{Made, nothing, made, Found, found, onMade, isAt
 use Rattle.rules.proofs.Bools.{clash, split}
 use Rattle.rules.proofs.Bigs.{length-big}
 use Rattle.rules.proofs.Refusals.{no-got}
-use Rattle.stored.specs.Laid.{laid, Put, header}
-use Rattle.stored.proofs.Laying.{laid-more, laid-all, laid-none, lent, put-then}
+use Rattle.parts.specs.Laid.{laid, Put, header}
+use Rattle.parts.proofs.Laying.{laid-more, laid-all, laid-none, lent, put-then}
 use Rattle.parser.specs.Measured.{Says}
 use Rattle.parser.specs.Written.{Eventually, bitsIn, isBoosted, boostFront}
 use Rattle.parser.proofs.Bodies.{boost-none, boost-missing, boost-refused, boost-got}

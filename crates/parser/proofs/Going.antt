@@ -14,8 +14,8 @@ use Rattle.rules.specs.Lexing.{Token}
 use Rattle.rules.specs.Setup.{Setup}
 use Rattle.rules.specs.Parsing.{made, found, kept, stopsAt, kindAfter, queryOf}
 use Rattle.rules.proofs.Bools.{clash}
-use Rattle.stored.specs.Laid.{laid, Put, header}
-use Rattle.stored.proofs.Laying.{laid-all}
+use Rattle.parts.specs.Laid.{laid, Put, header}
+use Rattle.parts.proofs.Laying.{laid-all}
 use Rattle.parser.specs.Kinds.{conjunctionOf, modifierOf, isKept, bytesOf, isAlone, madeBytes, madeLength}
 use Rattle.parser.specs.Measured.{clauseRun, clausesRun, MeantClause}
 use Rattle.parser.specs.Written.{Eventually, boolFront, PutUnless, Touches}

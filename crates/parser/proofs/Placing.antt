@@ -23,8 +23,8 @@ use Rattle.rules.proofs.Bools.{clash, split}
 use Rattle.rules.proofs.Parts.{cut-from}
 use Rattle.rules.proofs.Refusals.{no-got}
 use Rattle.lexer.specs.Row.{tokensOf, nameFrom}
-use Rattle.stored.specs.Laid.{laid, Put}
-use Rattle.stored.proofs.Laying.{lent, length-laid}
+use Rattle.parts.specs.Laid.{laid, Put}
+use Rattle.parts.proofs.Laying.{lent, length-laid}
 use Rattle.parser.specs.Kinds.{Sums}
 use Rattle.parser.specs.Measured.{clausesRun, MeansKept, MeantClauses}
 use Rattle.parser.specs.Starting.{Started}

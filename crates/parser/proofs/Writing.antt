@@ -18,8 +18,8 @@ use Rattle.rules.specs.Parsing.{Made, made, operatorKind, termClauses, termOf, 
 use Rattle.rules.proofs.Bigs.{length-big}
 use Rattle.rules.proofs.Sizes.{length-term, length-phrase, length-boolean}
 use Rattle.analysis.specs.Tokens.{Found, spelled, writtenByte}
-use Rattle.stored.specs.Laid.{Put, header}
-use Rattle.stored.proofs.Laying.{laid-none, laid-all, put-then, put-body, copy-turn, copy-end}
+use Rattle.parts.specs.Laid.{Put, header}
+use Rattle.parts.proofs.Laying.{laid-none, laid-all, put-then, put-body, copy-turn, copy-end}
 use Rattle.parser.specs.Kinds.{madeBytes, madeLength}
 use Rattle.parser.specs.Leaves.{tallied, termRow, FirstWritten}
 use Rattle.parser.proofs.Tallying.{spelled-length, term-length-many, phrase-length-many}

@@ -12,7 +12,7 @@ use Rattle.rules.specs.Lexing.{Token, termKind, caretKind}
 use Rattle.rules.specs.Numerals.{numeralBits}
 use Rattle.rules.specs.Setup.{Setup}
 use Rattle.rules.specs.Parsing.{Made, made, Found, found, Kept, kept, isAt, textAt, queryOf, plainAt, quotedAt, touched}
-use Rattle.stored.specs.Laid.{Put, header}
+use Rattle.parts.specs.Laid.{Put, header}
 use Rattle.lexer.specs.Row.{tokensOf, nameFrom}
 use Rattle.parser.specs.Kinds.{conjunctionOf, lastTag, isAlone, madeLength}
 use Rattle.parser.specs.Measured.{Says, Tuned, clauseRun, clausesRun}

@@ -1,10 +1,10 @@
 // Terms and phrases: how long the query of a text is, and its bytes.
 use crate::kinds::operator_tag;
 use analysis::tokens;
-use stored::big::put_big4;
-use stored::write::put_header;
-use stored::write::put_minimum;
-use stored::write::put_part;
+use parts::big::put_big4;
+use parts::write::put_header;
+use parts::write::put_minimum;
+use parts::write::put_part;
 ghost use mathlib.Core.Path.{_≡_};
 ghost use mathlib.Core.List.{List, [], _∷_, _++_};
 ghost use Prim.Native.Nat.{ℕ, _+_, _*_, _≤_, _<_};
@@ -16,7 +16,7 @@ ghost use Rattle.rules.specs.Stored.{encode, encodeWords};
 ghost use Rattle.rules.specs.Analysis.{tokenTexts, tokenize};
 ghost use Rattle.rules.specs.Parsing.{termOf, phraseOf};
 ghost use Rattle.analysis.specs.Tokens.{spelled};
-ghost use Rattle.stored.specs.Laid.{Put};
+ghost use Rattle.parts.specs.Laid.{Put};
 ghost use Rattle.parser.specs.Kinds.{madeLength, madeBytes};
 ghost use Rattle.parser.specs.Leaves.{Tallied, termRow, leafOf, FirstWritten};
 

@@ -3,7 +3,7 @@
 use crate::kinds;
 use analysis::fields::analyzer_among;
 use lexer::row::text_at;
-use stored::bytes::is_field;
+use parts::bytes::is_field;
 ghost use mathlib.Core.Path.{_≡_};
 ghost use mathlib.Core.Bool.{_&&_};
 ghost use lib.Dec.{leb};

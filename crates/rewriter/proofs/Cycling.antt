@@ -15,7 +15,7 @@ use Rattle.rules.proofs.Bools.{fails}
 use Rattle.rules.proofs.rewriting.Measures.{bulk, bulks, bulks-are}
 use Rattle.rules.proofs.rewriting.Weights.{valid-once}
 use Rattle.rules.proofs.rewriting.Walk.{join, join-none, none-is}
-use Rattle.stored.specs.Laid.{laid, Put, header}
+use Rattle.parts.specs.Laid.{laid, Put, header}
 use Rattle.rewriter.specs.Within.{within, Stands}
 use Rattle.rewriter.specs.Once.{Room, Rooms, Ended, Went}
 use Rattle.rewriter.proofs.Standing.{within-same, joined, lower, stands-before}

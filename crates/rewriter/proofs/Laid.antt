@@ -15,8 +15,8 @@ use Rattle.rules.specs.Rewriting.{scores, summable, base, boostOf, reboosted}
 use Rattle.rules.specs.ByPlace.{held, total, sumFrom}
 use Rattle.rules.proofs.Bools.{split}
 use Rattle.rules.proofs.rewriting.Boosts.{one-one}
-use Rattle.stored.specs.Laid.{laid, Put, header}
-use Rattle.stored.proofs.Laying.{before-laid, length-laid, put-then, put-body}
+use Rattle.parts.specs.Laid.{laid, Put, header}
+use Rattle.parts.proofs.Laying.{before-laid, length-laid, put-then, put-body}
 use Rattle.rewriter.specs.Within.{within}
 use Rattle.rewriter.specs.Merge.{reboostedBytes}
 use Rattle.rewriter.proofs.Standing.{within-laid, within-length}

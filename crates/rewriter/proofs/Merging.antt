@@ -15,8 +15,8 @@ use Rattle.rules.specs.Checked.{Is, Are, Stored, StoredClauses}
 use Rattle.rules.specs.Rewriting.{reboosted}
 use Rattle.rules.specs.ByPlace.{held, seen, sumFrom, snoc, mergedByPlace}
 use Rattle.rules.proofs.rewriting.Walk.{join, join-none}
-use Rattle.stored.specs.Laid.{laid, Put}
-use Rattle.stored.proofs.Laying.{there-laid}
+use Rattle.parts.specs.Laid.{laid, Put}
+use Rattle.parts.proofs.Laying.{there-laid}
 use Rattle.rewriter.specs.Within.{within, Stands}
 use Rattle.rewriter.specs.Merge.{MergedIs, reboostedBytes, Mergeable}
 use Rattle.rewriter.proofs.Standing.{within-length, joined, second, lower}

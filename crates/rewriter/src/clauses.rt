@@ -1,5 +1,5 @@
 // What a row of stored clauses shows: which kinds it has, and whether it is one clause.
-use stored::part::rest;
+use parts::part::rest;
 ghost use mathlib.Core.Path.{_≡_};
 ghost use mathlib.Core.Bool.{true};
 ghost use Prim.Native.Nat.{ℕ, _+_, _<_, _≤_};

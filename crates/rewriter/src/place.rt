@@ -1,12 +1,12 @@
 // Bytes moved within one room. A room cannot be lent as two, so what is read and what is written are places in the same slice.
-use stored::part::size_of;
+use parts::part::size_of;
 ghost use mathlib.Core.Path.{_≡_};
 ghost use mathlib.Core.Bool.{true};
 ghost use mathlib.Core.Logic.{_⊎_};
 ghost use Prim.Native.Nat.{_+_, _≤_};
 ghost use lib.ListN.{length, take, drop};
 ghost use Rattle.rules.specs.Bytes.{wholeOf, sizeOf};
-ghost use Rattle.stored.specs.Laid.{Put};
+ghost use Rattle.parts.specs.Laid.{Put};
 
 // Lays the n bytes that stand at `from` at `to`, lower down or behind them, and gives the place behind what was laid.
 pub fn shift(room: &mut [u8], to: usize, from: usize, n: usize) -> usize

@@ -1,9 +1,9 @@
 // Rounds, until one changes nothing; and the call.
 use crate::once::rewrite_once;
 use crate::place::shift;
-use stored::bytes::clear;
-use stored::bytes::copy;
-use stored::bytes::same;
+use parts::bytes::clear;
+use parts::bytes::copy;
+use parts::bytes::same;
 use stored::read::for_rewriting;
 ghost use mathlib.Core.Path.{_≡_};
 ghost use Rattle.rules.specs.Query.{Query};

@@ -1,9 +1,9 @@
 // An entry of a record: its kind, its field, and its text and position or the bits of its number.
-use stored::big::big4;
-use stored::big::big8;
-use stored::part::body;
-use stored::part::rest;
-use stored::part::tag_of;
+use parts::big::big4;
+use parts::big::big8;
+use parts::part::body;
+use parts::part::rest;
+use parts::part::tag_of;
 ghost use mathlib.Core.Path.{_≡_};
 ghost use Prim.Native.Nat.{_<_, _^_};
 ghost use mathlib.Core.Bool.{true, false};

@@ -3,9 +3,9 @@
 // y + p == o + x. Positions have 32 bits, so that neither sum overflows, and no sign is needed.
 use super::entry::position;
 use super::term::is_here;
-use stored::big::big4;
-use stored::part::body;
-use stored::part::rest;
+use parts::big::big4;
+use parts::part::body;
+use parts::part::rest;
 ghost use mathlib.Core.Path.{_≡_};
 ghost use Prim.Native.Nat.{_<_, _^_};
 ghost use mathlib.Core.Bool.{true};

@@ -1,11 +1,11 @@
 // Selection: the numbers, from 0, of the records that a query is true of, into rows that the caller lends. The query and the list are checked
 // once. Whether the rows are long enough is known at once where they hold every record; only else is it counted before anything is written.
 use super::truth::holds;
-use stored::big::put_big4;
-use stored::bytes::clear;
+use parts::big::put_big4;
+use parts::bytes::clear;
+use parts::part::body;
+use parts::part::rest;
 use stored::list::check_list;
-use stored::part::body;
-use stored::part::rest;
 use stored::read::for_selection;
 ghost use mathlib.Core.Path.{_≡_};
 ghost use Prim.Native.Nat.{_+_, _≤_};
@@ -18,7 +18,7 @@ ghost use Rattle.rules.specs.Reading.{numberOf};
 ghost use Rattle.rules.specs.Lists.{isRecord, recordOf};
 ghost use Rattle.rules.specs.Matching.{bit};
 ghost use Rattle.rules.specs.Answers.{selected, rowBytes};
-ghost use Rattle.stored.specs.Laid.{Put};
+ghost use Rattle.parts.specs.Laid.{Put};
 ghost use Rattle.selection.specs.Select.{listed, Selects, SelectsBytes};
 
 // A refusal by its number, or how many records were chosen.

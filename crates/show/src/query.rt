@@ -2,9 +2,9 @@
 use crate::node::put_node;
 use crate::put::put;
 use crate::put::put_decimal;
-use stored::part::body;
-use stored::part::rest;
-use stored::part::tag_of;
+use parts::part::body;
+use parts::part::rest;
+use parts::part::tag_of;
 ghost use Rattle.rules.specs.Checked.{Stored};
 ghost use Rattle.rules.specs.Show.{line, show, showClauses};
 ghost use Rattle.show.specs.Lays.{Lays};

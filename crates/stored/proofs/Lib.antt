@@ -1,5 +1,3 @@
-pub mod Joining
-pub mod Laying
 pub mod Lister
 pub mod Opening
 pub mod Plainly

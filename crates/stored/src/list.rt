@@ -1,12 +1,12 @@
 // The reader of catalogue lists, by the same parts: 0 where every record and every entry in it is sound, else 22 or 23.
-use super::part::body;
-use super::part::is_field_part;
-use super::part::is_part;
-use super::part::is_part_of;
-use super::part::is_plain;
-use super::part::rest;
-use super::part::whole;
 use super::read::is_word;
+use parts::part::body;
+use parts::part::is_field_part;
+use parts::part::is_part;
+use parts::part::is_part_of;
+use parts::part::is_plain;
+use parts::part::rest;
+use parts::part::whole;
 ghost use mathlib.Core.Path.{_≡_};
 ghost use Rattle.rules.specs.Numbers.{placeTag};
 ghost use Rattle.rules.specs.Bytes.{every};

@@ -1,17 +1,17 @@
 // The reader of stored queries, for both limits: 0 where the bytes are one query's stored form, else 19, 20 or 21 in reading order.
 // No function here calls itself: a scheduler's thread has little stack, and a query may nest 192 records.
-use super::big::big4;
-use super::bytes::is_field;
-use super::bytes::is_text;
-use super::part::body;
-use super::part::is_field_part;
-use super::part::is_part;
-use super::part::is_part_of;
-use super::part::is_plain;
-use super::part::is_within;
-use super::part::rest;
-use super::part::size_of;
-use super::part::whole;
+use parts::big::big4;
+use parts::bytes::is_field;
+use parts::bytes::is_text;
+use parts::part::body;
+use parts::part::is_field_part;
+use parts::part::is_part;
+use parts::part::is_part_of;
+use parts::part::is_plain;
+use parts::part::is_within;
+use parts::part::rest;
+use parts::part::size_of;
+use parts::part::whole;
 ghost use mathlib.Core.Path.{_≡_};
 ghost use Prim.Native.Nat.{_≤_, _<_};
 ghost use lib.ListN.{length};

@@ -1,6 +1,6 @@
 -- `parser::leaf::put_clause` meets its contract.
 use Rattle.parser.proofs.Tallying.{spelled-length}
-use Rattle.stored.proofs.Laying.{put-body}
+use Rattle.parts.proofs.Laying.{put-body}
 use Rattle.analysis.specs.Tokens.{spelled}
 use Rattle.rules.proofs.Sizes.{length-term}
 use native.Mathlib.Omega.{arith}

@@ -1,9 +1,9 @@
 -- `parser::leaf::write_first` meets its contract.
-use Rattle.stored.specs.Laid.{laid}
+use Rattle.parts.specs.Laid.{laid}
 use mathlib.Core.List.{List}
 use Prim.Native.Nat.{ℕ}
 use Rattle.parser.proofs.Writing.{first-slice, first-size, slice-length}
-use Rattle.stored.proofs.Laying.{laid-all}
+use Rattle.parts.proofs.Laying.{laid-all}
 use Rattle.rules.specs.Query.{term}
 use Rattle.rules.specs.Stored.{encode}
 use Rattle.rules.proofs.Sizes.{length-term}

@@ -1,6 +1,6 @@
 -- `parser::write::put_query_front` meets its contract.
 use mathlib.Core.Path.{refl, _∙_}
-use Rattle.stored.proofs.Laying.{put-then}
+use Rattle.parts.proofs.Laying.{put-then}
 use native.Mathlib.Omega.{arith}
 use Rattle.parser.proofs.write.put_query_front.Statement.{statement}
 use Rattle.parser.proofs.write.put_query_front.Tie as tie

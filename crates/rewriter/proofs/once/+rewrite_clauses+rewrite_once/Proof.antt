@@ -12,9 +12,9 @@ use borrow.Fn.PlainCycle.{Measures, is, falls, and}
 use Rattle.rules.proofs.Parts as parts
 use Rattle.rules.specs.Bytes.{ofBig}
 use Rattle.boost.proofs.sums.is_one_bits.Reads as is-one-bits-reads
-use Rattle.stored.proofs.big.big2.Reads as big2-reads
-use Rattle.stored.proofs.big.big4.Reads as big4-reads
-use Rattle.stored.proofs.write.put_header.Reads as put-header-reads
+use Rattle.parts.proofs.big.big2.Reads as big2-reads
+use Rattle.parts.proofs.big.big4.Reads as big4-reads
+use Rattle.parts.proofs.write.put_header.Reads as put-header-reads
 use Rattle.rewriter.proofs.Cycling as cycling
 use Rattle.rewriter.proofs.Nested as nested
 use Rattle.rewriter.proofs.Placed as placed

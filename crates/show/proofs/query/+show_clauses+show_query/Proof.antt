@@ -24,9 +24,9 @@ use Rattle.show.proofs.query.show_query.Reads as show-query
 use Rattle.show.proofs.query.show_query.Kinds as show-query-kinds
 use Rattle.show.proofs.query.+show_clauses+show_query.Lts-show_query as show-query-lts
 use Rattle.show.proofs.query.put_line.Reads as put-line-reads
-use Rattle.stored.proofs.part.body.Reads as body-reads
-use Rattle.stored.proofs.part.rest.Reads as rest-reads
-use Rattle.stored.proofs.part.tag_of.Reads as tag-of-reads
+use Rattle.parts.proofs.part.body.Reads as body-reads
+use Rattle.parts.proofs.part.rest.Reads as rest-reads
+use Rattle.parts.proofs.part.tag_of.Reads as tag-of-reads
 use Rattle.show.proofs.query.+show_clauses+show_query.{statement}
 use Rattle.show.proofs.query.+show_clauses+show_query.Tie.{close}
 
