@@ -1,8 +1,3 @@
-pub mod Model
-pub mod Widen
-pub mod Shift
-pub mod Narrow
-pub mod Nans
 pub mod Limbs
 pub mod Tens
 pub mod Rises

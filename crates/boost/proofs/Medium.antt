@@ -17,7 +17,7 @@ use Rattle.rules.specs.Numerals.{nearest}
 use Rattle.rules.proofs.Nearest.{bound-zero}
 use Rattle.rules.proofs.NearestOrder.{near-lt, near-eq, near-gt}
 use Rattle.rules.proofs.NearestPattern.{size-exact, units-bits}
-use Rattle.boost.proofs.Model.{Top, top-of, pow-lt-back, normal-lo}
+use Rattle.floats.proofs.Model.{Top, top-of, pow-lt-back, normal-lo}
 use Rattle.boost.proofs.Tens.{ten-pos, ten-mono}
 
 -- ---- powers of ten

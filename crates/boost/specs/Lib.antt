@@ -1,4 +1,3 @@
-pub mod Bits
 pub mod Row
 pub mod Bisect
 pub mod Digits

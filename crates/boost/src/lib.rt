@@ -1,10 +1,8 @@
-// Boost numerals, the conversions between 32-bit and 64-bit floats, and the sum and product of boosts.
+// Boost numerals: from a text to the bits of the nearest 32-bit float.
 mod bisect;
-pub mod bits;
 mod decimal;
 mod digits;
 pub mod numeral;
 mod quick;
 mod row;
-pub mod sums;
 mod wide;

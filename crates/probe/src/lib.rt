@@ -22,19 +22,19 @@ pub extern "C" fn probe_numeral(text: &[u8]) -> u64
 pub extern "C" fn probe_widen(b: u32) -> u64
     ensures { λ r. ⌜ r ≡ toBits binary64 (widened b) ⌝ }
 {
-    boost::bits::widen(b)
+    floats::bits::widen(b)
 }
 
 #[no_mangle]
 pub extern "C" fn probe_narrow(b: u64) -> u32
     ensures { λ r. ⌜ r ≡ narrowed (ofBits binary64 b) ⌝ }
 {
-    boost::bits::narrow(b)
+    floats::bits::narrow(b)
 }
 
 #[no_mangle]
 pub extern "C" fn probe_product(a: u32, b: u32) -> u32
     ensures { λ r. ⌜ r ≡ times a b ⌝ }
 {
-    boost::sums::product(a, b)
+    floats::sums::product(a, b)
 }

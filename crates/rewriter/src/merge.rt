@@ -2,10 +2,10 @@
 // A merged clause travels as base, kind and its running float sum.
 use crate::place::end_of;
 use crate::place::shift;
-use boost::sums::add;
-use boost::sums::as_sum;
-use boost::sums::is_one;
-use boost::sums::rounded_bits;
+use floats::sums::add;
+use floats::sums::as_sum;
+use floats::sums::is_one;
+use floats::sums::rounded_bits;
 use parts::big::big4;
 use parts::big::put_big4;
 use parts::bytes::same;

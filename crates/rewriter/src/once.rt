@@ -8,7 +8,7 @@ use crate::over::rewrite_boolean;
 use crate::over::score_over;
 use crate::place::end_of;
 use crate::place::shift;
-use boost::sums::is_one_bits;
+use floats::sums::is_one_bits;
 use parts::big::big2;
 use parts::big::big4;
 use parts::write::put_header;

@@ -6,7 +6,7 @@ use crate::clauses::should_count;
 use crate::merge::merge_clauses;
 use crate::place::end_of;
 use crate::place::shift;
-use boost::sums::product;
+use floats::sums::product;
 use parts::big::big4;
 use parts::big::put_big4;
 use parts::write::put_header;

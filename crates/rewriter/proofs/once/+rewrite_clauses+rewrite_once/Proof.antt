@@ -11,7 +11,7 @@ use borrow.Fn.Kinds.{In}
 use borrow.Fn.PlainCycle.{Measures, is, falls, and}
 use Rattle.rules.proofs.Parts as parts
 use Rattle.rules.specs.Bytes.{ofBig}
-use Rattle.boost.proofs.sums.is_one_bits.Reads as is-one-bits-reads
+use Rattle.floats.proofs.sums.is_one_bits.Reads as is-one-bits-reads
 use Rattle.parts.proofs.big.big2.Reads as big2-reads
 use Rattle.parts.proofs.big.big4.Reads as big4-reads
 use Rattle.parts.proofs.write.put_header.Reads as put-header-reads

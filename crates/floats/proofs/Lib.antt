@@ -1,0 +1,5 @@
+pub mod Model
+pub mod Widen
+pub mod Shift
+pub mod Narrow
+pub mod Nans
