@@ -70,6 +70,8 @@ static void parsing(void) {
     print("parse", "24 brackets, a numeral of 40 bytes inside", call_parse);
     put_text("", "-name:(+other:(", 12, "\"a b\"^7.006492321624085354618647916449580e\\-46))))))))))))))))))))))))");
     print("parse", "24 brackets with fields, a tiny numeral", call_parse);
+    put_text("", "-(", 24, "a^7.006492321624085354618647916449580e\\-46))))))))))))))))))))))))");
+    print("parse", "24 prohibited brackets, a tiny numeral", call_parse);
     put_text("", "(", 25, "");
     print("parse", "a 25th bracket", call_parse);
 }

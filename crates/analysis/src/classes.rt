@@ -1,6 +1,6 @@
 // The classes of bytes: whitespace, term end and letter in one table, and what the analyzers make of them.
-// A constant is laid out anew wherever it is read. So a loop makes the table once, by `table`, and lends it to the functions that
-// end in `_in`; the others are for a byte or two.
+// A constant is laid out anew wherever it is read. So a loop names `CLASSES` once and lends it to the functions that end in `_in`;
+// the others are for a byte or two. What `table` returns is copied once more, which a loop's start would feel.
 ghost use mathlib.Core.Path.{_≡_};
 ghost use Rattle.rules.specs.Analysis.{classes, isSpace, endsTerm, isLetter, isGap};
 ghost use Rattle.rules.specs.Analysis.{lower as lowered};
