@@ -1,21 +1,22 @@
 -- The entries of a setup, read one after the other into arrays. Assumes nothing.
-use mathlib.Core.Path.{_≡_, refl, sym, ap, subst, _∙_}
+use mathlib.Core.Path.{_≡_, refl, sym, ap, _∙_}
 use mathlib.Core.Logic.{_⊎_, inl, inr, ⊎-elim}
-use mathlib.Core.Bool.{Bool, true, false, not, _&&_}
+use mathlib.Core.Bool.{Bool, true, false, _&&_}
 use Prim.Native.Nat.{ℕ, zero, suc, _+_, _-_, _*_, _≤_, _<_, min}
 use mathlib.Core.List.{List, [], _∷_, _++_, append-assoc, append-nil}
+use native.Mathlib.Decide.{ℕ-discrete}
 use native.Mathlib.Omega.{arith}
 use native.Mathlib.Numerals.{add-one}
 use lib.Dec.{leb}
 use lib.ListN.{length, take, drop, getD, set, length-append, length-drop, length-set, drop-of-length-le}
-use lib.Seq.{drop-cons, drop-drop, getD-set-same, getD-set-other, take-suc, take-length, length-take-le}
+use lib.Seq.{drop-cons, drop-drop, set-getD, set-set, getD-set-same, getD-set-other, take-suc, take-length, length-take-le}
 use borrow.Author.Tests.{le-leb, lt-leb, leb-true}
-use Rattle.rules.specs.Numbers.{Refusal, Read, got, refused, need, onRead, andThen, badSetup}
-use Rattle.rules.specs.Bytes.{all, isField, isEmpty}
-use Rattle.rules.specs.Setup.{FieldEntry, fieldEntry, Setup, isAnalyzer, isFieldEntry, isSetup, entriesStep, entriesIn, setupWith, readSetup}
+use Rattle.rules.specs.Numbers.{Read, got, refused, need, onRead, badSetup}
+use Rattle.rules.specs.Bytes.{all, isField}
+use Rattle.rules.specs.Setup.{FieldEntry, fieldEntry, isAnalyzer, isFieldEntry, isSetup, entriesStep, entriesIn, setupWith, readSetup}
 use Rattle.rules.proofs.Bools.{clash, both, and-l, and-no-l, and-no-r}
 use Rattle.analysis.specs.Fields.{rowText, entryAt, entriesTo, arrayEntries}
-use Rattle.parser.specs.Noted.{Entered}
+use Rattle.parser.specs.Noted.{RowPut, Entered}
 
 -- ---- rows
 
@@ -128,6 +129,49 @@ module _ (names : List (List ℕ)) (lengths analyzers : List ℕ) (count : ℕ) 
       let m : min len 32 ≡ len = omega arith in
       rw add-one (rw (to-set count (omega arith), getD-set-same names count row [] h, getD-set-same lengths count len 0 i, getD-set-same analyzers count a 0 j, m, e))
 
+row-lengths : (names : List (List ℕ)) (row : List ℕ) (count k : ℕ) → count < length names → length row ≡ 32 → length (getD names k []) ≡ 32
+    → length (getD (set names count row) k []) ≡ 32
+row-lengths names row count k h l e = by (ℕ-discrete k count)
+  where
+    by : Dec (k ≡ count) → length (getD (set names count row) k []) ≡ 32
+    by (yes q) = rw (q, getD-set-same names count row [] h) l
+    by (no n) = rw (getD-set-other names count k row [] n) e
+
+-- a byte of a name laid in its row
+pub record Rowing (names₀ : List (List ℕ)) (k : ℕ) (s : List ℕ) (names : List (List ℕ)) (i : ℕ) : Type 0 where
+  pub row : List ℕ
+  pub upto : i ≤ length s
+  pub at : names ≡ set names₀ k row
+  pub full : length row ≡ 32
+  pub text : rowText i row ≡ take i s
+
+pub rowing-starts : (names : List (List ℕ)) (k : ℕ) (s : List ℕ) → length (getD names k []) ≡ 32 → Rowing names k s names 0
+rowing-starts names k s l = record {
+  row = getD names k [];
+  upto = omega arith;
+  at = sym (set-getD names k []);
+  full = l;
+  text = row-start (getD names k []) s;
+}
+
+module _ {names₀ : List (List ℕ)} {k : ℕ} {s : List ℕ} {names : List (List ℕ)} {i : ℕ} (R : Rowing names₀ k s names i) where
+  pub rowing-turn : (x : ℕ) (d : List ℕ) → k < length names₀ → length s ≤ 32 → i < length s → x ≡ getD s i 0
+      → Rowing names₀ k s (set names k (set (getD names k d) i x)) (i + 1)
+  rowing-turn x d h m l e =
+      let r : getD names k d ≡ R .row = ap (λ (z : List (List ℕ)). getD z k d) (R .at) ∙ getD-set-same names₀ k (R .row) d h in
+      record {
+        row = set (R .row) i x;
+        upto = omega arith;
+        at =
+            ap (λ (z : List ℕ). set names k (set z i x)) r ∙ ap (λ (z : List (List ℕ)). set z k (set (R .row) i x)) (R .at)
+            ∙ set-set names₀ k (R .row) (set (R .row) i x);
+        full = rw length-set (R .full);
+        text = row-turn (R .row) s i x (omega (arith, R .full)) l e (R .text);
+      }
+
+  pub rowing-ends : length s ≤ i → RowPut names₀ k s names
+  rowing-ends l = (R .row, R .at, R .full, row-end (R .row) s i (R .upto) l (R .text))
+
 -- ---- the loop
 
 pub record Entering (fields : List ℕ) (names : List (List ℕ)) (lengths analyzers : List ℕ) (at count : ℕ) : Type 0 where
@@ -138,12 +182,13 @@ pub record Entering (fields : List ℕ) (names : List (List ℕ)) (lengths analy
   pub good : all isFieldEntry (entriesTo names lengths analyzers count) ≡ true
   pub counted : length (entriesTo names lengths analyzers count) ≡ count
   pub eight : (length names ≡ 8) × (length lengths ≡ 8) × (length analyzers ≡ 8)
+  pub rows : (k : ℕ) → k < 8 → length (getD names k []) ≡ 32
 
 on-same : (r : Read (List FieldEntry)) → r ≡ onRead (λ rest. rest) r
 on-same (got es) = refl
 on-same (refused x) = refl
 
-pub entering-starts : (fields : List ℕ) (names : List (List ℕ)) (lengths analyzers : List ℕ) → (length names ≡ 8) × (length lengths ≡ 8) × (length analyzers ≡ 8)
+pub entering-starts : (fields : List ℕ) (names : List (List ℕ)) (lengths analyzers : List ℕ) → (length names ≡ 8) × (length lengths ≡ 8) × (length analyzers ≡ 8) × ((k : ℕ) → k < 8 → length (getD names k []) ≡ 32)
     → Entering fields names lengths analyzers 0 0
 unfolding entriesTo all
 entering-starts fields names lengths analyzers h = record {
@@ -153,7 +198,8 @@ entering-starts fields names lengths analyzers h = record {
   reads = ap (λ (k : ℕ). entriesIn k fields) (omega arith) ∙ on-same _;
   good = refl;
   counted = refl;
-  eight = h;
+  eight = (h .0, h .1, h .2);
+  rows = h .3;
 }
 
 module _ {fields : List ℕ} {names : List (List ℕ)} {lengths analyzers : List ℕ} {at count : ℕ} (E : Entering fields names lengths analyzers at count) where
@@ -241,10 +287,10 @@ module _ {fields : List ℕ} {names : List (List ℕ)} {lengths analyzers : List
         on-on (refused x) = refl
 
         pub entering-on : (count ≡ 8 → ⊥) → isFieldEntry (fieldEntry a (take (at + 2 + len - (at + 2)) (drop (at + 2) fields))) ≡ true → len ≤ 32
-            → (row : List ℕ) → rowText (length (take (at + 2 + len - (at + 2)) (drop (at + 2) fields))) row ≡ take (at + 2 + len - (at + 2)) (drop (at + 2) fields)
+            → (row : List ℕ) → length row ≡ 32 → rowText (length (take (at + 2 + len - (at + 2)) (drop (at + 2) fields))) row ≡ take (at + 2 + len - (at + 2)) (drop (at + 2) fields)
             → Entering fields (set names count row) (set lengths count len) (set analyzers count a) (at + 2 + len) (count + 1)
         unfolding name
-        entering-on c w short row e =
+        entering-on c w short row full e =
             let y : at + 2 + len - (at + 2) ≡ len = omega arith in
             let nl : length (take (at + 2 + len - (at + 2)) (drop (at + 2) fields)) ≡ len = ap (λ (k : ℕ). length (take k (drop (at + 2) fields))) y ∙ length-take-le len (drop (at + 2) fields) (rw length-drop m) in
             let z = set-one names lengths analyzers count row len a (omega (arith, E .few, E .eight .0)) (omega (arith, E .few, E .eight .1)) (omega (arith, E .few, E .eight .2)) short name (ap (λ (k : ℕ). rowText k row) (sym nl) ∙ e) in
@@ -256,6 +302,7 @@ module _ {fields : List ℕ} {names : List (List ℕ)} {lengths analyzers : List
               good = ap (all isFieldEntry) z ∙ all-last isFieldEntry (entriesTo names lengths analyzers count) (fieldEntry a name) (E .good) w;
               counted = ap length z ∙ length-append (entriesTo names lengths analyzers count) (fieldEntry a name ∷ []) ∙ omega (arith, E .counted);
               eight = (rw length-set (E .eight .0), rw length-set (E .eight .1), rw length-set (E .eight .2));
+              rows = λ k h. row-lengths names row count k (omega (arith, E .few, E .eight .0)) full (E .rows k h);
             }
 
 pub field-short : (s : List ℕ) → isField s ≡ true → length s ≤ 32

@@ -9,15 +9,15 @@ ghost use mathlib.Core.Bool.{_&&_};
 ghost use lib.Dec.{leb};
 ghost use Rattle.rules.specs.Numbers.{andOperator};
 ghost use Rattle.rules.specs.Bytes.{isField};
-ghost use mathlib.Core.List.{List};
+ghost use mathlib.Core.List.{List, []};
 ghost use Prim.Native.Nat.{ℕ, _+_, _*_, _-_, _≤_, _<_};
-ghost use lib.ListN.{length};
+ghost use lib.ListN.{length, getD};
 ghost use Rattle.rules.specs.Setup.{isAnalyzer, analyzerAmong};
 ghost use Rattle.rules.specs.Parsing.{textAt};
-ghost use Rattle.analysis.specs.Fields.{rowText, arrayEntries};
+ghost use Rattle.analysis.specs.Fields.{arrayEntries};
 ghost use Rattle.lexer.specs.Row.{tokensOf};
 ghost use Rattle.parser.specs.Measured.{Rowed, isNamed, noteAt};
-ghost use Rattle.parser.specs.Noted.{Entered, Noted};
+ghost use Rattle.parser.specs.Noted.{RowPut, Entered, Noted};
 
 fn is_analyzer(a: u8) -> bool
     ensures { λ r. ⌜ r ≡ isAnalyzer a ⌝ }
@@ -41,18 +41,16 @@ pub fn is_plain(operator: u8, analyzer: u8, field: &[u8]) -> bool
     is_field(field)
 }
 
-// A name as a row of 32 bytes.
-fn row_of(s: &[u8]) -> [u8; 32]
-    requires { ⌜ length (now s) ≤ 32 ⌝ }
-    ensures { λ r. ⌜ rowText (length (now (s .entry))) r ≡ now (s .entry) ⌝ }
+// Lays a name in the k-th row.
+fn put_row(names: &mut [[u8; 32]; 8], k: usize, s: &[u8])
+    requires { ⌜ (k < length (now names)) × (length (now names) ≡ 8) × (length (getD (now names) k []) ≡ 32) × (length (now s) ≤ 32) ⌝ }
+    ensures { λ _. ⌜ RowPut (now (names .entry)) k (now (s .entry)) (now (names .exit)) ⌝ }
 {
-    let mut row = [0u8; 32];
-    let mut k = 0;
-    while k < s.len() {
-        row[k] = s[k];
-        k += 1;
+    let mut i = 0;
+    while i < s.len() {
+        names[k][i] = s[i];
+        i += 1;
     }
-    row
 }
 
 // Reads the entries into the arrays, and returns how many there are; 9 where they break a rule.
@@ -62,7 +60,7 @@ pub fn read_entries(
     lengths: &mut [u8; 8],
     analyzers: &mut [u8; 8],
 ) -> usize
-    requires { ⌜ (length (now names) ≡ 8) × (length (now lengths) ≡ 8) × (length (now analyzers) ≡ 8) ⌝ }
+    requires { ⌜ (length (now names) ≡ 8) × (length (now lengths) ≡ 8) × (length (now analyzers) ≡ 8) × ((k : ℕ) → k < 8 → length (getD (now names) k []) ≡ 32) ⌝ }
     ensures { λ r. ⌜ Entered (now (fields .entry)) (now (names .exit)) (now (lengths .exit)) (now (analyzers .exit)) r ⌝ }
 {
     let mut at = 0;
@@ -88,7 +86,7 @@ pub fn read_entries(
         if !is_field(name) {
             return 9;
         }
-        names[count] = row_of(name);
+        put_row(names, count, name);
         lengths[count] = len;
         analyzers[count] = analyzer;
         count += 1;

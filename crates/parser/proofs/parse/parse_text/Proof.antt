@@ -8,7 +8,8 @@ use Rattle.rules.specs.Setup.{Setup}
 use Rattle.rules.specs.Lexing.{Token}
 use Rattle.rules.specs.Numbers.{Read, andThen, badSetup, longText, notAscii}
 use Rattle.analysis.specs.Fields.{arrayEntries}
-use mathlib.Core.List.{List}
+use mathlib.Core.List.{List, []}
+use lib.ListN.{length, replicate, getD-replicate}
 use mathlib.Core.Path.{refl, sym, ap, subst, _∙_}
 use native.Mathlib.Omega.{arith}
 use borrow.Author.Needs.{needs}
@@ -16,7 +17,7 @@ use Rattle.parser.proofs.parse.parse_text.Statement.{statement}
 use Rattle.parser.proofs.parse.parse_text.Tie as tie
 
 read-entries-requires : tie.Need-read-entries-requires
-read-entries-requires c κs = (refl, refl, refl)
+read-entries-requires c κs = (refl, refl, refl, λ k h. ap length (getD-replicate 8 k (replicate 32 0) [] h))
 
 returns : tie.Need-returns
 returns c = refuses (c .before .before .before .before .before .before .before .before .before .before .args .out .now) 3 {x = badSetup} (setup-refused (c .before .before .before .before .before .before .before .before .before .before .args .operator) (c .before .before .before .before .before .before .before .before .before .before .args .analyzer) (c .before .before .before .before .before .before .before .before .before .before .args .field .now) (c .before .before .before .before .before .before .before .before .before .before .args .fields .now) (λ st. parse st (c .before .before .before .before .before .before .before .before .before .before .args .text .now)) (c .before .read-entries .ensures .broken (c .if1 .taken) (c .before .before .before .before .before .before .before .before .before .before .args .operator) (c .before .before .before .before .before .before .before .before .before .before .args .analyzer) (c .before .before .before .before .before .before .before .before .before .before .args .field .now))) refl

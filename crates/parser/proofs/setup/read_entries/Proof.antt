@@ -1,12 +1,12 @@
 -- `parser::setup::read_entries` meets its contract.
-use lib.ListN.{length, take, drop, getD}
+use lib.ListN.{length, take, drop, getD, set}
 use Rattle.parser.proofs.Entries.{Entering, entering-starts, entering-cut, entering-short, entering-many, entering-broken, entering-on, entering-ends, field-short}
 use Rattle.parser.proofs.Writing.{slice-length}
 use Rattle.rules.proofs.Bools.{told-no, told-yes, both, and-no-l, and-no-r}
 use Rattle.rules.specs.Setup.{isAnalyzer}
-use lib.ListN.{length, getD}
-use Prim.Native.Nat.{_+_, _-_}
-use mathlib.Core.Path.{refl}
+use Prim.Native.Nat.{ℕ, _+_, _-_}
+use mathlib.Core.List.{List}
+use mathlib.Core.Path.{refl, sym, subst}
 use native.Mathlib.Omega.{arith}
 use borrow.Author.Needs.{needs}
 use Rattle.parser.proofs.setup.read_entries.Statement.{statement}
@@ -79,29 +79,23 @@ is-field-requires c κs = search needs
 returns-5 : tie.Need-returns-5 Inv-loop μ-loop
 returns-5 c = entering-broken (c .before .before .before .before .before .before .before .before .before .before .before .loop .inv) (c .before .before .before .before .before .before .before .before .before .before .loop-test .taken) (c .before .before .before .before .before .before .before .before .before .if1 .left) (getD (c .before .before .before .before .before .before .before .before .before .before .before .before .before .args .fields .now) (c .before .before .before .before .before .before .before .before .before .before .before .loop .at) 0) (getD (c .before .before .before .before .before .before .before .before .before .before .before .before .before .args .fields .now) (c .before .before .before .before .before .before .before .before .before .before .before .loop .at + 1) 0) refl refl (c .before .before .before .before .before .before .if2 .left) (and-no-r (isAnalyzer (getD (c .before .before .before .before .before .before .before .before .before .before .before .before .before .args .fields .now) (c .before .before .before .before .before .before .before .before .before .before .before .loop .at) 0)) (told-no (c .before .is-field .ensures) (c .if5 .taken)))
 
-row-of-requires : tie.Need-row-of-requires Inv-loop μ-loop
-row-of-requires c κs = field-short (take (c .before .before .before .before .before .before .before .before .before .before .before .loop .at + 2 + (getD (c .before .before .before .before .before .before .before .before .before .before .before .before .before .args .fields .now) (c .before .before .before .before .before .before .before .before .before .before .before .loop .at + 1) 0) - (c .before .before .before .before .before .before .before .before .before .before .before .loop .at + 2)) (drop (c .before .before .before .before .before .before .before .before .before .before .before .loop .at + 2) (c .before .before .before .before .before .before .before .before .before .before .before .before .before .args .fields .now))) (told-yes (c .before .is-field .ensures) (c .if5 .left))
-
-mul-t12 : tie.Need-mul-t12 Inv-loop μ-loop
-mul-t12 c = omega (arith, c .before .before .before .before .before .before .before .before .before .before .before .before .loop .inv .few)
-
-element-set-from-names : tie.Need-element-set-from-names Inv-loop μ-loop
-element-set-from-names c = omega (arith, c .before .before .before .before .before .before .before .before .before .before .before .before .loop .inv .few, c .before .before .before .before .before .before .if3 .left)
+put-row-requires : tie.Need-put-row-requires Inv-loop μ-loop
+put-row-requires c κs = (omega (arith, c .before .before .before .before .before .before .before .before .before .before .before .before .loop .inv .few, c .before .before .before .before .before .before .if3 .left, c .before .before .before .before .before .before .before .before .before .before .before .before .loop .inv .eight .0), c .before .before .before .before .before .before .before .before .before .before .before .before .loop .inv .eight .0, c .before .before .before .before .before .before .before .before .before .before .before .before .loop .inv .rows (c .before .before .before .before .before .before .before .before .before .before .before .before .loop .count) (omega (arith, c .before .before .before .before .before .before .before .before .before .before .before .before .loop .inv .few, c .before .before .before .before .before .before .if3 .left)), field-short (take (c .before .before .before .before .before .before .before .before .before .before .before .before .loop .at + 2 + (getD (c .before .before .before .before .before .before .before .before .before .before .before .before .before .before .args .fields .now) (c .before .before .before .before .before .before .before .before .before .before .before .before .loop .at + 1) 0) - (c .before .before .before .before .before .before .before .before .before .before .before .before .loop .at + 2)) (drop (c .before .before .before .before .before .before .before .before .before .before .before .before .loop .at + 2) (c .before .before .before .before .before .before .before .before .before .before .before .before .before .before .args .fields .now))) (told-yes (c .before .before .is-field .ensures) (c .before .if5 .left)))
 
 element-write-lengths : tie.Need-element-write-lengths Inv-loop μ-loop
-element-write-lengths c = omega (arith, c .before .before .before .before .before .before .before .before .before .before .before .before .loop .inv .few, c .before .before .before .before .before .before .if3 .left)
+element-write-lengths c = omega (arith, c .before .before .before .before .before .before .before .before .before .before .before .before .before .loop .inv .few, c .before .before .before .before .before .before .before .if3 .left)
 
 element-write-analyzers : tie.Need-element-write-analyzers Inv-loop μ-loop
-element-write-analyzers c = omega (arith, c .before .before .before .before .before .before .before .before .before .before .before .before .loop .inv .few, c .before .before .before .before .before .before .if3 .left)
+element-write-analyzers c = omega (arith, c .before .before .before .before .before .before .before .before .before .before .before .before .before .loop .inv .few, c .before .before .before .before .before .before .before .if3 .left)
 
 add-count : tie.Need-add-count Inv-loop μ-loop
-add-count c = omega (arith, c .before .before .before .before .before .before .before .before .before .before .before .before .loop .inv .few)
+add-count c = omega (arith, c .before .before .before .before .before .before .before .before .before .before .before .before .before .loop .inv .few)
 
 loop-less : tie.Need-loop-less Inv-loop μ-loop
-loop-less c = omega (arith, c .before .before .before .before .before .before .before .if2 .left, c .before .before .before .before .before .before .before .before .before .before .if1 .left, c .before .before .before .before .before .before .before .before .before .before .before .loop-test .taken)
+loop-less c = omega (arith, c .before .before .before .before .before .before .before .before .if2 .left, c .before .before .before .before .before .before .before .before .before .before .before .if1 .left, c .before .before .before .before .before .before .before .before .before .before .before .before .loop-test .taken)
 
 loop-again : tie.Need-loop-again Inv-loop μ-loop
-loop-again c = entering-on (c .before .before .before .before .before .before .before .before .before .before .before .before .loop .inv) (c .before .before .before .before .before .before .before .before .before .before .before .loop-test .taken) (c .before .before .before .before .before .before .before .before .before .before .if1 .left) (getD (c .before .before .before .before .before .before .before .before .before .before .before .before .before .before .args .fields .now) (c .before .before .before .before .before .before .before .before .before .before .before .before .loop .at) 0) (getD (c .before .before .before .before .before .before .before .before .before .before .before .before .before .before .args .fields .now) (c .before .before .before .before .before .before .before .before .before .before .before .before .loop .at + 1) 0) refl refl (c .before .before .before .before .before .before .before .if2 .left) (c .before .before .before .before .before .before .if3 .left) (both (told-yes (c .before .before .before .before .is-analyzer .ensures) (c .before .before .before .if4 .left)) (told-yes (c .before .before .is-field .ensures) (c .before .if5 .left))) (omega (arith, field-short (take (c .before .before .before .before .before .before .before .before .before .before .before .before .loop .at + 2 + (getD (c .before .before .before .before .before .before .before .before .before .before .before .before .before .before .args .fields .now) (c .before .before .before .before .before .before .before .before .before .before .before .before .loop .at + 1) 0) - (c .before .before .before .before .before .before .before .before .before .before .before .before .loop .at + 2)) (drop (c .before .before .before .before .before .before .before .before .before .before .before .before .loop .at + 2) (c .before .before .before .before .before .before .before .before .before .before .before .before .before .before .args .fields .now))) (told-yes (c .before .before .is-field .ensures) (c .before .if5 .left)), slice-length (c .before .before .before .before .before .before .before .before .before .before .before .before .before .before .args .fields .now) (c .before .before .before .before .before .before .before .before .before .before .before .before .loop .at + 2) (getD (c .before .before .before .before .before .before .before .before .before .before .before .before .before .before .args .fields .now) (c .before .before .before .before .before .before .before .before .before .before .before .before .loop .at + 1) 0) (c .before .before .before .before .before .before .before .if2 .left))) (c .row-of .result) (c .row-of .ensures)
+loop-again c = subst (λ (ns : List (List ℕ)). Entering (c .before .before .before .before .before .before .before .before .before .before .before .before .before .before .before .args .fields .now) ns (set (c .before .before .before .before .before .before .before .before .before .before .before .before .before .loop .lengths) (c .before .before .before .before .before .before .before .before .before .before .before .before .before .loop .count) (getD (c .before .before .before .before .before .before .before .before .before .before .before .before .before .before .before .args .fields .now) (c .before .before .before .before .before .before .before .before .before .before .before .before .before .loop .at + 1) 0)) (set (c .before .before .before .before .before .before .before .before .before .before .before .before .before .loop .analyzers) (c .before .before .before .before .before .before .before .before .before .before .before .before .before .loop .count) (getD (c .before .before .before .before .before .before .before .before .before .before .before .before .before .before .before .args .fields .now) (c .before .before .before .before .before .before .before .before .before .before .before .before .before .loop .at) 0)) (c .before .before .before .before .before .before .before .before .before .before .before .before .before .loop .at + 2 + (getD (c .before .before .before .before .before .before .before .before .before .before .before .before .before .before .before .args .fields .now) (c .before .before .before .before .before .before .before .before .before .before .before .before .before .loop .at + 1) 0)) (c .before .before .before .before .before .before .before .before .before .before .before .before .before .loop .count + 1)) (sym (c .put-row .ensures .1)) (entering-on (c .before .before .before .before .before .before .before .before .before .before .before .before .before .loop .inv) (c .before .before .before .before .before .before .before .before .before .before .before .before .loop-test .taken) (c .before .before .before .before .before .before .before .before .before .before .before .if1 .left) (getD (c .before .before .before .before .before .before .before .before .before .before .before .before .before .before .before .args .fields .now) (c .before .before .before .before .before .before .before .before .before .before .before .before .before .loop .at) 0) (getD (c .before .before .before .before .before .before .before .before .before .before .before .before .before .before .before .args .fields .now) (c .before .before .before .before .before .before .before .before .before .before .before .before .before .loop .at + 1) 0) refl refl (c .before .before .before .before .before .before .before .before .if2 .left) (c .before .before .before .before .before .before .before .if3 .left) (both (told-yes (c .before .before .before .before .before .is-analyzer .ensures) (c .before .before .before .before .if4 .left)) (told-yes (c .before .before .before .is-field .ensures) (c .before .before .if5 .left))) (omega (arith, field-short (take (c .before .before .before .before .before .before .before .before .before .before .before .before .before .loop .at + 2 + (getD (c .before .before .before .before .before .before .before .before .before .before .before .before .before .before .before .args .fields .now) (c .before .before .before .before .before .before .before .before .before .before .before .before .before .loop .at + 1) 0) - (c .before .before .before .before .before .before .before .before .before .before .before .before .before .loop .at + 2)) (drop (c .before .before .before .before .before .before .before .before .before .before .before .before .before .loop .at + 2) (c .before .before .before .before .before .before .before .before .before .before .before .before .before .before .before .args .fields .now))) (told-yes (c .before .before .before .is-field .ensures) (c .before .before .if5 .left)), slice-length (c .before .before .before .before .before .before .before .before .before .before .before .before .before .before .before .args .fields .now) (c .before .before .before .before .before .before .before .before .before .before .before .before .before .loop .at + 2) (getD (c .before .before .before .before .before .before .before .before .before .before .before .before .before .before .before .args .fields .now) (c .before .before .before .before .before .before .before .before .before .before .before .before .before .loop .at + 1) 0) (c .before .before .before .before .before .before .before .before .if2 .left))) (c .put-row .ensures .0) (c .put-row .ensures .2) (c .put-row .ensures .3))
 
 returns-6 : tie.Need-returns-6 Inv-loop μ-loop
 returns-6 c = entering-ends (c .before .loop .inv) (c .loop-test .left)
@@ -132,9 +126,7 @@ read-entries-spec =
     returns-4
     is-field-requires
     returns-5
-    row-of-requires
-    mul-t12
-    element-set-from-names
+    put-row-requires
     element-write-lengths
     element-write-analyzers
     add-count
