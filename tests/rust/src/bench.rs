@@ -119,17 +119,19 @@ fn row<A, B>(
     );
 }
 
-/// Nanoseconds a call, over about as many calls as fill a run.
+/// Nanoseconds a call: twice as many calls each time, until they fill a run, so that reading the clock does not count.
 fn time<T>(call: &mut impl FnMut() -> T) -> f64 {
-    let start = Instant::now();
-    let mut calls = 0.0;
+    let mut calls = 1_u32;
     loop {
-        black_box(call());
-        calls += 1.0;
+        let start = Instant::now();
+        for _ in 0..calls {
+            black_box(call());
+        }
         let spent = start.elapsed();
         if spent >= RUN {
-            return spent.as_secs_f64() * 1e9 / calls;
+            return spent.as_secs_f64() * 1e9 / f64::from(calls);
         }
+        calls *= 2;
     }
 }
 
