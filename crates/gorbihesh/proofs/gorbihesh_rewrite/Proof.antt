@@ -1,42 +1,31 @@
+-- `gorbihesh::gorbihesh_rewrite` meets its contract.
 use Rattle.gorbihesh.proofs.Edge.{rewrite-short, rewrite-few, rewrite-left}
 use native.Mathlib.Omega.{arith}
 use borrow.Author.Needs.{needs}
 use Rattle.gorbihesh.proofs.gorbihesh_rewrite.Statement.{statement}
 use Rattle.gorbihesh.proofs.gorbihesh_rewrite.Tie as tie
-use Rattle.gorbihesh.proofs.gorbihesh_rewrite.Reads as reads
-use Rattle.gorbihesh.proofs.gorbihesh_rewrite.Lts as lts
-use Rattle.gorbihesh.proofs.told.Reads as told-reads
-use Rattle.rewriter.proofs.rounds.rewrite.Reads as rewrite-reads
 
--- src/lib.rt:55:9
 rewrite-requires : tie.Need-rewrite-requires
 rewrite-requires c κs = search needs
 
--- src/lib.rt:56:10
 cast-told : tie.Need-cast-told
 cast-told c = search needs
 
--- src/lib.rt:56:28
 cast-told-2 : tie.Need-cast-told-2
 cast-told-2 c = omega (arith, rewrite-short _ _ _ (λ i. omega (arith, c .before .before .before .before .before .before .before .before .before .before .before .shared-slice-known .given i)) (c .before .before .before .before .before .before .rewrite .ensures))
 
--- src/lib.rt:56:45
 cast-told-3 : tie.Need-cast-told-3
 cast-told-3 c = omega (arith, rewrite-few _ _ _ (λ i. omega (arith, c .before .before .before .before .before .before .before .before .before .before .before .before .shared-slice-known .given i)) (c .before .before .before .before .before .before .before .rewrite .ensures))
 
--- src/lib.rt:56:5
 told-requires : tie.Need-told-requires
 told-requires c κs = search needs
 
--- src/lib.rt:51:1
 same-length : tie.Need-same-length
 same-length c = search needs
 
--- src/lib.rt:51:1
 same-length-2 : tie.Need-same-length-2
 same-length-2 c = search needs
 
--- src/lib.rt:51:1
 returns : tie.Need-returns
 returns c = rewrite-left (c .before .before .before .before .before .before .before .before .rewrite .ensures) (c .told .ensures)
 

@@ -1,70 +1,52 @@
+-- `gorbihesh::gorbihesh_select` meets its contract.
 use Rattle.gorbihesh.proofs.Edge.{select-few, select-left, select-refused}
 use native.Mathlib.Omega.{arith}
 use borrow.Author.Needs.{needs}
 use Rattle.gorbihesh.proofs.gorbihesh_select.Statement.{statement}
 use Rattle.gorbihesh.proofs.gorbihesh_select.Tie as tie
-use Rattle.gorbihesh.proofs.gorbihesh_select.Reads as reads
-use Rattle.gorbihesh.proofs.gorbihesh_select.Lts as lts
-use Rattle.gorbihesh.proofs.told.Reads as told-reads
-use Rattle.selection.proofs.select.select_bytes.Reads as select-bytes-reads
 
--- src/lib.rt:68:11
 select-bytes-requires : tie.Need-select-bytes-requires
 select-bytes-requires c κs = search needs
 
--- src/lib.rt:69:27
 enum-known-number : tie.Need-enum-known-number
 enum-known-number c = search needs
 
--- src/lib.rt:69:43
 cast-told : tie.Need-cast-told
 cast-told c = search needs
 
--- src/lib.rt:69:38
 told-requires : tie.Need-told-requires
 told-requires c κs = search needs
 
--- src/lib.rt:70:26
 enum-known-count : tie.Need-enum-known-count
 enum-known-count c = search needs
 
--- src/lib.rt:70:48
 cast-told-2 : tie.Need-cast-told-2
 cast-told-2 c = omega (arith, select-few (c .before .before .before .before .before .before .before .select-bytes .ensures) (c .before .count .given .1))
 
--- src/lib.rt:70:44
 mul-told : tie.Need-mul-told
 mul-told c = omega (arith, select-few (c .before .before .before .before .before .before .before .select-bytes .ensures) (c .before .count .given .1))
 
--- src/lib.rt:70:62
 cast-told-3 : tie.Need-cast-told-3
 cast-told-3 c = omega (arith, select-few (c .before .before .before .before .before .before .before .select-bytes .ensures) (c .before .count .given .1))
 
--- src/lib.rt:70:36
 told-requires-2 : tie.Need-told-requires-2
 told-requires-2 c κs = search needs
 
--- src/lib.rt:59:1
 same-length : tie.Need-same-length
 same-length c = search needs
 
--- src/lib.rt:59:1
 same-length-2 : tie.Need-same-length-2
 same-length-2 c = search needs
 
--- src/lib.rt:59:1
 returns : tie.Need-returns
 returns c = select-refused (c .before .before .before .before .before .before .before .before .select-bytes .ensures) (c .before .before .number .given .1) (c .told .ensures)
 
--- src/lib.rt:59:1
 same-length-3 : tie.Need-same-length-3
 same-length-3 c = search needs
 
--- src/lib.rt:59:1
 same-length-4 : tie.Need-same-length-4
 same-length-4 c = search needs
 
--- src/lib.rt:59:1
 returns-2 : tie.Need-returns-2
 returns-2 c = select-left (c .before .before .before .before .before .before .before .before .select-bytes .ensures) (c .before .before .count .given .1) (c .told2 .ensures)
 
