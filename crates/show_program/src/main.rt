@@ -8,7 +8,8 @@ fn write(out: &[u8], n: usize) {
     }
 }
 
-// The output is twice as long as any text that 1,024 bytes can ask for, so the call's own refusals, 18 and 32, are not met.
+// The output is about twice as long as the longest text that 1,024 bytes can ask for. That is an estimate and no theorem: past it the call
+// would refuse with 18, and nothing would be written.
 fn run(input: &[u8], out: &mut [u8]) {
     let mut room = [0u8; 114687];
     match show(input, out, &mut room) {
