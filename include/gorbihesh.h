@@ -36,7 +36,7 @@ extern "C" {
  * The functions give the numbers of the archive that is linked, the constants those of this header; a test
  * holds the two equal. A call whose number is 0 takes an empty room, and NULL.
  */
-#define GORBIHESH_PARSE_ROOM 9216
+#define GORBIHESH_PARSE_ROOM 5120
 #define GORBIHESH_REWRITE_ROOM 114687
 #define GORBIHESH_SELECT_ROOM 0
 

@@ -8,10 +8,10 @@ use lib.Dec.{eqb}
 use lib.ListN.{length, take, drop, length-take, length-drop, drop-of-length-le}
 use lib.Seq.{take-all}
 use Rattle.rules.specs.Numbers.{chunkMost}
-use Rattle.rules.specs.Analysis.{front, classes}
+use Rattle.rules.specs.Analysis.{front}
 use Rattle.rules.proofs.Pieces.{outside, front-nil, front-most, front-take}
-use Rattle.analysis.specs.Tokens.{byAnalyzer, inside, insideIn, wantedIn, spanFrom, firstOf, startFrom, textFrom, Found}
-use Rattle.analysis.proofs.Steps.{text-most, whole-start, whole-text, every-inside, found, found-in}
+use Rattle.analysis.specs.Tokens.{byAnalyzer, inside, wanted, spanFrom, firstOf, startFrom, textFrom, Found}
+use Rattle.analysis.proofs.Steps.{text-most, whole-start, whole-text, every-inside, found}
 
 -- ---- analyzers that take a text whole, by the code's test
 
@@ -45,18 +45,17 @@ module _ (a : ℕ) (s : List ℕ) (at : ℕ) where
       let q = every-inside a (n .0) (n .1) in
       found a s at at (length s - at) (sym (whole-start (inside a) q s at)) (rw (whole-text (inside a) q s at a (n .0) (n .1), length-drop))
 
-module _ (t : List ℕ) (a : ℕ) (s : List ℕ) (at : ℕ) where
-  pub skipped : spanFrom (wantedIn t a false) s at (length s) ≡ startFrom (insideIn t a) s at
-  unfolding spanFrom wantedIn startFrom
+  pub skipped : spanFrom (wanted a false) s at (length s) ≡ startFrom (inside a) s at
+  unfolding spanFrom wanted startFrom
   skipped = rw (take-all (length s - at) (drop at s) (rw length-drop (omega arith)))
 
-  pub chunk : t ≡ classes → (start end : ℕ) → start ≡ startFrom (insideIn t a) s at → end ≡ start + min 255 (length s - start) →
-      byAnalyzer a false false true ≡ false → Found a s at start (spanFrom (wantedIn t a true) s start end - start)
-  unfolding spanFrom wantedIn textFrom
-  chunk c start end p e w =
+  pub chunk : (start end : ℕ) → start ≡ startFrom (inside a) s at → end ≡ start + min 255 (length s - start) →
+      byAnalyzer a false false true ≡ false → Found a s at start (spanFrom (wanted a true) s start end - start)
+  unfolding spanFrom wanted textFrom
+  chunk start end p e w =
       let x = drop start s in
-      let f = front (insideIn t a) x in
+      let f = front (inside a) x in
       let m : length (take (end - start) f) ≡ length (take chunkMost f) =
-      rw (length-take, length-take chunkMost f) (omega (arith, front-most (insideIn t a) x, length-drop start s)) in
-      found-in t c a s at start (spanFrom (wantedIn t a true) s start end - start) p
-      (rw (← p, cut-first a f w, front-take (insideIn t a) (end - start) x, m) (omega arith))
+      rw (length-take, length-take chunkMost f) (omega (arith, front-most (inside a) x, length-drop start s)) in
+      found a s at start (spanFrom (wanted a true) s start end - start) p
+      (rw (← p, cut-first a f w, front-take (inside a) (end - start) x, m) (omega arith))

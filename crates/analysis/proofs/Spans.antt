@@ -8,7 +8,7 @@ use native.Mathlib.Omega.{arith}
 use lib.ListN.{length, getD, take, drop}
 use lib.Seq.{drop-cons}
 use Rattle.rules.proofs.Pieces.{front-nil, front-yes, front-no}
-use Rattle.analysis.specs.Tokens.{insideIn, asWanted, wantedIn, spanFrom}
+use Rattle.analysis.specs.Tokens.{inside, asWanted, wanted, spanFrom}
 
 module _ (P : ℕ → Bool) (s : List ℕ) (end : ℕ) where
   pub span-end : spanFrom P s end end ≡ end
@@ -30,23 +30,23 @@ module _ (P : ℕ → Bool) (s : List ℕ) (end : ℕ) where
 
 -- ---- by the code's test, that a byte is not as wanted
 
-not-wanted : (r b : Bool) → not (Bool·beq r b) ≡ true → asWanted b r ≡ false
-not-wanted true true e = sym e
-not-wanted true false e = refl
-not-wanted false true e = refl
-not-wanted false false e = sym e
+not-as-wanted : (r b : Bool) → not (Bool·beq r b) ≡ true → asWanted b r ≡ false
+not-as-wanted true true e = sym e
+not-as-wanted true false e = refl
+not-as-wanted false true e = refl
+not-as-wanted false false e = sym e
 
-wanted : (r b : Bool) → not (Bool·beq r b) ≡ false → asWanted b r ≡ true
-wanted true true e = refl
-wanted true false e = sym e
-wanted false true e = sym e
-wanted false false e = refl
+as-wanted : (r b : Bool) → not (Bool·beq r b) ≡ false → asWanted b r ≡ true
+as-wanted true true e = refl
+as-wanted true false e = sym e
+as-wanted false true e = sym e
+as-wanted false false e = refl
 
-module _ (t : List ℕ) (a : ℕ) (b : Bool) (s : List ℕ) (end i : ℕ) (h : i < end) (k : end ≤ length s) (r : Bool) (e : r ≡ insideIn t a (getD s i 0)) where
-  pub stops : not (Bool·beq r b) ≡ true → spanFrom (wantedIn t a b) s i end ≡ i
-  unfolding wantedIn
-  stops w = span-stop (wantedIn t a b) s end i h k (ap (asWanted b) (sym e) ∙ not-wanted r b w)
+module _ (a : ℕ) (b : Bool) (s : List ℕ) (end i : ℕ) (h : i < end) (k : end ≤ length s) (r : Bool) (e : r ≡ inside a (getD s i 0)) where
+  pub stops : not (Bool·beq r b) ≡ true → spanFrom (wanted a b) s i end ≡ i
+  unfolding wanted
+  stops w = span-stop (wanted a b) s end i h k (ap (asWanted b) (sym e) ∙ not-as-wanted r b w)
 
-  pub goes-on : not (Bool·beq r b) ≡ false → spanFrom (wantedIn t a b) s i end ≡ spanFrom (wantedIn t a b) s (i + 1) end
-  unfolding wantedIn
-  goes-on w = span-more (wantedIn t a b) s end i h k (ap (asWanted b) (sym e) ∙ wanted r b w)
+  pub goes-on : not (Bool·beq r b) ≡ false → spanFrom (wanted a b) s i end ≡ spanFrom (wanted a b) s (i + 1) end
+  unfolding wanted
+  goes-on w = span-more (wanted a b) s end i h k (ap (asWanted b) (sym e) ∙ as-wanted r b w)

@@ -11,11 +11,10 @@ use lib.Seq.{drop-drop, drop-length, take-length, take-append-seam}
 use lib.Dec.{eqb}
 use borrow.Author.Tests.{ne-eqb}
 use Rattle.rules.specs.Numbers.{chunkMost}
-use Rattle.rules.specs.Analysis.{front, after, classes, isLetter, lowercase, tokenTexts}
+use Rattle.rules.specs.Analysis.{front, after, isLetter, lowercase, tokenTexts}
 use Rattle.rules.proofs.Pieces.{by-list, outside, front-nil, front-yes, front-no, front-after, front-most, after-is, first-length}
 use Rattle.rules.proofs.Tokens.{inWord, whitespace-none, whitespace-step, simple-none, simple-step, keyword-none, keyword-step}
-use Rattle.analysis.specs.Tokens.{inside, insideIn, firstOf, startFrom, textFrom, spelled, Found}
-use Rattle.analysis.proofs.Tables.{letter-is, gap-is}
+use Rattle.analysis.specs.Tokens.{inside, firstOf, startFrom, textFrom, spelled, Found}
 
 -- ---- any test
 
@@ -148,12 +147,3 @@ found a s at start len p z = record {
   none = λ e. steps a s at .0 (sym z ∙ e);
   one = λ h. rw p (steps a s at .1 len (sym z) h);
 }
-
--- by the constant table the bytes inside a token are those of the rules
-classes-inside : (a : ℕ) → insideIn classes a ≡ inside a
-unfolding insideIn inside
-classes-inside a = fun-ext (λ c. rw (gap-is, letter-is))
-
-pub found-in : (t : List ℕ) → t ≡ classes → (a : ℕ) (s : List ℕ) (at start len : ℕ) → start ≡ startFrom (insideIn t a) s at → len ≡ length (textFrom (insideIn t a) a s at) → Found a s at start len
-found-in t e a s at start len p z =
-    let q : insideIn t a ≡ inside a = rw e (classes-inside a) in found a s at start len (rw q at p) (rw q at z)

@@ -1,15 +1,15 @@
 -- The tests by a table, at the constant table, are the tests of the rules. Assumes nothing.
 use mathlib.Core.Path.{_≡_, ap, _∙_}
-use mathlib.Core.Bool.{Bool, _||_, cond}
+use mathlib.Core.Bool.{cond}
 use Prim.Native.Nat.{ℕ, _/_, _%_, _≤_, _<_}
 use native.Mathlib.Decide.{decLt}
 use native.Mathlib.Omega.{arith}
 use lib.Dec.{eqb, ltb}
 use lib.ListN.{getD}
 use borrow.Author.Tests.{lt-ltb, le-ltb}
-use Rattle.rules.specs.Analysis.{between, isSpace, endsTerm, isLetter, isGap, classOf, classes}
-use Rattle.rules.proofs.Classes.{class-within, class-beyond, space-flag, end-flag, letter-flag}
-use Rattle.analysis.specs.Classes.{classIn, spaceIn, endIn, letterIn, gapIn}
+use Rattle.rules.specs.Analysis.{isSpace, endsTerm, classOf, classes}
+use Rattle.rules.proofs.Classes.{class-within, class-beyond, space-flag, end-flag}
+use Rattle.analysis.specs.Classes.{classIn, spaceIn, endIn}
 
 module _ (c : ℕ) where
   class-is : classIn classes c ≡ classOf c
@@ -27,11 +27,3 @@ module _ (c : ℕ) where
   pub end-is : endIn classes c ≡ endsTerm c
   unfolding endIn
   end-is = ap (λ (x : ℕ). eqb (x / 2 % 2) 1) class-is ∙ end-flag c
-
-  pub letter-is : letterIn classes c ≡ isLetter c
-  unfolding letterIn
-  letter-is = ap (λ (x : ℕ). eqb (x / 4) 1) class-is ∙ letter-flag c
-
-  pub gap-is : gapIn classes c ≡ isGap c
-  unfolding gapIn
-  gap-is = ap (λ (b : Bool). b || between 0x1c 0x1f c) space-is

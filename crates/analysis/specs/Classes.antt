@@ -1,10 +1,9 @@
 -- What a table of 128 entries says of a byte, whatever the table. At `classes` of the rules each is the rules' own test.
 use Prim.Native.Nat.{ℕ, _/_, _%_}
 use mathlib.Core.List.{List}
-use mathlib.Core.Bool.{Bool, _||_, cond}
+use mathlib.Core.Bool.{Bool, cond}
 use lib.ListN.{getD}
 use lib.Dec.{ltb, eqb}
-use Rattle.rules.specs.Analysis.{between}
 
 -- the entry of a byte; bytes from 128 on have none
 unfoldable pub classIn : List ℕ → ℕ → ℕ
@@ -15,9 +14,3 @@ spaceIn t c = eqb (classIn t c % 2) 1
 
 unfoldable pub endIn : List ℕ → ℕ → Bool
 endIn t c = eqb (classIn t c / 2 % 2) 1
-
-unfoldable pub letterIn : List ℕ → ℕ → Bool
-letterIn t c = eqb (classIn t c / 4) 1
-
-unfoldable pub gapIn : List ℕ → ℕ → Bool
-gapIn t c = spaceIn t c || between 0x1c 0x1f c

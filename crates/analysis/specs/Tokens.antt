@@ -6,28 +6,25 @@ use mathlib.Core.Bool.{Bool, true, false, not, cond}
 use lib.ListN.{length, take, drop}
 use lib.Dec.{eqb}
 use Rattle.rules.specs.Numbers.{chunkMost, whitespaceAnalyzer, simpleAnalyzer}
+use Rattle.rules.specs.Bytes.{all}
 use Rattle.rules.specs.Query.{word}
 use Rattle.rules.specs.Analysis.{front, isGap, isLetter, lower, lowercase, tokenTexts, placedFrom, tokenize}
-use Rattle.analysis.specs.Classes.{gapIn, letterIn}
 
 -- by the analyzer: whitespace, simple, and every other number, which counts as keyword
 abbrev pub byAnalyzer : {A : Type 0} → ℕ → A → A → A → A
 byAnalyzer a w m k = cond (eqb a whitespaceAnalyzer) w (cond (eqb a simpleAnalyzer) m k)
 
--- the bytes that a token has; by the rules, and by a table of classes
+-- the bytes that a token has
 unfoldable pub inside : ℕ → ℕ → Bool
 inside a c = byAnalyzer a (not (isGap c)) (isLetter c) true
-
-unfoldable pub insideIn : List ℕ → ℕ → ℕ → Bool
-insideIn t a c = byAnalyzer a (not (gapIn t c)) (letterIn t c) true
 
 -- that a token has the byte, or that none has it
 abbrev pub asWanted : Bool → Bool → Bool
 asWanted true b = b
 asWanted false b = not b
 
-unfoldable pub wantedIn : List ℕ → ℕ → Bool → ℕ → Bool
-wantedIn t a b c = asWanted b (insideIn t a c)
+unfoldable pub wanted : ℕ → Bool → ℕ → Bool
+wanted a b c = asWanted b (inside a c)
 
 -- where the bytes that P is true of end, from a place on and up to an end
 unfoldable pub spanFrom : (ℕ → Bool) → List ℕ → ℕ → ℕ → ℕ
@@ -55,6 +52,12 @@ spelled a t = cond (eqb a simpleAnalyzer) (lowercase t) t
 
 unfoldable pub writtenByte : ℕ → ℕ → ℕ
 writtenByte a c = cond (eqb a simpleAnalyzer) (lower c) c
+
+-- letters only, at least one and at most a chunk: one token whatever the analyzer
+pub record OneWord (t : List ℕ) : Type 0 where
+  pub some : 0 < length t
+  pub short : length t ≤ chunkMost
+  pub letters : all isLetter t ≡ true
 
 -- the first token of s from `at` on has `len` bytes and starts at `start`; where there is none, `len` is 0
 pub record Found (a : ℕ) (s : List ℕ) (at start len : ℕ) : Type 0 where

@@ -1,10 +1,12 @@
 // The classes of bytes: whitespace, term end and letter in one table, and what the analyzers make of them.
-// A constant is laid out anew wherever it is read. So a loop names `CLASSES` once and lends it to the functions that end in `_in`;
-// the others are for a byte or two. What `table` returns is copied once more, which a loop's start would feel.
+// A constant is laid out anew wherever it is read. So a loop names `CLASSES` once, lends it to `class_at` and tests the flags; `is_space`
+// and `ends_term` are for a byte or two. What `table` returns is copied once more, which a loop's start would feel.
 ghost use mathlib.Core.Path.{_≡_};
+ghost use Prim.Native.Nat.{_<_};
+ghost use lib.ListN.{getD};
 ghost use Rattle.rules.specs.Analysis.{classes, isSpace, endsTerm, isLetter, isGap};
 ghost use Rattle.rules.specs.Analysis.{lower as lowered};
-ghost use Rattle.analysis.specs.Classes.{classIn, spaceIn, endIn, letterIn, gapIn};
+ghost use Rattle.analysis.specs.Classes.{classIn, spaceIn, endIn};
 
 pub fn table() -> [u8; 128]
     ensures { λ r. ⌜ r ≡ classes ⌝ }
@@ -19,29 +21,24 @@ fn class_in(table: &[u8; 128], c: u8) -> u8
     if c < 128 { table[c as usize] } else { 0 }
 }
 
-pub fn is_space_in(table: &[u8; 128], c: u8) -> bool
+// The classes of an ASCII byte.
+pub fn class_at(table: &[u8; 128], c: u8) -> u8
+    requires { ⌜ c < 128 ⌝ }
+    ensures { λ r. ⌜ r ≡ getD (now (table .entry)) c 0 ⌝ }
+{
+    table[c as usize]
+}
+
+fn is_space_in(table: &[u8; 128], c: u8) -> bool
     ensures { λ r. ⌜ r ≡ spaceIn (now (table .entry)) c ⌝ }
 {
     class_in(table, c) % 2 == 1
 }
 
-pub fn ends_term_in(table: &[u8; 128], c: u8) -> bool
+fn ends_term_in(table: &[u8; 128], c: u8) -> bool
     ensures { λ r. ⌜ r ≡ endIn (now (table .entry)) c ⌝ }
 {
     class_in(table, c) / 2 % 2 == 1
-}
-
-pub fn is_letter_in(table: &[u8; 128], c: u8) -> bool
-    ensures { λ r. ⌜ r ≡ letterIn (now (table .entry)) c ⌝ }
-{
-    class_in(table, c) / 4 == 1
-}
-
-// Where the whitespace analyzer splits: 1C to 1F too, which the lexer takes for parts of a term.
-pub fn is_gap_in(table: &[u8; 128], c: u8) -> bool
-    ensures { λ r. ⌜ r ≡ gapIn (now (table .entry)) c ⌝ }
-{
-    is_space_in(table, c) || (0x1c <= c && c <= 0x1f)
 }
 
 // The lexer's whitespace.
@@ -58,16 +55,21 @@ pub fn ends_term(c: u8) -> bool
     ends_term_in(&table(), c)
 }
 
+// Letters and gaps are told by comparison: the analyzers ask one byte at a time and have no table at hand.
 pub fn is_letter(c: u8) -> bool
     ensures { λ r. ⌜ r ≡ isLetter c ⌝ }
 {
-    is_letter_in(&table(), c)
+    (0x41 <= c && c <= 0x5a) || (0x61 <= c && c <= 0x7a)
 }
 
+// Where the whitespace analyzer splits: 1C to 1F too, which the lexer takes for parts of a term.
 pub fn is_gap(c: u8) -> bool
     ensures { λ r. ⌜ r ≡ isGap c ⌝ }
 {
-    is_gap_in(&table(), c)
+    if 0x20 < c {
+        return false;
+    }
+    0x1c <= c || (0x09 <= c && c <= 0x0d)
 }
 
 pub fn lower(c: u8) -> u8

@@ -6,7 +6,7 @@ ghost use mathlib.Core.Bool.{true, false};
 ghost use lib.ListN.{length};
 ghost use Rattle.rules.specs.Numbers.{chunkMost};
 ghost use Rattle.rules.specs.Analysis.{tokenTexts};
-ghost use Rattle.analysis.specs.Tokens.{insideIn, wantedIn, Span, byAnalyzer, writtenByte, Found, Nth};
+ghost use Rattle.analysis.specs.Tokens.{inside, wanted, Span, byAnalyzer, writtenByte, Found, Nth};
 
 pub const WHITESPACE: u8 = 1;
 
@@ -31,26 +31,26 @@ pub struct Placed {
 }
 
 // A token has this byte.
-fn is_inside(table: &[u8; 128], analyzer: u8, c: u8) -> bool
-    ensures { λ r. ⌜ r ≡ insideIn (now (table .entry)) analyzer c ⌝ }
+fn is_inside(analyzer: u8, c: u8) -> bool
+    ensures { λ r. ⌜ r ≡ inside analyzer c ⌝ }
 {
     if analyzer == WHITESPACE {
-        return !classes::is_gap_in(table, c);
+        return !classes::is_gap(c);
     }
     if analyzer == SIMPLE {
-        return classes::is_letter_in(table, c);
+        return classes::is_letter(c);
     }
     true
 }
 
 // The first place from `from` on, before `end`, where bytes of a token stop (`want`) or begin; `end` where there is none.
-fn span(table: &[u8; 128], text: &[u8], analyzer: u8, from: usize, end: usize, want: bool) -> usize
+fn span(text: &[u8], analyzer: u8, from: usize, end: usize, want: bool) -> usize
     requires { ⌜ (from ≤ end) × (end ≤ length (now text)) ⌝ }
-    ensures { λ r. ⌜ Span (wantedIn (now (table .entry)) analyzer want) (now (text .entry)) from end r ⌝ }
+    ensures { λ r. ⌜ Span (wanted analyzer want) (now (text .entry)) from end r ⌝ }
 {
     let mut i = from;
     while i < end {
-        if is_inside(table, analyzer, text[i]) != want {
+        if is_inside(analyzer, text[i]) != want {
             return i;
         }
         i += 1;
@@ -94,9 +94,8 @@ pub fn next_token(text: &[u8], analyzer: u8, at: usize) -> Token
             len: n - at,
         };
     }
-    let table = classes::CLASSES;
-    let start = span(&table, text, analyzer, at, n, false);
-    let end = span(&table, text, analyzer, start, chunk_end(start, n), true);
+    let start = span(text, analyzer, at, n, false);
+    let end = span(text, analyzer, start, chunk_end(start, n), true);
     Token {
         start,
         len: end - start,

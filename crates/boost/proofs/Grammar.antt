@@ -32,7 +32,7 @@ eq-yes a b e = is-true (eqb a b) (eq→eqb e)
 pub eq-no : (a b : ℕ) → (a ≡ b → ⊥) → eqb a b ≡ false
 eq-no a b n = is-false (eqb a b) (not-T (eqb a b) (λ (t : T (eqb a b)). n (eqb→eq a b t)))
 
-eq-back : (a b : ℕ) → eqb a b ≡ true → a ≡ b
+pub eq-back : (a b : ℕ) → eqb a b ≡ true → a ≡ b
 eq-back a b e = eqb→eq a b (subst T (sym e) tt)
 
 pub cons-at : (s : List ℕ) (i : ℕ) → i < length s → drop i s ≡ getD s i 0 ∷ drop (i + 1) s

@@ -8,5 +8,6 @@ pub mod Once
 pub mod Grammar
 pub mod Wholes
 pub mod Words
+pub mod Plain
 pub mod Fills
 pub mod Medium

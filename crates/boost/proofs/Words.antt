@@ -156,7 +156,7 @@ nothing m s h = refuses m (unsigned s) (ap unsigned (drop-of-length-le s h))
 
 -- ---- the whole text
 module _ (s : List ℕ) where
-  fits : length s ≤ 40 → numeralBits s ≡ bitsOf (isMinus s) (unsigned (afterSign s))
+  pub fits : length s ≤ 40 → numeralBits s ≡ bitsOf (isMinus s) (unsigned (afterSign s))
   unfolding numeralBits
   fits h = ap (λ (b : Bool). need b longNumeral (bitsOf (isMinus s) (unsigned (afterSign s)))) (is-true (leb (length s) 40) (le→leb (length s) 40 h))
 

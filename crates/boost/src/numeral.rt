@@ -1,11 +1,12 @@
 // Boost numerals: Rust's documented grammar for f32, read from the left, to the nearest 32-bit pattern.
 // The sign is carried to where the pattern is made. A text is tested for the words only where it begins with no digit, sign or point.
 ghost use mathlib.Core.Path.{_≡_};
-ghost use mathlib.Core.Bool.{not};
+ghost use mathlib.Core.Bool.{true, not};
 ghost use Prim.Native.Nat.{_+_, _<_, _≤_};
 ghost use lib.ListN.{length, drop, getD};
 ghost use Rattle.rules.specs.Bytes.{same, isEmpty};
 ghost use Rattle.rules.specs.Analysis.{front, after, lower, lowercase};
+ghost use Rattle.rules.specs.Reading.{numberOf as refusalOf};
 ghost use Rattle.rules.specs.Numerals.{infinity, isDigit, digitsOn, isMinus, afterSign, exponent, afterDigits, afterWhole, unsigned, signed, bitsOf, numeralBits};
 ghost use Rattle.boost.specs.Digits.{numberOf, Held};
 ghost use Rattle.boost.specs.Numeral.{answerOf, isPoint};
@@ -205,4 +206,38 @@ pub fn numeral(text: &[u8]) -> Answer
         return without_sign(false, &text[1..]);
     }
     without_sign(false, text)
+}
+
+// Digits, perhaps a point and further digits, and nothing else: most numerals are such.
+fn is_plain(s: &[u8]) -> bool
+    requires { ⌜ length (now s) ≤ 40 ⌝ }
+    ensures { λ r. ⌜ (r ≡ true → 0 ≡ refusalOf (numeralBits (now (s .entry)))) ⌝ }
+{
+    let w = crate::digits::read(s, 0, 0);
+    if w.end == 0 {
+        return false;
+    }
+    if w.end == s.len() {
+        return true;
+    }
+    if is_point(s, w.end) {
+        let f = crate::digits::read(s, w.end + 1, w.value);
+        return f.end == s.len();
+    }
+    false
+}
+
+// The refusal of a text that is no numeral, and 0 for a numeral, whose bits are not worked out where it is plain.
+pub fn fault(text: &[u8]) -> u8
+    ensures { λ r. ⌜ r ≡ refusalOf (numeralBits (now (text .entry))) ⌝ }
+{
+    if text.len() <= 40 {
+        if is_plain(text) {
+            return 0;
+        }
+    }
+    match numeral(text) {
+        Answer::Refused(e) => e,
+        Answer::Bits(_) => 0,
+    }
 }

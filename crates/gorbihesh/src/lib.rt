@@ -77,7 +77,7 @@ pub extern "C" fn gorbihesh_select(
 pub extern "C" fn gorbihesh_parse_room() -> usize
     ensures { λ r. ⌜ r ≡ parseRoom ⌝ }
 {
-    9216
+    5120
 }
 
 #[no_mangle]

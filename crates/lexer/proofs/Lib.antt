@@ -1,5 +1,7 @@
 pub mod Rows
+pub mod Noting
 mod Words
+mod Flags
 mod Unescaped
 mod Starts
 pub mod Turns

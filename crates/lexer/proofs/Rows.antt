@@ -1,18 +1,18 @@
 -- The row of tokens: what is read back, what a part of the room that is left as it was keeps, and what one more token adds.
 use mathlib.Core.Path.{_≡_, refl, sym, ap, _∙_}
-use mathlib.Core.Logic.{⊎-elim}
 use Prim.Native.Nat.{ℕ, zero, suc, _+_, _-_, _*_, _/_, _%_, _≤_, _<_}
 use mathlib.Core.List.{List, [], _∷_, _++_, append-assoc}
 use native.Mathlib.Omega.{arith}
-use native.Mathlib.Nat.{add-assoc, zero-add, suc-add, add-zero, div-add-mod'}
-use native.Mathlib.Numerals.{add-one, add-two, add-three, add-four, add-five, add-six, add-seven}
+use native.Mathlib.Nat.{zero-add, suc-add, add-zero}
+use native.Mathlib.Numerals.{add-one, add-two, add-three}
 use native.Mathlib.Decide.{decLt}
 use lib.ListN.{length, getD, take, drop, set, length-append, List·getD-append, List·getD-eq-default}
-use lib.Seq.{take-nil, drop-nil, take-take, take-at, getD-take, getD-drop, getD-at, getD-append-add, length-take-le, sets-eq}
+use lib.Seq.{take-nil, take-take, take-at, getD-take, getD-drop, getD-at, getD-append-add, length-take-le, sets-eq}
 use Rattle.rules.specs.Numbers.{textMost}
 use Rattle.rules.specs.Lexing.{Token, endKind}
 use Rattle.rules.specs.Parsing.{tokenOf}
-use Rattle.lexer.specs.Row.{roomLeast, entryAt, two, kindIn, placeIn, startIn, sizeIn, tokenAt, tokensOf, LaidBelow, Laid, entry, nameFrom}
+use Rattle.lexer.specs.Row.{roomLeast, entryAt, kindIn, noteIn, placeIn, sizeIn, tokenAt, tokensOf, Below, LaidBelow, Laid, entry, nameFrom, wordNote, Worded}
+use Rattle.analysis.specs.Tokens.{OneWord}
 use Rattle.lexer.specs.Texts.{Kept}
 
 -- ---- lists that have a front or a rest in common
@@ -60,42 +60,45 @@ token-past room n i h = List·getD-eq-default (tokensOf room n) _ (omega (arith,
 
 -- ---- the row, kept
 
-tokens-same : (a b : List ℕ) (n : ℕ) → ((i : ℕ) → i < n → tokenAt a i ≡ tokenAt b i) → tokensOf a n ≡ tokensOf b n
+pub tokens-same : (a b : List ℕ) (n : ℕ) → ((i : ℕ) → i < n → tokenAt a i ≡ tokenAt b i) → tokensOf a n ≡ tokensOf b n
 unfolding tokensOf
 tokens-same a b zero h = refl
 tokens-same a b (suc n) h = rw (tokens-same a b n (λ i l. h i (omega arith)), h n (omega arith))
 
-module _ (a b : List ℕ) (i : ℕ) (e : (k : ℕ) → entryAt i ≤ k → k < entryAt i + 8 → getD a k 0 ≡ getD b k 0) where
-  pub start-same : startIn a i ≡ startIn b i
-  start-same = rw (e (entryAt i + 4) (omega arith) (omega arith), e (entryAt i + 4 + 1) (omega arith) (omega arith))
+-- a token whose numbers are the same, and whose text stands where nothing changed
+pub token-like : (a b : List ℕ) (i p : ℕ) → kindIn a i ≡ kindIn b i → placeIn a i ≡ placeIn b i → sizeIn a i ≡ sizeIn b i
+    → take p a ≡ take p b → Below p b i → tokenAt a i ≡ tokenAt b i
+unfolding tokenAt
+token-like a b i p kind place size f h = rw (kind, size, place, front-part p a b f (placeIn b i) (sizeIn b i) h)
+
+module _ (a b : List ℕ) (i : ℕ) (e : (k : ℕ) → entryAt i ≤ k → k < entryAt i + 4 → getD a k 0 ≡ getD b k 0) where
+  pub note-same : noteIn a i ≡ noteIn b i
+  note-same = rw (e (entryAt i + 1) (omega arith) (omega arith))
+
+  pub place-same : placeIn a i ≡ placeIn b i
+  place-same = rw (e (entryAt i + 1) (omega arith) (omega arith), e (entryAt i + 2) (omega arith) (omega arith))
 
   pub size-same : sizeIn a i ≡ sizeIn b i
-  size-same = rw (e (entryAt i + 6) (omega arith) (omega arith), e (entryAt i + 6 + 1) (omega arith) (omega arith))
+  size-same = rw (e (entryAt i + 2) (omega arith) (omega arith), e (entryAt i + 3) (omega arith) (omega arith))
 
-  pub token-same : (p : ℕ) → take p a ≡ take p b → startIn b i + sizeIn b i ≤ p → tokenAt a i ≡ tokenAt b i
-  unfolding tokenAt
-  token-same p f h =
-      rw (
-        size-same,
-        start-same,
-        front-part p a b f (startIn b i) (sizeIn b i) h,
-        e (entryAt i) (omega arith) (omega arith),
-        e (entryAt i + 2) (omega arith) (omega arith),
-        e (entryAt i + 2 + 1) (omega arith) (omega arith),
-      )
+  pub token-same : (p : ℕ) → take p a ≡ take p b → Below p b i → tokenAt a i ≡ tokenAt b i
+  token-same p f h = token-like a b i p (e (entryAt i) (omega arith) (omega arith)) place-same size-same f h
 
 -- where the bytes below p, and below the end of the nth token, are as they were
-module _ (a b : List ℕ) (n p : ℕ) (e : (i : ℕ) → i < n → (k : ℕ) → entryAt i ≤ k → k < entryAt i + 8 → getD a k 0 ≡ getD b k 0) (f : take p a ≡ take p b)
+module _ (a b : List ℕ) (n p : ℕ) (e : (i : ℕ) → i < n → (k : ℕ) → entryAt i ≤ k → k < entryAt i + 4 → getD a k 0 ≡ getD b k 0) (f : take p a ≡ take p b)
     (laid : LaidBelow p b n) where
   pub tokens-kept : tokensOf a n ≡ tokensOf b n
   tokens-kept = tokens-same a b n (λ i h. token-same a b i (e i h) p f (laid i h))
 
   pub laid-kept : LaidBelow p a n
-  laid-kept i h = rw (start-same a b i (e i h), size-same a b i (e i h)) (laid i h)
+  laid-kept i h = rw (place-same a b i (e i h), size-same a b i (e i h)) (laid i h)
+
+  pub worded-kept : Worded b n → Worded a n
+  worded-kept w i h q = rw (token-same a b i (e i h) p f (laid i h)) (w i h (sym (note-same a b i (e i h)) ∙ q))
 
 -- a text that is read into the room from p on keeps the row
 module _ (p n : ℕ) (b a : List ℕ) (kept : Kept p b a) (laid : LaidBelow p b n) where
-  row-bytes : (i : ℕ) → i < n → (k : ℕ) → entryAt i ≤ k → k < entryAt i + 8 → getD a k 0 ≡ getD b k 0
+  row-bytes : (i : ℕ) → i < n → (k : ℕ) → entryAt i ≤ k → k < entryAt i + 4 → getD a k 0 ≡ getD b k 0
   row-bytes i h k l m = rest-byte textMost a b (kept .row) k (omega arith)
 
   pub read-tokens : tokensOf a n ≡ tokensOf b n
@@ -104,12 +107,15 @@ module _ (p n : ℕ) (b a : List ℕ) (kept : Kept p b a) (laid : LaidBelow p b 
   pub read-laid : LaidBelow p a n
   read-laid = laid-kept a b n p row-bytes (kept .front) laid
 
--- what stands in the first 9,216 bytes is all that the row needs
+  pub read-worded : Worded b n → Worded a n
+  read-worded = worded-kept a b n p row-bytes (kept .front) laid
+
+-- what stands in the first 5,120 bytes is all that the row needs
 module _ (b a : List ℕ) (n : ℕ) (e : take roomLeast a ≡ take roomLeast b) (few : n ≤ textMost) (laid : Laid b n) where
   first-texts : take textMost a ≡ take textMost b
   first-texts = sym (take-take textMost roomLeast a (omega arith)) ∙ ap (take textMost) e ∙ take-take textMost roomLeast b (omega arith)
 
-  first-bytes : (i : ℕ) → i < n → (k : ℕ) → entryAt i ≤ k → k < entryAt i + 8 → getD a k 0 ≡ getD b k 0
+  first-bytes : (i : ℕ) → i < n → (k : ℕ) → entryAt i ≤ k → k < entryAt i + 4 → getD a k 0 ≡ getD b k 0
   first-bytes i h k l m = front-byte roomLeast a b e k (omega arith)
 
   pub first-tokens : tokensOf a n ≡ tokensOf b n
@@ -118,58 +124,81 @@ module _ (b a : List ℕ) (n : ℕ) (e : take roomLeast a ≡ take roomLeast b) 
   pub first-laid : Laid a n
   first-laid = laid-kept a b n textMost first-bytes first-texts laid
 
+  pub first-worded : Worded b n → Worded a n
+  first-worded = worded-kept a b n textMost first-bytes first-texts laid
+
 -- ---- one more token
 
--- eight stores in a row
-pub eight : (l : List ℕ) (at a b c d e f g h : ℕ) → at + 8 ≤ length l
-    → set (set (set (set (set (set (set (set l at a) (at + 1) b) (at + 2) c) (at + 3) d) (at + 4) e) (at + 5) f) (at + 6) g) (at + 7) h
-    ≡ take at l ++ ((a ∷ b ∷ c ∷ d ∷ e ∷ f ∷ g ∷ h ∷ []) ++ drop (at + 8) l)
-eight l at a b c d e f g h k =
-    let vs : List ℕ = a ∷ b ∷ c ∷ d ∷ e ∷ f ∷ g ∷ h ∷ [] in
-    rw (add-one, add-two, add-three, add-four, add-five, add-six, add-seven) (sets-eq vs l at k ∙ append-assoc (take at l) vs (drop (at + 8) l))
+-- four stores in a row
+pub four : (l : List ℕ) (at a b c d : ℕ) → at + 4 ≤ length l
+    → set (set (set (set l at a) (at + 1) b) (at + 2) c) (at + 3) d ≡ take at l ++ ((a ∷ b ∷ c ∷ d ∷ []) ++ drop (at + 4) l)
+four l at a b c d k =
+    let vs : List ℕ = a ∷ b ∷ c ∷ d ∷ [] in
+    rw (add-one, add-two, add-three) (sets-eq vs l at k ∙ append-assoc (take at l) vs (drop (at + 4) l))
 
-module _ (k p s m n : ℕ) (b a : List ℕ) (few : n < textMost) (long : roomLeast ≤ length b)
-    (e : a ≡ take (entryAt n) b ++ (entry k p s m ++ drop (entryAt n + 8) b)) where
+-- note, place and length, read back from the bytes that hold them
+note-back : (a p : ℕ) → p < 1024 → (a * 32 + p / 32) / 32 ≡ a
+note-back a p h = omega arith
+
+place-back : (a p m : ℕ) → p < 1024 → m ≤ 1024 → (a * 32 + p / 32) % 32 * 32 + (p % 32 * 8 + m / 256) / 8 ≡ p
+place-back a p m h l = omega arith
+
+size-back : (p m : ℕ) → m ≤ 1024 → (p % 32 * 8 + m / 256) % 8 * 256 + m % 256 ≡ m
+size-back p m l = omega arith
+
+module _ (k o p m n : ℕ) (b a : List ℕ) (few : n < textMost) (long : roomLeast ≤ length b)
+    (e : a ≡ take (entryAt n) b ++ (entry k o p m ++ drop (entryAt n + 4) b)) where
   front-put : take (entryAt n) a ≡ take (entryAt n) b
   front-put = rw e (take-at (take (entryAt n) b) _ (entryAt n) (length-take-le (entryAt n) b (omega arith)))
 
-  byte-put : (j : ℕ) → getD a (entryAt n + j) 0 ≡ getD (entry k p s m ++ drop (entryAt n + 8) b) j 0
+  byte-put : (j : ℕ) → getD a (entryAt n + j) 0 ≡ getD (entry k o p m ++ drop (entryAt n + 4) b) j 0
   byte-put j =
       let l : length (take (entryAt n) b) ≡ entryAt n = length-take-le (entryAt n) b (omega arith) in
-      rw e (rw l at (getD-append-add (take (entryAt n) b) (entry k p s m ++ drop (entryAt n + 8) b) j 0))
+      rw e (rw l at (getD-append-add (take (entryAt n) b) (entry k o p m ++ drop (entryAt n + 4) b) j 0))
 
-  two-put : (j q : ℕ) → getD (entry k p s m ++ drop (entryAt n + 8) b) j 0 ≡ q / 256 → getD (entry k p s m ++ drop (entryAt n + 8) b) (j + 1) 0 ≡ q % 256
-      → two a (entryAt n + j) ≡ q
-  two-put j q h l =
-      let x : getD a (entryAt n + j) 0 ≡ q / 256 = byte-put j ∙ h in
-      let y : getD a (entryAt n + j + 1) 0 ≡ q % 256 = rw add-assoc (byte-put (j + 1) ∙ l) in
-      rw (x, y) (div-add-mod' q 256)
-
-  -- the texts, and the token's own among them
-  pub put-token : s + m ≤ textMost → tokenAt a n ≡ record { kind = k; text = take m (drop s b); place = p }
-  unfolding tokenAt
-  put-token h =
-      rw (byte-zero, two-put 2 p refl refl, two-put 4 s refl refl, two-put 6 m refl refl, front-part (entryAt n) a b front-put s m (omega arith))
-    where
-      byte-zero : kindIn a n ≡ k
-      byte-zero = rw add-zero at (byte-put 0)
-
-  put-bytes : (i : ℕ) → i < n → (j : ℕ) → entryAt i ≤ j → j < entryAt i + 8 → getD a j 0 ≡ getD b j 0
+  put-bytes : (i : ℕ) → i < n → (j : ℕ) → entryAt i ≤ j → j < entryAt i + 4 → getD a j 0 ≡ getD b j 0
   put-bytes i h j l r = front-byte (entryAt n) a b front-put j (omega arith)
 
   put-texts : take textMost a ≡ take textMost b
   put-texts = sym (take-take textMost (entryAt n) a (omega arith)) ∙ ap (take textMost) front-put ∙ take-take textMost (entryAt n) b (omega arith)
 
-  pub put-tokens : s + m ≤ textMost → Laid b n → tokensOf a (n + 1) ≡ tokensOf b n ++ (record { kind = k; text = take m (drop s b); place = p } ∷ [])
-  unfolding tokensOf
-  put-tokens h laid = rw (add-one n, tokens-kept a b n textMost put-bytes put-texts laid, put-token h)
+  module _ (h : p + m ≤ textMost) (w : p < textMost) where
+    put-note : noteIn a n ≡ o
+    put-note = ap (λ (x : ℕ). x / 32) (byte-put 1) ∙ note-back o p w
 
-  pub put-laid : (q r : ℕ) → s + m ≤ r → q ≤ r → LaidBelow q b n → LaidBelow r a (n + 1)
-  put-laid q r h l laid i o = pass (decLt i n)
-    where
-      pass : Dec (i < n) → startIn a i + sizeIn a i ≤ r
-      pass (yes w) = omega (arith, start-same a b i (put-bytes i w), size-same a b i (put-bytes i w), laid i w)
-      pass (no w) = let e : i ≡ n = omega arith in rw e (rw (two-put 4 s refl refl, two-put 6 m refl refl) h)
+    put-place : placeIn a n ≡ p
+    put-place = rw (byte-put 1, byte-put 2) (place-back o p m w (omega arith))
+
+    put-size : sizeIn a n ≡ m
+    put-size = rw (byte-put 2, byte-put 3) (size-back p m (omega arith))
+
+    -- the texts, and the token's own among them
+    pub put-token : tokenAt a n ≡ record { kind = k; text = take m (drop p b); place = p }
+    unfolding tokenAt
+    put-token = rw (put-kind, put-place, put-size, front-part (entryAt n) a b front-put p m (omega arith))
+      where
+        put-kind : kindIn a n ≡ k
+        put-kind = rw add-zero at (byte-put 0)
+
+    pub put-tokens : Laid b n → tokensOf a (n + 1) ≡ tokensOf b n ++ (record { kind = k; text = take m (drop p b); place = p } ∷ [])
+    unfolding tokensOf
+    put-tokens laid = rw (add-one n, tokens-kept a b n textMost put-bytes put-texts laid, put-token)
+
+    pub put-laid : (q r : ℕ) → p + m ≤ r → q ≤ r → LaidBelow q b n → LaidBelow r a (n + 1)
+    put-laid q r s l laid i o = pass (decLt i n)
+      where
+        pass : Dec (i < n) → Below r a i
+        pass (yes w) = omega (arith, place-same a b i (put-bytes i w), size-same a b i (put-bytes i w), laid i w)
+        pass (no w) = let e : i ≡ n = omega arith in rw e (rw (put-place, put-size) s)
+
+    pub put-worded : Laid b n → Worded b n → (o ≡ wordNote → OneWord (take m (drop p b))) → Worded a (n + 1)
+    put-worded laid worded new i l q = pass (decLt i n)
+      where
+        pass : Dec (i < n) → OneWord (tokenAt a i .text)
+        pass (yes w) = worded-kept a b n textMost put-bytes put-texts laid worded i w q
+        pass (no w) =
+            let e : i ≡ n = omega arith in
+            rw (e, put-token) (new (sym put-note ∙ rw e at q))
 
 -- ---- the field in force
 

@@ -2,26 +2,29 @@
 use mathlib.Core.Path.{_≡_, refl, sym, ap, subst, _∙_}
 use Prim.Native.Nat.{ℕ, suc, _+_, _-_, _≤_, _<_}
 use mathlib.Core.List.{List, [], _∷_}
-use mathlib.Core.Bool.{Bool, true, false, not, cond}
+use mathlib.Core.Bool.{Bool, true, false, not, _&&_, cond}
 use native.Mathlib.Omega.{arith}
 use native.Mathlib.Decide.{decLt}
 use native.Mathlib.Nat.{add-zero, add-sub-cancel-left}
 use native.Mathlib.Numerals.{add-one}
 use lib.ListN.{length, getD, take, drop, List·getD-eq-default}
 use lib.Seq.{drop-cons, drop-drop, getD-drop}
-use lib.Dec.{eqb}
-use borrow.Author.Tests.{eq-eqb, ne-eqb}
-use Rattle.rules.specs.Numbers.{Refusal, number, rangeBracket, wildcard, Read, got, refused, andThen, onRead}
+use lib.Dec.{leb, eqb}
+use borrow.Author.Tests.{eq-eqb, ne-eqb, leb-true}
+use Rattle.rules.specs.Numbers.{Refusal, number, rangeBracket, wildcard, chunkMost, Read, got, refused, andThen, onRead}
 use Rattle.rules.specs.Bytes.{ascii, some}
+use Rattle.rules.specs.Analysis.{isLetter}
 use Rattle.rules.specs.Lexing.{Piece, piece, Lexed, lexed, endKind, termKind, quotedKind, andKind, orKind, isQuote, isBracket, isWildcard, termText, quotedText, wordKind, wordLexed, termEnd, quotedEnd, termFrom, quotedFrom, signKind, doubled, tokenAt}
-use Rattle.rules.proofs.Bools.{clash, and-no-r}
-use Rattle.lexer.specs.Texts.{Reads}
+use Rattle.rules.proofs.Bools.{clash, and-l, and-r, and-no-r}
+use Rattle.lexer.specs.Row.{wordNote}
+use Rattle.lexer.specs.Texts.{Spelled, Reads}
 use Rattle.lexer.specs.declared.texts.Ended.{Ended}
 use Rattle.lexer.specs.declared.texts.Ended.the-variants.{At}
 use Rattle.lexer.specs.declared.texts.Ended.the-variants as ended
-use Rattle.lexer.specs.Tokens.{Makes, doubleKind, badStart}
+use Rattle.lexer.specs.Tokens.{Noted, Makes, noteOf, doubleKind, badStart}
 use Rattle.lexer.specs.declared.tokens.Step.{Step}
 use Rattle.lexer.specs.declared.tokens.Step.the-variants.{Refused, Token}
+use Rattle.lexer.proofs.Flags.{letter-other}
 
 -- ---- which token begins with c
 
@@ -77,6 +80,25 @@ module _ (c : ℕ) (s : List ℕ) where
             pick false true o e = absurd (omega arith)
             pick false false o e = refl
 
+-- a letter begins a term
+module _ (c : ℕ) (s : List ℕ) (h : isLetter c ≡ true) where
+  letter-sign : signKind c ≡ 0
+  unfolding signKind
+  letter-sign =
+      let n = letter-other c h in
+      rw (n 0x2b refl, n 0x2d refl, n 0x21 refl, n 0x28 refl, n 0x29 refl, n 0x3a refl, n 0x5e refl, n 0x7e refl)
+
+  letter-double : doubleKind c (getD s 0 0) ≡ 0
+  unfolding doubleKind
+  letter-double = let n = letter-other c h in rw (n 0x26 refl, n 0x7c refl)
+
+  letter-bad : badStart c ≡ 0
+  unfolding badStart ascii some
+  letter-bad = let n = letter-other c h in rw (n 0x5b refl, n 0x5d refl, n 0x7b refl, n 0x7d refl, n 0x2a refl, n 0x3f refl)
+
+  pub starts-letter : tokenAt c s ≡ termFrom (c ∷ s)
+  starts-letter = starts-term c s letter-sign letter-double (letter-other c h 0x22 refl) letter-bad
+
 double-zero : (c : ℕ) → doubleKind c 0 ≡ 0
 unfolding doubleKind
 double-zero c = rw (and-no-r (eqb c 0x26) refl, and-no-r (eqb c 0x7c) refl)
@@ -92,6 +114,47 @@ end-word : (t s : List ℕ) → isWildcard (getD s 0 0) ≡ false → termEnd (p
 unfolding termEnd
 end-word t [] h = refl
 end-word t (c ∷ s) h = rw h
+
+-- ---- the note
+
+pub noted-none : (at next len : ℕ) (room : List ℕ) → Noted 0 at next len room
+noted-none at next len room = record { few = omega arith; short = λ e. absurd (omega arith); spelled = λ e. absurd (omega arith) }
+
+-- a word's note is that of a term, whose whole text is kept
+module _ (at next : ℕ) (room : List ℕ) (k a len m : ℕ) (word : Bool) (o : a ≡ noteOf k word len) (g : m ≡ cond (eqb k termKind) len 0)
+    (h : word ≡ true → Spelled at next len room) where
+  note-few : (b : Bool) → cond b wordNote 0 < 8
+  note-few true = omega arith
+  note-few false = omega arith
+
+  note-six : (b : Bool) → cond b wordNote 0 ≡ wordNote → b ≡ true
+  note-six true e = refl
+  note-six false e = absurd (omega arith)
+
+  module _ (e : a ≡ wordNote) where
+    tested : word && (eqb k termKind && leb len chunkMost) ≡ true
+    unfolding noteOf
+    tested = note-six (word && (eqb k termKind && leb len chunkMost)) (sym o ∙ e)
+
+    tested-term : eqb k termKind && leb len chunkMost ≡ true
+    tested-term = and-r word (eqb k termKind && leb len chunkMost) tested
+
+    whole : len ≡ m
+    whole = sym (g ∙ rw (and-l (eqb k termKind) (leb len chunkMost) tested-term))
+
+    word-short : m ≤ chunkMost
+    word-short = rw whole at (leb-true len chunkMost (and-r (eqb k termKind) (leb len chunkMost) tested-term))
+
+    word-spelled : Spelled at next m room
+    word-spelled = subst (λ (x : ℕ). Spelled at next x room) whole (h (and-l word (eqb k termKind && leb len chunkMost) tested))
+
+  pub noted-term : Noted a at next m room
+  unfolding noteOf
+  noted-term = record {
+    few = rw o (note-few (word && (eqb k termKind && leb len chunkMost)));
+    short = word-short;
+    spelled = word-spelled;
+  }
 
 -- ---- what code answers for it, where it stands in a text
 
@@ -110,11 +173,11 @@ module _ (text : List ℕ) (at : ℕ) (room : List ℕ) where
     unfolding quotedFrom
     quoted-no k e = made-no r k (λ f l. rw l) e h
 
-    pub quoted-yes : (next len : ℕ) → r ≡ At next len → Makes (Token 2 len next) (quotedFrom s) text at room
+    pub quoted-yes : (next len : ℕ) (word : Bool) → r ≡ At next len word → Makes (Token 2 0 len next) (quotedFrom s) text at room
     unfolding quotedFrom
-    quoted-yes next len e =
-        let i : Reads (At next len) (quotedText s) text at room = subst (λ (x : Ended). Reads x (quotedText s) text at room) e h in
-        (rw (i .0), i .1, i .2)
+    quoted-yes next len word e =
+        let i : Reads (At next len word) (quotedText s) text at room = subst (λ (x : Ended). Reads x (quotedText s) text at room) e h in
+        (rw (i .0), i .1, i .2, noted-none at next len room)
 
   -- ---- a term
 
@@ -123,8 +186,8 @@ module _ (text : List ℕ) (at : ℕ) (room : List ℕ) where
     unfolding termFrom
     term-no k e = made-no r k (λ f l. rw l) e h
 
-    module _ (next len : ℕ) (e : r ≡ At next len) where
-      term-at : Reads (At next len) (termText s) text at room
+    module _ (next len : ℕ) (word : Bool) (e : r ≡ At next len word) where
+      term-at : Reads (At next len word) (termText s) text at room
       term-at = subst (λ (x : Ended). Reads x (termText s) text at room) e h
 
       pub term-fits : (next ≤ length text) × (at + len ≤ next)
@@ -134,15 +197,19 @@ module _ (text : List ℕ) (at : ℕ) (room : List ℕ) where
       unfolding termFrom
       term-wild w = (wildcard, rw (term-at .0) (end-wild _ (drop next text) (rw (getD-drop, add-zero) w)), refl)
 
-      pub term-yes : (k m : ℕ) → isWildcard (getD text next 0) ≡ false → k ≡ wordKind (take (at + len - at) (drop at room)) → m ≡ cond (eqb k termKind) len 0
-          → Makes (Token k m next) (termFrom s) text at room
+      pub term-yes : (k a m : ℕ) → isWildcard (getD text next 0) ≡ false → k ≡ wordKind (take (at + len - at) (drop at room)) → a ≡ noteOf k word len
+          → m ≡ cond (eqb k termKind) len 0 → Makes (Token k a m next) (termFrom s) text at room
       unfolding termFrom
-      term-yes k m w f g =
+      term-yes k a m w f o g =
           let u = take len (drop at room) in
           let l : m ≤ len = rw g (less (eqb k termKind)) in
           let i = term-at .2 in
-          let n : k ≡ wordKind u = rw add-sub-cancel-left at f in
-          (rw (term-at .0) (end-word u (drop next text) (rw (getD-drop, add-zero) w) ∙ rw (← n, kept (eqb k termKind) g)), term-at .1, omega arith)
+          let n : k ≡ wordKind u = rw add-sub-cancel-left at f in (
+            rw (term-at .0) (end-word u (drop next text) (rw (getD-drop, add-zero) w) ∙ rw (← n, kept (eqb k termKind) g)),
+            term-at .1,
+            omega arith,
+            noted-term at next room k a len m word o g (term-at .3),
+          )
         where
           kept : (b : Bool) → m ≡ cond b len 0 → cond b (take len (drop at room)) [] ≡ take m (drop at room)
           kept true g = rw g
@@ -155,17 +222,25 @@ module _ (text : List ℕ) (at : ℕ) (room : List ℕ) where
   -- ---- a token
 
   module _ (h : at < length text) where
-    pub made-sign : (k : ℕ) → k ≡ signKind (getD text at 0) → (k ≡ 0 → ⊥) → Makes (Token k 0 (at + 1)) (tokenAt (getD text at 0) (drop (at + 1) text)) text at room
-    made-sign k e n = (starts-sign (getD text at 0) (drop (at + 1) text) (rw e at n) ∙ rw (← e), omega arith, omega arith)
+    pub made-sign : (k : ℕ) → k ≡ signKind (getD text at 0) → (k ≡ 0 → ⊥) → Makes (Token k 0 0 (at + 1)) (tokenAt (getD text at 0) (drop (at + 1) text)) text at room
+    made-sign k e n = (starts-sign (getD text at 0) (drop (at + 1) text) (rw e at n) ∙ rw (← e), omega arith, omega arith, noted-none at (at + 1) 0 room)
+
+    pub made-letter : isLetter (getD text at 0) ≡ true → (r : Step) → Makes r (termFrom (drop at text)) text at room
+        → Makes r (tokenAt (getD text at 0) (drop (at + 1) text)) text at room
+    made-letter l r m = rw (starts-letter (getD text at 0) (drop (at + 1) text) l, add-one, ← drop-cons text at 0 h) m
 
     module _ (sign : signKind (getD text at 0) ≡ 0) where
       pub made-double : (k : ℕ) → k ≡ doubleKind (getD text at 0) (getD text (at + 1) 0) → (k ≡ 0 → ⊥)
-          → Makes (Token k 0 (at + 2)) (tokenAt (getD text at 0) (drop (at + 1) text)) text at room
+          → Makes (Token k 0 0 (at + 2)) (tokenAt (getD text at 0) (drop (at + 1) text)) text at room
       made-double k e n =
           let d : getD (drop (at + 1) text) 0 0 ≡ getD text (at + 1) 0 = getD-drop (at + 1) text 0 0 ∙ rw add-zero in
           let j : at + 1 < length text = more (decLt (at + 1) (length text)) in
-          let two : at + 1 + 1 ≡ at + 2 = omega arith in
-          (starts-double (getD text at 0) (drop (at + 1) text) sign (λ z. n (e ∙ rw d at z)) ∙ rw (d, ← e, drop-drop, two), omega arith, omega arith)
+          let two : at + 1 + 1 ≡ at + 2 = omega arith in (
+            starts-double (getD text at 0) (drop (at + 1) text) sign (λ z. n (e ∙ rw d at z)) ∙ rw (d, ← e, drop-drop, two),
+            omega arith,
+            omega arith,
+            noted-none at (at + 2) 0 room,
+          )
         where
           more : Dec (at + 1 < length text) → at + 1 < length text
           more (yes l) = l

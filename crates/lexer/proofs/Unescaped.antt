@@ -1,7 +1,7 @@
 -- A term or a quote, a byte at a time: what has been unescaped into the room, and what is still to be read.
 use mathlib.Core.Path.{_≡_, refl, sym, ap, _∙_}
 use mathlib.Core.Logic.{⊎-elim}
-use Prim.Native.Nat.{ℕ, zero, suc, _+_, _-_, _≤_, _<_}
+use Prim.Native.Nat.{ℕ, suc, _+_, _-_, _≤_, _<_}
 use mathlib.Core.List.{List, [], _∷_, _++_, append-assoc, append-nil}
 use mathlib.Core.Bool.{Bool, true, false, cond}
 use native.Mathlib.Omega.{arith}
@@ -10,21 +10,18 @@ use native.Mathlib.Numerals.{add-one}
 use lib.ListN.{length, getD, take, drop, set, length-set, length-drop, drop-of-length-le}
 use lib.Seq.{drop-cons, drop-set-add, take-suc-set, take-set-le, drop-set-lt}
 use Rattle.rules.specs.Numbers.{Refusal, number, openQuote, nothingEscaped, textMost, Read, got, refused, onRead}
-use Rattle.rules.specs.Lexing.{Piece, piece, onText, before, isQuote, isBackslash, termText, quotedText}
-use Rattle.rules.specs.Analysis.{endsTerm, classes}
-use Rattle.rules.proofs.Bools.{split}
-use Rattle.rules.proofs.Tokenizing.{Unescaping, term-stop, quoted-stop}
-use Rattle.analysis.specs.Classes.{endIn}
-use Rattle.analysis.proofs.Tables.{end-is}
+use Rattle.rules.specs.Lexing.{Piece, piece, before, isQuote, isBackslash, termText, quotedText}
+use Rattle.rules.specs.Bytes.{all}
+use Rattle.rules.specs.Analysis.{endsTerm, isLetter}
+use Rattle.rules.proofs.Bools.{split, clash, both, and-l, and-r}
+use Rattle.rules.proofs.Tokenizing.{Unescaping, term-unescapes, term-stop, quoted-stop}
 use Rattle.lexer.specs.Row.{roomLeast}
-use Rattle.lexer.specs.Texts.{Kept, Reads}
+use Rattle.lexer.specs.Texts.{Kept, onFront, Letters, Reads}
 use Rattle.lexer.specs.declared.texts.Ended.{Ended}
 use Rattle.lexer.specs.declared.texts.Ended.the-variants.{Refused, At}
+use Rattle.lexer.proofs.Flags.{letter-other}
 
 -- ---- what was read before goes in front
-
-abbrev pub onFront : List ℕ → Piece → Piece
-onFront u (piece t s) = piece (u ++ t) s
 
 front-none : (r : Read Piece) → onRead (onFront []) r ≡ r
 front-none (got (piece t s)) = refl
@@ -66,17 +63,17 @@ module _ (F : List ℕ → Read Piece) (stop : ℕ → Bool) (U : Unescaping F s
 
 -- ---- a turn of the loop
 
--- the bytes from `at` on of the room hold what was read; the text was begun at `from`, and is read on at i
-pub record Reading (F : List ℕ → Read Piece) (text : List ℕ) (from at : ℕ) (room₀ room : List ℕ) (i len : ℕ) : Type 0 where
+-- the bytes from `at` on of the room hold what was read; o is the whole text's, which is read on at i
+pub record Reading (F : List ℕ → Read Piece) (o : Read Piece) (text : List ℕ) (at : ℕ) (room₀ room : List ℕ) (i len : ℕ) : Type 0 where
   pub within : i ≤ length text
   pub behind : at + len ≤ i
   pub as-long : length room ≡ length room₀
   pub kept : Kept at room₀ room
-  pub whole : F (drop from text) ≡ onRead (onFront (take len (drop at room))) (F (drop i text))
+  pub whole : o ≡ onRead (onFront (take len (drop at room))) (F (drop i text))
 
-module _ (F : List ℕ → Read Piece) (text : List ℕ) (from at : ℕ) where
-  pub reading-none : (room : List ℕ) → at ≤ from → from ≤ length text → Reading F text from at room room from 0
-  reading-none room h k = record {
+module _ (F : List ℕ → Read Piece) (text : List ℕ) (from at : ℕ) (room : List ℕ) (h : at ≤ from) (k : from ≤ length text) where
+  pub reading-none : Reading F (F (drop from text)) text at room room from 0
+  reading-none = record {
     within = k;
     behind = omega arith;
     as-long = refl;
@@ -84,9 +81,20 @@ module _ (F : List ℕ → Read Piece) (text : List ℕ) (from at : ℕ) where
     whole = sym (front-none (F (drop from text)));
   }
 
-  module _ {room₀ room : List ℕ} {i len : ℕ} (r : Reading F text from at room₀ room i len) where
+  -- what stands between was read before
+  pub reading-on : Reading F (onRead (onFront (take (from - at) (drop at room))) (F (drop from text))) text at room room from (from - at)
+  reading-on = record {
+    within = k;
+    behind = omega arith;
+    as-long = refl;
+    kept = record { front = refl; row = refl };
+    whole = refl;
+  }
+
+module _ (F : List ℕ → Read Piece) {o : Read Piece} (text : List ℕ) (at : ℕ) where
+  module _ {room₀ room : List ℕ} {i len : ℕ} (r : Reading F o text at room₀ room i len) where
     pub reading-more : (v k : ℕ) → F (drop i text) ≡ before v (F (drop k text)) → i < k → k ≤ length text → length text ≤ textMost → textMost ≤ length room
-        → Reading F text from at room₀ (set room (at + len) v) k (len + 1)
+        → Reading F o text at room₀ (set room (at + len) v) k (len + 1)
     reading-more v k e h l m n =
         let b = r .behind in
         let o : len < length (drop at room) = rw length-drop (omega arith) in
@@ -105,26 +113,26 @@ module _ (F : List ℕ → Read Piece) (text : List ℕ) (from at : ℕ) where
 
     -- the text ends before k
     pub reading-at : (k : ℕ) → F (drop i text) ≡ got (piece [] (drop k text)) → i ≤ k → k ≤ length text
-        → Kept at room₀ room × Reads (At k len) (F (drop from text)) text at room
+        → Kept at room₀ room × Reads (At k len false) o text at room
     reading-at k e h l =
         let b = r .behind in
         let u = take len (drop at room) in
-        (r .kept, (r .whole ∙ rw e (ap (λ (t : List ℕ). got (piece t (drop k text))) (append-nil u)), l, omega arith))
+        (r .kept, (r .whole ∙ rw e (ap (λ (t : List ℕ). got (piece t (drop k text))) (append-nil u)), l, omega arith, λ e. clash e refl))
 
-    pub reading-fault : (f : Refusal) → F (drop i text) ≡ refused f → Kept at room₀ room × Reads (Refused (number f)) (F (drop from text)) text at room
+    pub reading-fault : (f : Refusal) → F (drop i text) ≡ refused f → Kept at room₀ room × Reads (Refused (number f)) o text at room
     reading-fault f e = (r .kept, (f, r .whole ∙ rw e, refl))
 
     -- a byte is read that does not end it
     module _ (stop : ℕ → Bool) (U : Unescaping F stop) (x : ℕ) (h : i < length text) (go : stop (getD text i 0) ≡ false)
         (e : x ≡ cond (isBackslash (getD text i 0)) 1 0) where
       pub reading-turn : i + x < length text → length text ≤ textMost → roomLeast ≤ length room₀
-          → Reading F text from at room₀ (set room (at + len) (getD text (i + x) 0)) (i + x + 1) (len + 1)
+          → Reading F o text at room₀ (set room (at + len) (getD text (i + x) 0)) (i + x + 1) (len + 1)
       reading-turn l m n =
           let a = r .as-long in
           reading-more (getD text (i + x) 0) (i + x + 1) (next-byte F stop U text i (i + x) h go (ap (λ (y : ℕ). i + y) e) l)
           (omega arith) (omega arith) m (omega arith)
 
-      pub reading-dangling : length text ≤ i + x → Kept at room₀ room × Reads (Refused 5) (F (drop from text)) text at room
+      pub reading-dangling : length text ≤ i + x → Kept at room₀ room × Reads (Refused 5) o text at room
       reading-dangling l = reading-fault nothingEscaped (no-byte F stop U text i (i + x) h go (ap (λ (y : ℕ). i + y) e) l)
 
 -- ---- the ends of both
@@ -132,10 +140,6 @@ module _ (F : List ℕ → Read Piece) (text : List ℕ) (from at : ℕ) where
 pub escape-most : (b : Bool) → cond b 1 0 ≤ 1
 escape-most true = omega arith
 escape-most false = omega arith
-
--- what the table tells of a byte
-pub told-end : {t : List ℕ} {r b : Bool} (c : ℕ) → r ≡ endIn t c → t ≡ classes → r ≡ b → endsTerm c ≡ b
-told-end c e f g = sym (e ∙ ap (λ (t : List ℕ). endIn t c) f ∙ end-is c) ∙ g
 
 module _ (text : List ℕ) (i : ℕ) where
   pub term-ends : i < length text → endsTerm (getD text i 0) ≡ true → termText (drop i text) ≡ got (piece [] (drop i text))
@@ -151,3 +155,69 @@ module _ (text : List ℕ) (i : ℕ) where
   pub quote-over : length text ≤ i → quotedText (drop i text) ≡ refused openQuote
   unfolding quotedText
   quote-over h = rw (drop-of-length-le text h)
+
+-- ---- letters first
+
+all-more : (P : ℕ → Bool) (s : List ℕ) (c : ℕ) → all P s ≡ true → P c ≡ true → all P (s ++ (c ∷ [])) ≡ true
+unfolding all
+all-more P [] c h k = both k refl
+all-more P (x ∷ s) c h k = both (and-l (P x) (all P s) h) (all-more P s c (and-r (P x) (all P s) h) k)
+
+-- the bytes from `at` to i are letters, and each stands in the room at its own place
+pub record Spelling (text : List ℕ) (at : ℕ) (room₀ room : List ℕ) (i : ℕ) : Type 0 where
+  pub onward : at ≤ i
+  pub reading : Reading termText (termText (drop at text)) text at room₀ room i (i - at)
+  pub letters : all isLetter (take (i - at) (drop at room)) ≡ true
+
+module _ (text : List ℕ) (at : ℕ) where
+  pub spelling-none : (room : List ℕ) → at ≤ length text → Spelling text at room room at
+  unfolding all
+  spelling-none room h =
+      let e : 0 ≡ at - at = omega arith in
+      record {
+        onward = omega arith;
+        reading = rw e at (reading-none termText text at at room (omega arith) h);
+        letters = rw (← e);
+      }
+
+  module _ {room₀ room : List ℕ} {i : ℕ} (S : Spelling text at room₀ room i) where
+    pub spelling-more : i < length text → isLetter (getD text i 0) ≡ true → endsTerm (getD text i 0) ≡ false → length text ≤ textMost → roomLeast ≤ length room₀
+        → Spelling text at room₀ (set room i (getD text i 0)) (i + 1)
+    spelling-more h g n m l =
+        let w = S .onward in
+        let long = S .reading .as-long in
+        let v = getD text i 0 in
+        let back : isBackslash v ≡ false = letter-other v g 0x5c refl in
+        let none : i + 0 ≡ i = add-zero i in
+        let here : at + (i - at) ≡ i = omega arith in
+        let next : i - at + 1 ≡ i + 1 - at = omega arith in
+        let turn : Reading termText (termText (drop at text)) text at room₀ (set room i v) (i + 1) (i - at + 1) =
+        rw (none, here) at (reading-turn termText text at (S .reading) endsTerm term-unescapes 0 h n (rw back) (omega arith) m l) in
+        let o : i - at < length (drop at room) = rw length-drop (omega arith) in
+        let p : take (i - at + 1) (drop at (set room (at + (i - at)) v)) ≡ take (i - at) (drop at room) ++ (v ∷ []) =
+        rw (add-one, drop-set-add at room (i - at) v) (take-suc-set (drop at room) (i - at) v o) in
+        let q : all isLetter (take (i - at + 1) (drop at (set room (at + (i - at)) v))) ≡ true =
+        rw p (all-more isLetter (take (i - at) (drop at room)) v (S .letters) g) in
+        record { onward = omega arith; reading = rw next at turn; letters = rw (here, next) at q }
+
+    pub spelling-over : Kept at room₀ room × Letters text at i room
+    spelling-over =
+        (S .reading .kept, record { onward = S .onward; within = S .reading .within; letters = S .letters; whole = S .reading .whole })
+
+  -- what is read behind the letters
+  module _ {i : ℕ} {room : List ℕ} (L : Letters text at i room) where
+    pub letters-only : termText (drop i text) ≡ got (piece [] (drop i text)) → Reads (At i (i - at) true) (termText (drop at text)) text at room
+    letters-only e =
+        let w = L .onward in (
+          L .whole ∙ rw e (ap (λ (t : List ℕ). got (piece t (drop i text))) (append-nil (take (i - at) (drop at room)))),
+          L .within,
+          omega arith,
+          λ _. record { letters = L .letters; ended = omega arith },
+        )
+
+    pub letters-first : (r : Ended) (room₁ : List ℕ) → Reads r (onRead (onFront (take (i - at) (drop at room))) (termText (drop i text))) text at room₁
+        → Reads r (termText (drop at text)) text at room₁
+    letters-first r room₁ h = rw (L .whole) h
+
+pub kept-both : (at : ℕ) (a b c : List ℕ) → Kept at a b → Kept at b c → Kept at a c
+kept-both at a b c p q = record { front = q .front ∙ p .front; row = q .row ∙ p .row }

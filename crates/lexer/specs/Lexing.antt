@@ -7,13 +7,13 @@ use Rattle.rules.specs.Numbers.{number, Read, got, refused}
 use Rattle.rules.specs.Lexing.{Token}
 use Rattle.lexer.specs.declared.Lexed.{Lexed}
 use Rattle.lexer.specs.declared.Lexed.the-variants.{Refused, Tokens}
-use Rattle.lexer.specs.Row.{tokensOf, Laid}
+use Rattle.lexer.specs.Row.{tokensOf, Laid, Worded}
 
 abbrev pub answerOf : Read (List Token) → Lexed
 answerOf (refused f) = Refused (number f)
 answerOf (got ts) = Tokens (length ts)
 
--- the room holds the tokens, and each one's text among its first 1,024 bytes
+-- the room holds the tokens, each one's text stands among its first 1,024 bytes, and what is noted as a word is one
 abbrev pub Row : Read (List Token) → List ℕ → Type 0
 Row (refused f) room = Unit {0}
-Row (got ts) room = (tokensOf room (length ts) ≡ ts) × Laid room (length ts)
+Row (got ts) room = (tokensOf room (length ts) ≡ ts) × Laid room (length ts) × Worded room (length ts)

@@ -1,23 +1,30 @@
 // One token: what begins with a byte that is no whitespace.
 ghost use mathlib.Core.Path.{_≡_};
-ghost use mathlib.Core.Bool.{false, cond, _&&_};
+ghost use mathlib.Core.Bool.{true, false, cond, _&&_};
 ghost use mathlib.Core.List.{_∷_, []};
 ghost use Prim.Native.Nat.{_+_, _≤_, _<_};
 ghost use lib.ListN.{length, drop, getD};
 ghost use lib.Dec.{eqb};
 ghost use Rattle.rules.specs.Numbers.{textMost};
+ghost use Rattle.rules.specs.Bytes.{isText};
 ghost use Rattle.rules.specs.Analysis.{classes};
 ghost use Rattle.rules.specs.Lexing.{termKind, signKind, isWildcard, wordKind, termFrom, quotedFrom, tokenAt};
 ghost use Rattle.lexer.specs.Row.{roomLeast};
 ghost use Rattle.lexer.specs.Texts.{Kept};
-ghost use Rattle.lexer.specs.Tokens.{Makes, doubleKind, badStart};
+ghost use Rattle.lexer.specs.Tokens.{Makes, noteOf, doubleKind, badStart};
 use crate::texts;
 use crate::texts::Ended;
+use analysis::classes;
 
-// A token: its kind, how many bytes its text has in the room from its place on, and where it ended in the input.
+// A token: its kind, its note, how many bytes its text has in the room from its place on, and where it ended in the input.
 pub enum Step {
     Refused(u8),
-    Token { kind: u8, len: usize, next: usize },
+    Token {
+        kind: u8,
+        note: u8,
+        len: usize,
+        next: usize,
+    },
 }
 
 // The byte at i, and 0 past the last.
@@ -123,14 +130,27 @@ fn kept_len(kind: u8, len: usize) -> usize
     if kind == 1 { len } else { 0 }
 }
 
+// A term that is letters only is noted as a word, if it is no longer than a chunk.
+fn word_note(kind: u8, word: bool, len: usize) -> u8
+    ensures { λ r. ⌜ r ≡ noteOf kind word len ⌝ }
+{
+    if !word {
+        return 0;
+    }
+    if kind != 1 {
+        return 0;
+    }
+    if len <= 255 { 6 } else { 0 }
+}
+
 fn term_at(table: &[u8; 128], text: &[u8], at: usize, room: &mut [u8]) -> Step
-    requires { ⌜ (at ≤ length (now text)) × (length (now text) ≤ textMost) × (roomLeast ≤ length (now room)) × (now table ≡ classes) ⌝ }
+    requires { ⌜ (at ≤ length (now text)) × (length (now text) ≤ textMost) × (isText (now text) ≡ true) × (roomLeast ≤ length (now room)) × (now table ≡ classes) ⌝ }
     ensures kept { λ r. ⌜ Kept at (now (room .entry)) (now (room .exit)) ⌝ }
     ensures makes { λ r. ⌜ Makes r (termFrom (drop at (now (text .entry)))) (now (text .entry)) at (now (room .exit)) ⌝ }
 {
     match texts::read_term(table, text, at, room) {
         Ended::Refused(f) => Step::Refused(f),
-        Ended::At { next, len } => {
+        Ended::At { next, len, word } => {
             if is_wildcard(peek(text, next)) {
                 return Step::Refused(7);
             }
@@ -138,6 +158,7 @@ fn term_at(table: &[u8; 128], text: &[u8], at: usize, room: &mut [u8]) -> Step
             let kind = word_kind(&room[at..end]);
             Step::Token {
                 kind: kind,
+                note: word_note(kind, word, len),
                 len: kept_len(kind, len),
                 next: next,
             }
@@ -152,25 +173,30 @@ fn quoted_at(text: &[u8], at: usize, room: &mut [u8]) -> Step
 {
     match texts::read_quoted(text, at, room) {
         Ended::Refused(f) => Step::Refused(f),
-        Ended::At { next, len } => Step::Token {
+        Ended::At { next, len, word: _ } => Step::Token {
             kind: 2,
+            note: 0,
             len: len,
             next: next,
         },
     }
 }
 
-// The token that begins at `at`; its text goes into the room from there on.
+// The token that begins at `at`; its text goes into the room from there on. Most tokens are words: a letter is tested for first.
 pub fn token_at(table: &[u8; 128], text: &[u8], at: usize, room: &mut [u8]) -> Step
-    requires { ⌜ (at < length (now text)) × (length (now text) ≤ textMost) × (roomLeast ≤ length (now room)) × (now table ≡ classes) ⌝ }
+    requires { ⌜ (at < length (now text)) × (length (now text) ≤ textMost) × (isText (now text) ≡ true) × (roomLeast ≤ length (now room)) × (now table ≡ classes) ⌝ }
     ensures kept { λ r. ⌜ Kept at (now (room .entry)) (now (room .exit)) ⌝ }
     ensures makes { λ r. ⌜ Makes r (tokenAt (getD (now (text .entry)) at 0) (drop (at + 1) (now (text .entry)))) (now (text .entry)) at (now (room .exit)) ⌝ }
 {
     let c = text[at];
+    if 4 <= classes::class_at(table, c) {
+        return term_at(table, text, at, room);
+    }
     let sign = sign_kind(c);
     if sign != 0 {
         return Step::Token {
             kind: sign,
+            note: 0,
             len: 0,
             next: at + 1,
         };
@@ -179,6 +205,7 @@ pub fn token_at(table: &[u8; 128], text: &[u8], at: usize, room: &mut [u8]) -> S
     if double != 0 {
         return Step::Token {
             kind: double,
+            note: 0,
             len: 0,
             next: at + 2,
         };

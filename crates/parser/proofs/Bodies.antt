@@ -5,7 +5,8 @@ use Prim.Native.Nat.{ℕ, _+_, _-_, _*_, _≤_, _<_}
 use mathlib.Core.List.{List}
 use native.Mathlib.Omega.{arith}
 use native.Mathlib.Numerals.{add-one}
-use lib.Dec.{leb}
+use mathlib.Core.Logic.{_⊎_, inl, inr}
+use lib.Dec.{leb, eqb}
 use lib.ListN.{length}
 use borrow.Author.Tests.{eq-eqb, ne-eqb, le-leb, lt-leb, lt-ltb, le-ltb}
 use Rattle.rules.specs.Numbers.{Refusal, number, Read, got, refused, onRead, andThen, fuzzyTerm, sloppyPhrase, openBracket, noNumeral, longField, manyBrackets, unexpectedEnd, unexpectedToken, fieldMost}
@@ -175,6 +176,11 @@ bracket-within R i len count tag bytes next h k W b (Clause len′ next′) w =
 
 -- ---- a body, by the kind of its first token
 
+-- a term or a quote is the leaf that its kind says
+pub leaf-at : (ts : List Token) (i t : ℕ) → t ≡ tokenOf ts i .kind → (t ≡ 1) ⊎ (t ≡ 2) → isAt (leafKind (eqb t 1)) ts i ≡ true
+leaf-at ts i t is (inl e) = rw (eq-eqb t 1 e) (eq-eqb _ _ (sym is ∙ e))
+leaf-at ts i t is (inr e) = rw (ne-eqb t 1 (λ z. omega arith)) (eq-eqb _ _ (sym is ∙ e))
+
 module _ (st : Setup) (ts : List Token) (sub : List ℕ → ℕ → ℕ → Read Found) (f : List ℕ) (d i t : ℕ) (is : t ≡ tokenOf ts i .kind) where
   at-kind : (k : ℕ) → t ≡ k → isAt k ts i ≡ true
   at-kind k e = eq-eqb _ _ (sym is ∙ e)
@@ -182,9 +188,10 @@ module _ (st : Setup) (ts : List Token) (sub : List ℕ → ℕ → ℕ → Read
   at-other : (k : ℕ) → (t ≡ k → ⊥) → isAt k ts i ≡ false
   at-other k n = ne-eqb _ _ (λ e. n (is ∙ e))
 
-  pub body-plain : t ≡ 1 → bodyAt st ts sub f d i ≡ plainAt st ts f i
+  pub body-leaf : (t ≡ 1) ⊎ (t ≡ 2) → bodyAt st ts sub f d i ≡ leafAt (eqb t 1) st ts f i
   unfolding bodyAt
-  body-plain e = rw (at-kind 1 e)
+  body-leaf (inl e) = rw (eq-eqb t 1 e, at-kind 1 e)
+  body-leaf (inr e) = rw (ne-eqb t 1 (λ z. omega arith), at-other 1 (λ z. omega arith), at-other 9 (λ z. omega arith), at-kind 2 e)
 
   module _ (n1 : t ≡ 1 → ⊥) where
     pub body-open : t ≡ 9 → d < 24 → bodyAt st ts sub f d i ≡ andThen (sub f (d + 1) (i + 1)) (closedAt st ts)
@@ -196,10 +203,6 @@ module _ (st : Setup) (ts : List Token) (sub : List ℕ → ℕ → ℕ → Read
     body-deep e h = rw (at-other 1 n1, at-kind 9 e, le-ltb d 24 h)
 
     module _ (n9 : t ≡ 9 → ⊥) where
-      pub body-quoted : t ≡ 2 → bodyAt st ts sub f d i ≡ quotedAt st ts f i
-      unfolding bodyAt
-      body-quoted e = rw (at-other 1 n1, at-other 9 n9, at-kind 2 e)
-
       pub body-end : (t ≡ 2 → ⊥) → t ≡ 0 → bodyAt st ts sub f d i ≡ refused unexpectedEnd
       unfolding bodyAt
       body-end n2 e = rw (at-other 1 n1, at-other 9 n9, at-other 2 n2, at-kind 0 e)

@@ -16,7 +16,7 @@ use Rattle.rules.specs.Lexing.{Token, lex}
 use Rattle.rules.specs.Setup.{FieldEntry, isAnalyzer, isFieldEntry, Setup, isSetup, entriesIn, setupWith, readSetup}
 use Rattle.rules.specs.Parsing.{Made, nothing, made, Found, found, Kept, kept, tokenOf, isAt, queryFound, queryOf, orMatchNone, wholeQuery, parseClauses, parseTokens, parse}
 use Rattle.rules.specs.Answers.{storedReply, fitting, zeros, leave, call, parseReply, parseLeft}
-use Rattle.rules.proofs.Bools.{clash, both}
+use Rattle.rules.proofs.Bools.{clash, both, and-l, and-r}
 use Rattle.rules.proofs.Sizes.{length-match-none, length-encode}
 use Rattle.rules.proofs.Tokenizing.{Standing, placeOf, lex-few, lex-standing}
 use Rattle.parts.specs.Laid.{laid, Put, header}
@@ -56,15 +56,15 @@ delivers-short X out out′ (Refused e) D = omega arith
 delivers-short X out out′ (Bytes n) (q, d, m, o, b) = b
 
 module _ (o a : ℕ) (f es text out room : List ℕ) where
-  pub parse-short : length room < 9216 → (room′ : List ℕ) → room′ ≡ replicate (length room) 0 → Parses o a f es text out room out room′ (Refused 32)
+  pub parse-short : length room < 5120 → (room′ : List ℕ) → room′ ≡ replicate (length room) 0 → Parses o a f es text out room out room′ (Refused 32)
   unfolding parseLeft call
-  parse-short h room′ z = record { is = rw (lt-leb 9216 (length room) h, z); short = omega arith }
+  parse-short h room′ z = record { is = rw (lt-leb 5120 (length room) h, z); short = omega arith }
 
-  pub parse-whole : 9216 ≤ length room → (p : Parsed) (out′ room′ : List ℕ) → Delivers (andThen (readSetup o a f es) (λ st. parse st text)) out p out′
+  pub parse-whole : 5120 ≤ length room → (p : Parsed) (out′ room′ : List ℕ) → Delivers (andThen (readSetup o a f es) (λ st. parse st text)) out p out′
       → room′ ≡ replicate (length room) 0 → Parses o a f es text out room out′ room′ p
   unfolding parseLeft call parseReply
   parse-whole h p out′ room′ D z = record {
-    is = rw (le-leb 9216 (length room) h) (left-is (andThen (readSetup o a f es) (λ st. parse st text)) out room out′ room′ p D z);
+    is = rw (le-leb 5120 (length room) h) (left-is (andThen (readSetup o a f es) (λ st. parse st text)) out room out′ room′ p D z);
     short = delivers-short (andThen (readSetup o a f es) (λ st. parse st text)) out out′ p D;
   }
 
@@ -105,6 +105,9 @@ module _ (o a : ℕ) (f es : List ℕ) (entries : List FieldEntry) (e : entriesI
       yes-three true true false d h k = clash h refl
       yes-three true false c d h k = clash h refl
       yes-three false b c d h k = clash h refl
+
+pub plain-analyzer : (o a : ℕ) (f : List ℕ) → (leb o 1 && (isAnalyzer a && isField f)) ≡ true → isAnalyzer a ≡ true
+plain-analyzer o a f h = and-l (isAnalyzer a) (isField f) (and-r (leb o 1) (isAnalyzer a && isField f) h)
 
 pub plain-field : (o a : ℕ) (f : List ℕ) → (leb o 1 && (isAnalyzer a && isField f)) ≡ true → length f ≤ fieldMost
 plain-field o a f h = by (leb o 1) (isAnalyzer a) (leb (length f) fieldMost) (isText f) refl h
@@ -169,6 +172,7 @@ row-of text room n {ts} h l e k W =
       few = omega (arith, lex-few text e);
       laid = λ i m. W .1 i (omega arith);
       spaced = λ i m. subst (λ (us : List Token). Spaced us i) (sym same) (spaced-of h (omega arith) (lex-standing text e i (omega arith)));
+      worded = λ i m. W .2 i (omega arith);
     }
 
 -- ---- a query that fits, and one that does not

@@ -12,9 +12,10 @@ use lib.ListN.{length, take, drop, getD, set, length-append, length-drop, length
 use lib.Seq.{drop-cons, drop-drop, set-getD, set-set, getD-set-same, getD-set-other, take-suc, take-length, length-take-le}
 use borrow.Author.Tests.{le-leb, lt-leb, leb-true}
 use Rattle.rules.specs.Numbers.{Read, got, refused, need, onRead, badSetup}
-use Rattle.rules.specs.Bytes.{all, isField}
+use Rattle.rules.specs.Bytes.{isText, all, isField}
 use Rattle.rules.specs.Setup.{FieldEntry, fieldEntry, isAnalyzer, isFieldEntry, isSetup, entriesStep, entriesIn, setupWith, readSetup}
-use Rattle.rules.proofs.Bools.{clash, both, and-l, and-no-l, and-no-r}
+use Rattle.rules.proofs.Bools.{clash, both, and-l, and-r, and-no-l, and-no-r}
+use Rattle.rules.proofs.Parts.{text-step}
 use Rattle.analysis.specs.Fields.{rowText, entryAt, entriesTo, arrayEntries}
 use Rattle.parser.specs.Noted.{RowPut, Entered}
 
@@ -25,16 +26,16 @@ unfolding rowText
 row-set r j x zero h = refl
 row-set r j x (suc k) h = rw (row-set r j x k (omega arith), getD-set-other r j k x 0 (λ e. omega arith))
 
-pub row-turn : (r s : List ℕ) (k x : ℕ) → k < length r → k < length s → x ≡ getD s k 0 → rowText k r ≡ take k s → rowText (k + 1) (set r k x) ≡ take (k + 1) s
+row-turn : (r s : List ℕ) (k x : ℕ) → k < length r → k < length s → x ≡ getD s k 0 → rowText k r ≡ take k s → rowText (k + 1) (set r k x) ≡ take (k + 1) s
 unfolding rowText
 row-turn r s k x h l e p =
     rw add-one (rw (row-set r k x k (omega arith), getD-set-same r k x 0 h, p, e) (sym (take-suc s k 0 l)))
 
-pub row-start : (r s : List ℕ) → rowText 0 r ≡ take 0 s
+row-start : (r s : List ℕ) → rowText 0 r ≡ take 0 s
 unfolding rowText
 row-start r s = refl
 
-pub row-end : (r s : List ℕ) (k : ℕ) → k ≤ length s → length s ≤ k → rowText k r ≡ take k s → rowText (length s) r ≡ s
+row-end : (r s : List ℕ) (k : ℕ) → k ≤ length s → length s ≤ k → rowText k r ≡ take k s → rowText (length s) r ≡ s
 row-end r s k h l e = let n : k ≡ length s = omega arith in ap (λ (x : ℕ). rowText x r) (sym n) ∙ e ∙ ap (λ (x : ℕ). take x s) n ∙ take-length s
 
 -- ---- reading
@@ -145,7 +146,7 @@ pub record Rowing (names₀ : List (List ℕ)) (k : ℕ) (s : List ℕ) (names :
   pub full : length row ≡ 32
   pub text : rowText i row ≡ take i s
 
-pub rowing-starts : (names : List (List ℕ)) (k : ℕ) (s : List ℕ) → length (getD names k []) ≡ 32 → Rowing names k s names 0
+rowing-starts : (names : List (List ℕ)) (k : ℕ) (s : List ℕ) → length (getD names k []) ≡ 32 → Rowing names k s names 0
 rowing-starts names k s l = record {
   row = getD names k [];
   upto = omega arith;
@@ -155,7 +156,7 @@ rowing-starts names k s l = record {
 }
 
 module _ {names₀ : List (List ℕ)} {k : ℕ} {s : List ℕ} {names : List (List ℕ)} {i : ℕ} (R : Rowing names₀ k s names i) where
-  pub rowing-turn : (x : ℕ) (d : List ℕ) → k < length names₀ → length s ≤ 32 → i < length s → x ≡ getD s i 0
+  rowing-turn : (x : ℕ) (d : List ℕ) → k < length names₀ → length s ≤ 32 → i < length s → x ≡ getD s i 0
       → Rowing names₀ k s (set names k (set (getD names k d) i x)) (i + 1)
   rowing-turn x d h m l e =
       let r : getD names k d ≡ R .row = ap (λ (z : List (List ℕ)). getD z k d) (R .at) ∙ getD-set-same names₀ k (R .row) d h in
@@ -169,8 +170,43 @@ module _ {names₀ : List (List ℕ)} {k : ℕ} {s : List ℕ} {names : List (Li
         text = row-turn (R .row) s i x (omega (arith, R .full)) l e (R .text);
       }
 
-  pub rowing-ends : length s ≤ i → RowPut names₀ k s names
-  rowing-ends l = (R .row, R .at, R .full, row-end (R .row) s i (R .upto) l (R .text))
+-- the same while every byte so far is ASCII
+pub record Testing (names₀ : List (List ℕ)) (k : ℕ) (s : List ℕ) (names : List (List ℕ)) (i : ℕ) : Type 0 where
+  pub rowing : Rowing names₀ k s names i
+  pub rest : isText s ≡ isText (drop i s)
+
+pub testing-starts : (names : List (List ℕ)) (k : ℕ) (s : List ℕ) → length (getD names k []) ≡ 32 → Testing names k s names 0
+testing-starts names k s l = record { rowing = rowing-starts names k s l; rest = refl }
+
+text-nil : (s : List ℕ) (i : ℕ) → length s ≤ i → isText (drop i s) ≡ true
+unfolding isText
+text-nil s i h = rw (drop-of-length-le s h)
+
+module _ {names₀ : List (List ℕ)} {k : ℕ} {s : List ℕ} {names : List (List ℕ)} {i : ℕ} (T : Testing names₀ k s names i) where
+  pub testing-turn : (x : ℕ) (d : List ℕ) → k < length names₀ → length s ≤ 32 → i < length s → x ≡ getD s i 0 → x ≤ 127
+      → Testing names₀ k s (set names k (set (getD names k d) i x)) (i + 1)
+  testing-turn x d h m l e a = record {
+    rowing = rowing-turn (T .rowing) x d h m l e;
+    rest = T .rest ∙ text-step s i l ∙ rw (← e, le-leb x 0x7f a, add-one);
+  }
+
+  pub testing-stops : i < length s → 127 < getD s i 0 → RowPut names₀ k s false names
+  testing-stops l a = record {
+    row = T .rowing .row;
+    at = T .rowing .at;
+    full = T .rowing .full;
+    told = sym (T .rest ∙ text-step s i l ∙ and-no-l (isText (drop (suc i) s)) (lt-leb (getD s i 0) 0x7f a));
+    held = λ e. clash e refl;
+  }
+
+  pub testing-ends : length s ≤ i → RowPut names₀ k s true names
+  testing-ends l = record {
+    row = T .rowing .row;
+    at = T .rowing .at;
+    full = T .rowing .full;
+    told = sym (T .rest ∙ text-nil s i l);
+    held = λ e. row-end (T .rowing .row) s i (T .rowing .upto) l (T .rowing .text);
+  }
 
 -- ---- the loop
 
@@ -305,5 +341,25 @@ module _ {fields : List ℕ} {names : List (List ℕ)} {lengths analyzers : List
               rows = λ k h. row-lengths names row count k (omega (arith, E .few, E .eight .0)) full (E .rows k h);
             }
 
-pub field-short : (s : List ℕ) → isField s ≡ true → length s ≤ 32
-field-short s h = leb-true (length s) 32 (and-l (leb (length s) 32) _ h)
+-- entries that break a rule break it whatever the rows hold
+pub nine-any : {fields : List ℕ} {names names′ : List (List ℕ)} {lengths analyzers : List ℕ} → Entered fields names lengths analyzers 9 → Entered fields names′ lengths analyzers 9
+nine-any E = record { held = λ few. absurd (omega arith); broken = E .broken }
+
+-- ---- an entry by its head and its name
+
+module _ (a len : ℕ) (name : List ℕ) (l : length name ≡ len) where
+  pub head-broken : (leb len 32 && isAnalyzer a) ≡ false → isFieldEntry (fieldEntry a name) ≡ false
+  head-broken h = rw l (by (leb len 32) (isAnalyzer a) h)
+    where
+      by : (x y : Bool) → x && y ≡ false → y && (x && isText name) ≡ false
+      by true y e = and-no-l (isText name) e
+      by false y e = and-no-r y refl
+
+  pub name-broken : isText name ≡ false → isFieldEntry (fieldEntry a name) ≡ false
+  name-broken h = and-no-r (isAnalyzer a) (and-no-r (leb (length name) 32) h)
+
+  pub entry-good : (leb len 32 && isAnalyzer a) ≡ true → isText name ≡ true → isFieldEntry (fieldEntry a name) ≡ true
+  entry-good h t = both (and-r (leb len 32) (isAnalyzer a) h) (both {a = leb (length name) 32} (rw l (and-l (leb len 32) (isAnalyzer a) h)) t)
+
+pub head-short : (a len : ℕ) → (leb len 32 && isAnalyzer a) ≡ true → len ≤ 32
+head-short a len h = leb-true len 32 (and-l (leb len 32) (isAnalyzer a) h)

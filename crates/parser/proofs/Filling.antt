@@ -8,7 +8,7 @@ use lib.Dec.{ltb}
 use lib.ListN.{length, drop, getD, set, length-append}
 use lib.Seq.{set-at, getD-at}
 use borrow.Author.Tests.{lt-ltb, le-ltb}
-use Rattle.rules.specs.Numbers.{Refusal, Read, got, refused, onRead, andThen}
+use Rattle.rules.specs.Numbers.{Read, got, refused, onRead, andThen}
 use Rattle.rules.specs.Bytes.{big, part}
 use Rattle.rules.specs.Query.{Kind, Query, Clauses, none, clause}
 use Rattle.rules.specs.Stored.{kindTag, encode}
@@ -19,15 +19,15 @@ use Rattle.rules.proofs.Bools.{clash}
 use Rattle.rules.proofs.Refusals.{no-got}
 use Rattle.rules.proofs.Sizes.{length-boolean}
 use Rattle.parts.specs.Laid.{laid, Put, header}
-use Rattle.parts.proofs.Laying.{laid-front, laid-all, laid-over, put-then, put-body}
+use Rattle.parts.proofs.Laying.{laid-front, laid-all, laid-over, put-then}
 use Rattle.parser.specs.Kinds.{conjunctionOf, modifierOf, isKept, lastTag, bytesOf, isAlone, madeBytes, madeLength, withMade}
-use Rattle.parser.specs.Measured.{clauseRun, clausesRun, MeansFound, MeantClause}
+use Rattle.parser.specs.Measured.{clauseRun, clausesRun}
 use Rattle.parser.specs.Written.{Eventually, boolFront, Touches}
-use Rattle.parser.specs.declared.kinds.Measured.{Measured}
-use Rattle.parser.specs.declared.kinds.Measured.the-variants.{Refused, Clause}
-use Rattle.parser.proofs.Deciding.{length-touched, made-some}
+use Rattle.parser.proofs.Deciding.{length-touched}
 use Rattle.parser.proofs.Keeping.{all-in-order, several-is}
 use Rattle.parser.proofs.Steps.{Lead, run-is, added-is}
+use Rattle.parser.proofs.Fuel.{clause-fuel}
+use Rattle.parser.proofs.Fronts.{head-before}
 
 -- ---- what is kept stays
 
@@ -115,9 +115,6 @@ module _ (st : Setup) (ts : List Token) (f : List ℕ) (d : ℕ) (cs : Clauses) 
     turn-is : (x : ℕ) → E .0 ≤ x → andThen (clauseRun st ts f d k x) (addClause (st .operator) (conjunctionOf c) (modifierOf m) (λ ds h. parseClauses st ts x f d ds h) cs) ≡ R
     turn-is x h = sym (run-is st ts f d cs i goes L x) ∙ E .1 (suc x) (omega arith)
 
-    pub ev-refused : {y : Refusal} → Eventually (clauseRun st ts f d k) (refused y) → refused y ≡ R
-    ev-refused (n, s) = sym (rw (s (n + E .0) (omega arith))) ∙ turn-is (n + E .0) (omega arith)
-
     pub ev-found : {q : Made} {next : ℕ} → Eventually (clauseRun st ts f d k) (got (found q next))
         → Eventually (clausesRun st ts f d (withMade (st .operator) (conjunctionOf c) (modifierOf m) cs q) next) R
     ev-found {q} {next} (n, s) = (
@@ -127,6 +124,17 @@ module _ (st : Setup) (ts : List Token) (f : List ℕ) (d : ℕ) (cs : Clauses) 
           ∙ sym (ap (λ (r : Read Found). andThen r (addClause (st .operator) (conjunctionOf c) (modifierOf m) (λ ds y. parseClauses st ts x f d ds y) cs)) (s x (omega arith)))
           ∙ turn-is x (omega arith),
     )
+
+-- a clause is read, since a refusal would refuse the whole
+pub ev-clause : (st : Setup) (ts : List Token) (f : List ℕ) (d : ℕ) (acc : Clauses) (i : ℕ) {cs : Clauses} {j : ℕ} → Eventually (clausesRun st ts f d acc i) (got (kept cs j))
+    → {c j′ m k : ℕ} → stopsAt ts i ≡ false → Lead ts acc i c j′ m k → (q : Made) × (next : ℕ) × Eventually (clauseRun st ts f d k) (got (found q next))
+ev-clause st ts f d acc i {cs} {j} E {c} {j′} {m} {k} goes L = by (clauseRun st ts f d k (E .0)) refl (turn-is st ts f d acc i E goes L (E .0) (omega arith))
+  where
+    by : (r : Read Found) → clauseRun st ts f d k (E .0) ≡ r
+        → andThen r (addClause (st .operator) (conjunctionOf c) (modifierOf m) (λ ds h. parseClauses st ts (E .0) f d ds h) acc) ≡ got (kept cs j)
+        → (q : Made) × (next : ℕ) × Eventually (clauseRun st ts f d k) (got (found q next))
+    by (refused x) e z = no-got z
+    by (got (found q next)) e z = (q, next, clause-fuel st ts f d k (E .0) e)
 
 -- ---- the first clause that is kept
 
@@ -148,37 +156,16 @@ pub first-none : (st : Setup) (ts : List Token) (f : List ℕ) (d i : ℕ) {k : 
     → Eventually (clausesRun st ts f d none i) (got (kept (clause k q none) j)) → stopsAt ts i ≡ true → A
 first-none st ts f d i E e = none-kept (ev-stops st ts f d none i E e)
 
-module _ {st : Setup} {ts : List Token} {f : List ℕ} {n d i : ℕ} {R : Read Kept} (E : Eventually (clausesRun st ts f d none i) R) (goes : stopsAt ts i ≡ false)
-    (c j′ m k : ℕ) (L : Lead ts none i c j′ m k) {g : Measured} (M : MeantClause st ts n f d k g) where
-  meant-as : {g′ : Measured} → g ≡ g′ → MeansFound g′ (M .answer)
-  meant-as e = subst (λ (x : Measured). MeansFound x (M .answer)) e (M .means)
+module _ (st : Setup) (ts : List Token) (f : List ℕ) (d i : ℕ) {R : Read Kept} (E : Eventually (clausesRun st ts f d none i) R) (goes : stopsAt ts i ≡ false)
+    (c j′ m k : ℕ) (L : Lead ts none i c j′ m k) where
+  pub first-nothing : {next : ℕ} → Eventually (clauseRun st ts f d k) (got (found nothing next)) → Eventually (clausesRun st ts f d none next) R
+  first-nothing {next} C =
+      subst (λ (a : Clauses). Eventually (clausesRun st ts f d a next) R) (touched-none (st .operator) (conjunctionOf c)) (ev-found st ts f d none i E goes L C)
 
-  runs-as : {r : Read Found} → M .answer ≡ r → Eventually (clauseRun st ts f d k) r
-  runs-as e = (n - k, λ x h. M .says x h ∙ e)
-
-  pub first-refused : {e : ℕ} {cs : Clauses} {j : ℕ} {A : Type 0} → g ≡ Refused e → R ≡ got (kept cs j) → A
-  first-refused e r = let z = meant-as e in no-got (ev-refused st ts f d none i E goes L (runs-as (z .1)) ∙ r)
-
-  pub first-nothing : {len next : ℕ} → g ≡ Clause len next → len ≡ 0 → Eventually (clausesRun st ts f d none next) R
-  first-nothing {len} {next} e l = let z = meant-as e in by (z .0) (sym l ∙ z .2) (ev-found st ts f d none i E goes L (runs-as (z .1)))
-    where
-      by : (q : Made) → 0 ≡ madeLength q → Eventually (clausesRun st ts f d (withMade (st .operator) (conjunctionOf c) (modifierOf m) none q) next) R
-          → Eventually (clausesRun st ts f d none next) R
-      by nothing l X = subst (λ (a : Clauses). Eventually (clausesRun st ts f d a next) R) (touched-none (st .operator) (conjunctionOf c)) X
-      by (made q) l X = absurd (made-some q l)
-
-  pub first-made : {len next : ℕ} {l : Kind} {q : Query} {j : ℕ} → g ≡ Clause len next → (len ≡ 0 → ⊥) → R ≡ got (kept (clause l q none) j)
-      → Eventually (clauseRun st ts f d k) (got (found (made q) next)) × (len ≡ length (encode q))
-  first-made {len} {next} {l} {q} {j} e x r =
-      let z = meant-as e in by (z .0) (z .2) (runs-as (z .1)) (subst (Eventually (clausesRun st ts f d (withMade (st .operator) (conjunctionOf c) (modifierOf m) none (z .0)) next)) r (ev-found st ts f d none i E goes L (runs-as (z .1))))
-    where
-      by : (p : Made) → len ≡ madeLength p → Eventually (clauseRun st ts f d k) (got (found p next))
-          → Eventually (clausesRun st ts f d (withMade (st .operator) (conjunctionOf c) (modifierOf m) none p) next) (got (kept (clause l q none) j))
-          → Eventually (clauseRun st ts f d k) (got (found (made q) next)) × (len ≡ length (encode q))
-      by nothing y C X = absurd (x y)
-      by (made p) y C X =
-          let same = root-first (st .operator) (conjunctionOf c) (grows st ts f d _ next X) in
-          (subst (λ (o : Query). Eventually (clauseRun st ts f d k) (got (found (made o) next))) same C, y ∙ ap (λ (o : Query). length (encode o)) same)
+  pub first-made : {next : ℕ} {l : Kind} {p q : Query} {j : ℕ} → R ≡ got (kept (clause l q none) j) → Eventually (clauseRun st ts f d k) (got (found (made p) next)) → p ≡ q
+  first-made {next} {p = p} r C =
+      root-first (st .operator) (conjunctionOf c)
+      (grows st ts f d _ next (subst (Eventually (clausesRun st ts f d (withMade (st .operator) (conjunctionOf c) (modifierOf m) none (made p)) next)) r (ev-found st ts f d none i E goes L C)))
 
 -- ---- what is laid
 
@@ -319,76 +306,53 @@ module _ {st : Setup} {ts : List Token} {f : List ℕ} {d : ℕ} {cs : Clauses} 
           (subst (λ (a : Clauses). Put out₀ 0 (boolFront (length out₀) ++ bytesOf a) w out) (sym (touched-none o (conjunctionOf c))) P)
       by (clause k q acc) P L T g = patched out₀ o c k q acc w last out out₁ P L T (omega (arith, bytes-some k q acc))
 
-  module _ (c j′ m k : ℕ) (o : ℕ) (joins : st .operator ≡ o) (goes : stopsAt ts i ≡ false) (L : (acc : Clauses) → isKept acc ≡ ltb 8 w → Lead ts acc i c j′ m k)
-      (out₁ : List ℕ) (T : Touches (ltb 8 w) last o c out out₁) (l₁ : length out₁ ≡ length out) {n : ℕ} {g : Measured} (M : MeantClause st ts n f d k g) where
+  module _ (c j′ m k : ℕ) (o : ℕ) (joins : st .operator ≡ o) (goes : stopsAt ts i ≡ false) (L : (acc : Clauses) → isKept acc ≡ ltb 8 w → Lead ts acc i c j′ m k) where
     lead : Lead ts (F .acc) i c j′ m k
     lead = L (F .acc) (filled-kept F)
 
-    told-as : {g′ : Measured} → g ≡ g′ → MeansFound g′ (M .answer)
-    told-as e = subst (λ (x : Measured). MeansFound x (M .answer)) e (M .means)
+    -- one clause more, and room for it
+    after : Query → Clauses
+    after q = clause (kindAfter (st .operator) (conjunctionOf c) (modifierOf m)) q (touched (st .operator) (conjunctionOf c) (F .acc))
 
-    says-as : {r : Read Found} → M .answer ≡ r → Eventually (clauseRun st ts f d k) r
-    says-as e = (n - k, λ x h. M .says x h ∙ e)
+    pub filling-clause : (q : Made) × (next : ℕ) × Eventually (clauseRun st ts f d k) (got (found q next))
+    filling-clause = ev-clause st ts f d (F .acc) i (F .is) goes lead
 
-    pub filling-refused : {A : Type 0} {e : ℕ} → g ≡ Refused e → A
-    filling-refused e = let z = told-as e in no-got (ev-refused st ts f d (F .acc) i (F .is) goes lead (says-as (z .1)))
+    pub filling-room : {q : Query} {next : ℕ} → Eventually (clauseRun st ts f d k) (got (found (made q) next)) → w + 3 + length (encode q) ≤ length out₀
+    unfolding after
+    filling-room {q} {next} C =
+        let E = ev-found st ts f d (F .acc) i (F .is) goes lead C in
+        omega (arith, filled-wide F, grows st ts f d (after q) next E .size, bytes-some (kindAfter (st .operator) (conjunctionOf c) (modifierOf m)) q (touched (st .operator) (conjunctionOf c) (F .acc)), length-touched (st .operator) (conjunctionOf c) (F .acc))
 
-    next-is : {len next : ℕ} (e : g ≡ Clause len next)
-        → Eventually (clausesRun st ts f d (withMade (st .operator) (conjunctionOf c) (modifierOf m) (F .acc) (told-as e .0)) next) (got (kept cs j))
-    next-is e = ev-found st ts f d (F .acc) i (F .is) goes lead (says-as (told-as e .1))
+    module _ (out₁ : List ℕ) (T : Touches (ltb 8 w) last o c out out₁) (l₁ : length out₁ ≡ length out) where
+      turned-put : Put out₀ 0 (boolFront (length out₀) ++ bytesOf (touched (st .operator) (conjunctionOf c) (F .acc))) w out₁
+      turned-put = subst (λ (p : ℕ). Put out₀ 0 (boolFront (length out₀) ++ bytesOf (touched p (conjunctionOf c) (F .acc))) w out₁) (sym joins) (touched-put o c out₁ T)
 
-    pub filling-nothing : {len next : ℕ} → g ≡ Clause len next → len ≡ 0 → Filling st ts f d cs j out₀ next w last out₁
-    filling-nothing {len} {next} e x = by (told-as e .0) (sym x ∙ told-as e .2) (next-is e)
-      where
-        by : (q : Made) → 0 ≡ madeLength q → Eventually (clausesRun st ts f d (withMade (st .operator) (conjunctionOf c) (modifierOf m) (F .acc) q) next) (got (kept cs j))
-            → Filling st ts f d cs j out₀ next w last out₁
-        by nothing y E = record {
-          acc = touched (st .operator) (conjunctionOf c) (F .acc);
-          is = E;
-          put = subst (λ (p : ℕ). Put out₀ 0 (boolFront (length out₀) ++ bytesOf (touched p (conjunctionOf c) (F .acc))) w out₁) (sym joins) (touched-put o c out₁ T);
-          header-at = last-touched (st .operator) (conjunctionOf c) last (F .acc) (F .header-at);
-          long = l₁ ∙ F .long;
-        }
-        by (made q) y E = absurd (made-some q y)
+      pub filling-nothing : {next : ℕ} → Eventually (clauseRun st ts f d k) (got (found nothing next)) → Filling st ts f d cs j out₀ next w last out₁
+      filling-nothing C = record {
+        acc = touched (st .operator) (conjunctionOf c) (F .acc);
+        is = ev-found st ts f d (F .acc) i (F .is) goes lead C;
+        put = turned-put;
+        header-at = last-touched (st .operator) (conjunctionOf c) last (F .acc) (F .header-at);
+        long = l₁ ∙ F .long;
+      }
 
-    -- the query of a clause that is kept, and room for it
-    pub filling-query : {len next : ℕ} → g ≡ Clause len next → (len ≡ 0 → ⊥)
-        → (q : Query) × Eventually (clauseRun st ts f d k) (got (found (made q) next)) × (len ≡ length (encode q)) × (w + 3 + len ≤ length out₀)
-        × Eventually (clausesRun st ts f d (clause (kindAfter (st .operator) (conjunctionOf c) (modifierOf m)) q (touched (st .operator) (conjunctionOf c) (F .acc))) next) (got (kept cs j))
-    filling-query {len} {next} e x = by (told-as e .0) (told-as e .2) (says-as (told-as e .1)) (next-is e)
-      where
-        by : (p : Made) → len ≡ madeLength p → Eventually (clauseRun st ts f d k) (got (found p next))
-            → Eventually (clausesRun st ts f d (withMade (st .operator) (conjunctionOf c) (modifierOf m) (F .acc) p) next) (got (kept cs j))
-            → (q : Query) × Eventually (clauseRun st ts f d k) (got (found (made q) next)) × (len ≡ length (encode q)) × (w + 3 + len ≤ length out₀)
-            × Eventually (clausesRun st ts f d (clause (kindAfter (st .operator) (conjunctionOf c) (modifierOf m)) q (touched (st .operator) (conjunctionOf c) (F .acc))) next) (got (kept cs j))
-        by nothing y C E = absurd (x y)
-        by (made q) y C E = (
-          q,
-          C,
-          y,
-          omega (arith, filled-wide F, grows st ts f d _ next E .size, bytes-some (kindAfter (st .operator) (conjunctionOf c) (modifierOf m)) q (touched (st .operator) (conjunctionOf c) (F .acc)), length-touched (st .operator) (conjunctionOf c) (F .acc)),
-          E,
-        )
-
-    pub filling-made : {len next : ℕ} (e : g ≡ Clause len next) (x : len ≡ 0 → ⊥) (tag end : ℕ) (out₂ out₃ : List ℕ) (start : ℕ)
-        → tag ≡ kindTag (kindAfter o (conjunctionOf c) (modifierOf m)) → Put out₁ w (header tag len) start out₂
-        → Put out₂ start (encode (filling-query e x .0)) end out₃ → length out₃ ≡ length out₁
-        → Filling st ts f d cs j out₀ next end w out₃
-    filling-made {len} {next} e x tag end out₂ out₃ start et P Q l₃ =
-        let z = filling-query e x in
-        let acc = touched (st .operator) (conjunctionOf c) (F .acc) in
-        let lw : w ≡ 8 + length (bytesOf acc) = filled-wide F ∙ omega (arith, length-touched (st .operator) (conjunctionOf c) (F .acc)) in
-        let T₁ : Put out₀ 0 (boolFront (length out₀) ++ bytesOf acc) w out₁ =
-        subst (λ (p : ℕ). Put out₀ 0 (boolFront (length out₀) ++ bytesOf (touched p (conjunctionOf c) (F .acc))) w out₁) (sym joins) (touched-put o c out₁ T) in
-        let B : Put out₁ w (part tag (encode (z .0))) end out₃ = put-body P Q (z .2) (omega (arith, z .2, z .3, l₁, F .long)) in
-        let kd : tag ≡ kindTag (kindAfter (st .operator) (conjunctionOf c) (modifierOf m)) = et ∙ ap (λ (p : ℕ). kindTag (kindAfter p (conjunctionOf c) (modifierOf m))) (sym joins) in
-        record {
-          acc = clause (kindAfter (st .operator) (conjunctionOf c) (modifierOf m)) (z .0) acc;
-          is = z .4;
-          put = grown out₀ acc (kindAfter (st .operator) (conjunctionOf c) (modifierOf m)) (z .0) tag w end out₁ out₃ kd T₁ B (omega (arith, z .2, z .3, lw));
-          header-at = lw;
-          long = l₃ ∙ l₁ ∙ F .long;
-        }
+      pub filling-made : {q : Query} {next : ℕ} → Eventually (clauseRun st ts f d k) (got (found (made q) next)) → (tag len p end : ℕ) (out₂ out₃ : List ℕ)
+          → tag ≡ kindTag (kindAfter o (conjunctionOf c) (modifierOf m)) → Put out₁ (w + 3) (encode q) end out₂ → Put out₂ w (header tag len) p out₃
+          → len ≡ end - (w + 3) → length out₃ ≡ length out₁ → Filling st ts f d cs j out₀ next end w out₃
+      unfolding after
+      filling-made {q} C tag len p end out₂ out₃ et P Q el l₃ =
+          let acc = touched (st .operator) (conjunctionOf c) (F .acc) in
+          let lw : w ≡ 8 + length (bytesOf acc) = filled-wide F ∙ omega (arith, length-touched (st .operator) (conjunctionOf c) (F .acc)) in
+          let r = filling-room C in
+          let B : Put out₁ w (part tag (encode q)) end out₃ = head-before P Q refl (omega (arith, P .place)) (omega (arith, F .long)) in
+          let kd : tag ≡ kindTag (kindAfter (st .operator) (conjunctionOf c) (modifierOf m)) = et ∙ ap (λ (p : ℕ). kindTag (kindAfter p (conjunctionOf c) (modifierOf m))) (sym joins) in
+          record {
+            acc = after q;
+            is = ev-found st ts f d (F .acc) i (F .is) goes lead C;
+            put = grown out₀ acc (kindAfter (st .operator) (conjunctionOf c) (modifierOf m)) q tag w end out₁ out₃ kd turned-put B (omega arith);
+            header-at = lw;
+            long = l₃ ∙ l₁ ∙ F .long;
+          }
 
   pub filling-ends : stopsAt ts i ≡ true → (n : ℕ) → n ≡ length out₀ → boolFront n ++ bytesOf cs ≡ madeBytes (queryOf cs) → out ≡ madeBytes (queryOf cs)
   filling-ends e n en b =

@@ -12,18 +12,18 @@ use Rattle.rules.specs.Query.{Kind, Query, Clauses, none, clause}
 use Rattle.rules.specs.Stored.{kindTag, encode}
 use Rattle.rules.specs.Lexing.{Token}
 use Rattle.rules.specs.Setup.{Setup}
-use Rattle.rules.specs.Parsing.{made, found, kept, stopsAt, kindAfter, queryOf}
+use Rattle.rules.specs.Parsing.{Made, nothing, made, found, kept, stopsAt, kindAfter, queryOf}
 use Rattle.rules.proofs.Bools.{clash}
+use Rattle.rules.proofs.Sizes.{length-encode}
 use Rattle.parts.specs.Laid.{laid, Put, header}
 use Rattle.parts.proofs.Laying.{laid-all}
 use Rattle.parser.specs.Kinds.{conjunctionOf, modifierOf, isKept, bytesOf, isAlone, madeBytes, madeLength}
-use Rattle.parser.specs.Measured.{clauseRun, clausesRun, MeantClause}
-use Rattle.parser.specs.Written.{Eventually, boolFront, PutUnless, Touches}
-use Rattle.parser.specs.declared.kinds.Measured.{Measured}
-use Rattle.parser.specs.declared.kinds.Measured.the-variants.{Refused, Clause}
+use Rattle.parser.specs.Measured.{clauseRun, clausesRun}
+use Rattle.parser.specs.Written.{Eventually, HasRoom, boolFront, PutUnless, bodyStart, Touches}
 use Rattle.parser.proofs.Keeping.{alone-is}
 use Rattle.parser.proofs.Steps.{Lead}
-use Rattle.parser.proofs.Filling.{Filling, filled-last, several-size, several-bytes, filling-start, filling-refused, filling-nothing, filling-query, filling-made, filling-ends, first-none, first-refused, first-nothing, first-made}
+use Rattle.parser.proofs.Filling.{Filling, grows, ev-clause, filled-wide, filled-last, several-size, several-bytes, filling-start, filling-clause, filling-room, filling-nothing, filling-made, filling-ends, first-none, first-nothing, first-made}
+use Rattle.parser.proofs.Fronts.{put-nothing}
 
 -- ---- the stretch of n bytes fits: it is as long as the one clause's query, or as a Boolean of all
 
@@ -65,6 +65,10 @@ module _ {st : Setup} {ts : List Token} {f : List ℕ} {d : ℕ} {cs : Clauses} 
   going-last true G h = omega (arith, G .state .1, G .state .2)
   going-last false G h = filled-last (G .state) (G .fits .0)
 
+  pub going-wide : (b : Bool) → Going b st ts f d cs j out₀ i w last out → w ≤ length out₀
+  going-wide true G = omega (arith, G .state .0)
+  going-wide false G = omega (arith, filled-wide (G .state), grows st ts f d (G .state .acc) i (G .state .is) .size, G .fits .0)
+
   pub going-ends : (b : Bool) → Going b st ts f d cs j out₀ i w last out → stopsAt ts i ≡ true → out ≡ madeBytes (queryOf cs)
   going-ends true G e =
       first-none st ts f d i (subst (λ (c : Clauses). Eventually (clausesRun st ts f d none i) (got (kept c j))) (G .fits .2) (G .state .3)) e
@@ -72,81 +76,78 @@ module _ {st : Setup} {ts : List Token} {f : List ℕ} {d : ℕ} {cs : Clauses} 
 
 -- ---- a turn
 
--- what the code found before the clause at k, and how it measured it
-pub record Turned (st : Setup) (ts : List Token) (f : List ℕ) (d i w last o : ℕ) (out : List ℕ) (c j′ m k : ℕ) (out₁ : List ℕ) (n : ℕ) (g : Measured) : Type 0 where
+-- what the code found before the clause at k
+pub record Turned (st : Setup) (ts : List Token) (i w last o : ℕ) (out : List ℕ) (c j′ m k : ℕ) (out₁ : List ℕ) : Type 0 where
   pub joins : st .operator ≡ o
   pub goes : stopsAt ts i ≡ false
   pub lead : (acc : Clauses) → isKept acc ≡ ltb 8 w → Lead ts acc i c j′ m k
   pub touches : Touches (ltb 8 w) last o c out out₁
   pub same : length out₁ ≡ length out
-  pub meant : MeantClause st ts n f d k g
 
-first-lead : {st : Setup} {ts : List Token} {f : List ℕ} {d i w last o : ℕ} {out : List ℕ} {c j′ m k : ℕ} {out₁ : List ℕ} {n : ℕ} {g : Measured}
-    → Turned st ts f d i w last o out c j′ m k out₁ n g → w ≡ 0 → Lead ts none i c j′ m k
+first-lead : {st : Setup} {ts : List Token} {i w last o : ℕ} {out : List ℕ} {c j′ m k : ℕ} {out₁ : List ℕ}
+    → Turned st ts i w last o out c j′ m k out₁ → w ≡ 0 → Lead ts none i c j′ m k
 first-lead {w = w} T e = T .lead none (sym (le-ltb 8 w (omega arith)))
 
--- room for a clause of len bytes
-abbrev Space : Bool → ℕ → ℕ → ℕ → Type 0
-Space true w len n = len ≡ n
-Space false w len n = w + 3 + len ≤ n
-
 module _ {st : Setup} {ts : List Token} {f : List ℕ} {d : ℕ} {cs : Clauses} {j : ℕ} {out₀ : List ℕ} {i w last : ℕ} {out : List ℕ}
-    {o c j′ m k : ℕ} {out₁ : List ℕ} {n : ℕ} {g : Measured} (T : Turned st ts f d i w last o out c j′ m k out₁ n g) where
-  pub going-refused : (b : Bool) → Going b st ts f d cs j out₀ i w last out → {A : Type 0} {e : ℕ} → g ≡ Refused e → A
-  going-refused true G e = first-refused (G .state .3) (T .goes) c j′ m k (first-lead T (G .state .0)) (T .meant) e refl
-  going-refused false G e = filling-refused (G .state) (G .fits .0) c j′ m k o (T .joins) (T .goes) (T .lead) out₁ (T .touches) (T .same) (T .meant) e
+    {o c j′ m k : ℕ} {out₁ : List ℕ} (T : Turned st ts i w last o out c j′ m k out₁) where
+  -- what the clause at k is, and room for it
+  pub going-clause : (b : Bool) → Going b st ts f d cs j out₀ i w last out
+      → (q : Made) × (next : ℕ) × Eventually (clauseRun st ts f d k) (got (found q next)) × HasRoom q (bodyStart b w) (length out₀)
+  going-clause true G = let z = ev-clause st ts f d none i (G .state .3) (T .goes) (first-lead T (G .state .0)) in (z .0, z .1, z .2, fits (z .0) (z .2))
+    where
+      fits : (q : Made) {next : ℕ} → Eventually (clauseRun st ts f d k) (got (found q next)) → HasRoom q w (length out₀)
+      fits nothing C h = absurd (omega arith)
+      fits (made p) C h =
+          let e = first-made st ts f d i (G .state .3) (T .goes) c j′ m k (first-lead T (G .state .0)) (ap (λ (a : Clauses). got (kept a j)) (G .fits .2)) C in
+          omega (arith, G .state .0, G .fits .4, ap (λ (x : Query). length (encode x)) e)
+  going-clause false G = let z = filling-clause (G .state) (G .fits .0) c j′ m k o (T .joins) (T .goes) (T .lead) in (z .0, z .1, z .2, fits (z .0) (z .2))
+    where
+      fits : (q : Made) {next : ℕ} → Eventually (clauseRun st ts f d k) (got (found q next)) → HasRoom q (w + 3) (length out₀)
+      fits nothing C h = absurd (omega arith)
+      fits (made p) C h = filling-room (G .state) (G .fits .0) c j′ m k o (T .joins) (T .goes) (T .lead) C
 
-  pub going-nothing : (b : Bool) → Going b st ts f d cs j out₀ i w last out → {len next : ℕ} → g ≡ Clause len next → len ≡ 0
-      → Going b st ts f d cs j out₀ next w last out₁
-  going-nothing true G e x = record {
-    fits = G .fits;
-    state = (G .state .0, G .state .1, T .same ∙ G .state .2, first-nothing (G .state .3) (T .goes) c j′ m k (first-lead T (G .state .0)) (T .meant) e x);
-  }
-  going-nothing false G e x = record {
-    fits = G .fits;
-    state = filling-nothing (G .state) (G .fits .0) c j′ m k o (T .joins) (T .goes) (T .lead) out₁ (T .touches) (T .same) (T .meant) e x;
-  }
+  module _ {next r : ℕ} (e : r ≡ next) {end : ℕ} {out₂ : List ℕ} where
+    -- it is nothing
+    pub going-nothing : (b : Bool) → Going b st ts f d cs j out₀ i w last out → (s : ℕ) → s ≡ bodyStart b w → (q : Made) → Eventually (clauseRun st ts f d k) (got (found q next))
+        → Put out₁ s (madeBytes q) end out₂ → end ≡ s → Going b st ts f d cs j out₀ r w last out₂
+    going-nothing b G s es (made q) C P x = absurd (omega (arith, P .place, length-encode q))
+    going-nothing true G s es nothing C P x = rw (e, put-nothing P x) (record {
+      fits = G .fits;
+      state = (G .state .0, G .state .1, T .same ∙ G .state .2, first-nothing st ts f d i (G .state .3) (T .goes) c j′ m k (first-lead T (G .state .0)) C);
+    })
+    going-nothing false G s es nothing C P x = rw (e, put-nothing P x) (record {
+      fits = G .fits;
+      state = filling-nothing (G .state) (G .fits .0) c j′ m k o (T .joins) (T .goes) (T .lead) out₁ (T .touches) (T .same) C;
+    })
 
-  -- the query of a clause that is kept, and room for it
-  pub going-query : (b : Bool) → Going b st ts f d cs j out₀ i w last out → {len next : ℕ} → g ≡ Clause len next → (len ≡ 0 → ⊥)
-      → (q : Query) × Eventually (clauseRun st ts f d k) (got (found (made q) next)) × (len ≡ length (encode q)) × Space b w len (length out₀)
-  going-query true G e x =
-      let z = first-made (G .state .3) (T .goes) c j′ m k (first-lead T (G .state .0)) (T .meant) e x (ap (λ (a : Clauses). got (kept a j)) (G .fits .2)) in
-      (G .fits .1, z .0, z .1, z .1 ∙ sym (G .fits .4))
-  going-query false G e x =
-      let z = filling-query (G .state) (G .fits .0) c j′ m k o (T .joins) (T .goes) (T .lead) out₁ (T .touches) (T .same) (T .meant) e x in
-      (z .0, z .1, z .2, z .3)
+    -- it is the next of the Boolean's clauses
+    pub going-made : (b : Bool) → Going b st ts f d cs j out₀ i w last out → b ≡ false → (s : ℕ) → s ≡ bodyStart b w → (q : Made) → Eventually (clauseRun st ts f d k) (got (found q next))
+        → Put out₁ s (madeBytes q) end out₂ → (end ≡ s → ⊥) → (tag len p : ℕ) (out₃ : List ℕ)
+        → tag ≡ kindTag (kindAfter o (conjunctionOf c) (modifierOf m)) → Put out₂ w (header tag len) p out₃ → len ≡ end - s → length out₃ ≡ length out₁
+        → Going b st ts f d cs j out₀ r end w out₃
+    going-made true G a s es q C P x tag len p out₃ et Q el l = clash refl a
+    going-made false G a s es nothing C P x tag len p out₃ et Q el l = absurd (x (P .place ∙ omega arith))
+    going-made false G a s es (made q) C P x tag len p out₃ et Q el l = rw e (record {
+      fits = G .fits;
+      state = filling-made (G .state) (G .fits .0) c j′ m k o (T .joins) (T .goes) (T .lead) out₁ (T .touches) (T .same) C tag len p end out₂ out₃ et
+          (subst (λ (y : ℕ). Put out₁ y (encode q) end out₂) es P) Q (el ∙ ap (λ (y : ℕ). end - y) es) l;
+    })
 
-  -- written, it is the next of the Boolean's clauses
-  pub going-made : (b : Bool) (G : Going b st ts f d cs j out₀ i w last out) → b ≡ false → {len next : ℕ} (e : g ≡ Clause len next) (x : len ≡ 0 → ⊥)
-      (tag end : ℕ) (out₂ out₃ : List ℕ) (start : ℕ) → tag ≡ kindTag (kindAfter o (conjunctionOf c) (modifierOf m)) → PutUnless b out₁ w (header tag len) start out₂
-      → Put out₂ start (encode (going-query b G e x .0)) end out₃ → length out₃ ≡ length out₁ → Going b st ts f d cs j out₀ next end w out₃
-  unfolding going-query
-  going-made true G a e x tag end out₂ out₃ start et P Q l = clash refl a
-  going-made false G a e x tag end out₂ out₃ start et P Q l = record {
-    fits = G .fits;
-    state = filling-made (G .state) (G .fits .0) c j′ m k o (T .joins) (T .goes) (T .lead) out₁ (T .touches) (T .same) (T .meant) e x tag end out₂ out₃ start et P Q l;
-  }
+    -- or it is the whole query
+    pub going-alone : (b : Bool) → Going b st ts f d cs j out₀ i w last out → b ≡ true → (s : ℕ) → s ≡ bodyStart b w → (q : Made) → Eventually (clauseRun st ts f d k) (got (found q next))
+        → Put out₁ s (madeBytes q) end out₂ → (end ≡ s → ⊥) → out₂ ≡ madeBytes (queryOf cs)
+    going-alone false G a s es q C P x = clash a refl
+    going-alone true G a s es nothing C P x = absurd (x (P .place ∙ omega arith))
+    going-alone true G a s es (made p) C P x =
+        let q = G .fits .1 in
+        let same = first-made st ts f d i (G .state .3) (T .goes) c j′ m k (first-lead T (G .state .0)) (ap (λ (a : Clauses). got (kept a j)) (G .fits .2)) C in
+        P .bytes ∙ ap (λ (y : Query). laid out₁ s (encode y)) same ∙ ap (λ (y : ℕ). laid out₁ y (encode q)) (es ∙ G .state .0)
+        ∙ laid-all out₁ (encode q) (sym (T .same ∙ G .state .2 ∙ G .fits .4)) ∙ sym (ap madeBytes (G .fits .3))
 
-  -- or it is the whole query
-  pub going-alone : (b : Bool) (G : Going b st ts f d cs j out₀ i w last out) → b ≡ true → {len next : ℕ} (e : g ≡ Clause len next) (x : len ≡ 0 → ⊥)
-      (tag : ℕ) {end start : ℕ} {out₂ out₃ : List ℕ} → PutUnless b out₁ w (header tag len) start out₂ → Put out₂ start (encode (going-query b G e x .0)) end out₃
-      → length out₂ ≡ length out₀ → out₃ ≡ madeBytes (queryOf cs)
-  unfolding going-query
-  going-alone true G a e x tag {out₂ = out₂} P Q l =
-      let q = G .fits .1 in
-      Q .bytes ∙ ap (λ (y : ℕ). laid out₂ y (encode q)) (P .0) ∙ laid-all out₂ (encode q) (sym (l ∙ G .fits .4)) ∙ sym (ap madeBytes (G .fits .3))
-  going-alone false G a e x tag P Q l = clash a refl
+-- where a body begins
+pub body-near : (b : Bool) (w : ℕ) → bodyStart b w ≤ w + 3
+body-near true w = omega arith
+body-near false w = omega arith
 
--- a clause ends within the stretch
-pub space-start : (b : Bool) (w tag len start n : ℕ) (out₁ out₂ : List ℕ) → PutUnless b out₁ w (header tag len) start out₂ → Space b w len n → start + len ≤ n
-space-start true w tag len start n out₁ out₂ P s = omega (arith, P .0)
-space-start false w tag len start n out₁ out₂ P s = omega (arith, P .place)
-
-pub space-header : (b : Bool) (w len n : ℕ) → Space b w len n → b ≡ false → w + 3 ≤ n
-space-header true w len n s a = clash refl a
-space-header false w len n s a = omega arith
-
-pub space-len : (b : Bool) (w len n : ℕ) → Space b w len n → len ≤ n
-space-len true w len n s = omega arith
-space-len false w len n s = omega arith
+pub body-after : (b : Bool) (w : ℕ) → b ≡ false → bodyStart b w ≡ w + 3
+body-after b w e = rw e

@@ -4,8 +4,9 @@ pub mod Keeping
 pub mod Rows
 pub mod Bodies
 pub mod Steps
-pub mod Writing
+pub mod Fuel
 pub mod Fronts
+pub mod Writing
 pub mod Filling
 pub mod Going
 pub mod Placing

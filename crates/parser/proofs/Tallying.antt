@@ -18,7 +18,7 @@ use Rattle.rules.proofs.Pieces.{total}
 use Rattle.rules.proofs.Tokens.{tokens-total, tokens-most}
 use Rattle.analysis.specs.Tokens.{Found, spelled}
 use Rattle.parser.specs.Kinds.{madeBytes, madeLength}
-use Rattle.parser.specs.Leaves.{tallied, Tallied}
+use Rattle.parser.specs.Leaves.{tallied, Tallied, leafOf}
 
 -- ---- a token at a time
 
@@ -147,3 +147,16 @@ module _ (f : List ℕ) where
   phrase-length-many (t ∷ []) n m = absurd (m refl)
   phrase-length-many (t ∷ u ∷ ts) n m =
       omega (arith, length-phrase f (placedFrom 0 (t ∷ u ∷ ts)), words-length 0 (t ∷ u ∷ ts))
+
+-- ---- a text that is one token
+
+module _ (a : ℕ) (s : List ℕ) (one : tokenTexts a s ≡ spelled a s ∷ []) where
+  pub one-some : 0 < length s
+  one-some = omega (arith, tokens-most a s, ap length one)
+
+  pub leaf-length-one : (plain : Bool) (o : ℕ) (f : List ℕ) → 9 + length f + length s ≡ madeLength (leafOf plain o f (tokenize a s))
+  unfolding tallied
+  leaf-length-one true o f =
+      rw one (omega (arith, spelled-length a s, term-length-one f o (spelled a s ∷ []) refl))
+  leaf-length-one false o f =
+      rw one (omega (arith, spelled-length a s, phrase-length-one f (spelled a s ∷ []) refl))

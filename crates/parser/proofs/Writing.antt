@@ -3,7 +3,7 @@
 use mathlib.Core.Path.{_≡_, refl, sym, ap, subst, _∙_}
 use mathlib.Core.Bool.{Bool, true, false, cond}
 use Prim.Native.Nat.{ℕ, zero, suc, _+_, _-_, _≤_, _<_}
-use mathlib.Core.List.{List, [], _∷_, _++_, append-assoc, append-nil, cons-ne-nil}
+use mathlib.Core.List.{List, [], _∷_, _++_, append-assoc, append-nil}
 use native.Mathlib.Omega.{arith}
 use native.Mathlib.Numerals.{add-one}
 use lib.Dec.{eqb}
@@ -12,17 +12,19 @@ use lib.Seq.{paste, length-take-le}
 use Rattle.rules.specs.Numbers.{wordTag}
 use Rattle.rules.specs.Bytes.{big, part}
 use Rattle.rules.specs.Analysis.{tokenTexts, placedFrom, tokenize, lower, lowercase}
-use Rattle.rules.specs.Query.{Kind, term, phrase, boolean}
+use Rattle.rules.specs.Query.{Kind, Query, term, phrase, boolean}
 use Rattle.rules.specs.Stored.{encode, encodes, encodeWords, kindTag}
-use Rattle.rules.specs.Parsing.{Made, made, operatorKind, termClauses, termOf, phraseOf}
+use Rattle.rules.specs.Parsing.{Made, nothing, made, operatorKind, termClauses, termOf, phraseOf}
 use Rattle.rules.proofs.Bigs.{length-big}
-use Rattle.rules.proofs.Sizes.{length-term, length-phrase, length-boolean}
+use Rattle.rules.proofs.Sizes.{length-term, length-phrase, length-boolean, length-encode}
 use Rattle.analysis.specs.Tokens.{Found, spelled, writtenByte}
 use Rattle.parts.specs.Laid.{Put, header}
-use Rattle.parts.proofs.Laying.{laid-none, laid-all, put-then, put-body, copy-turn, copy-end}
+use Rattle.parts.proofs.Laying.{laid-none, put-then, put-body, copy-turn, copy-end}
 use Rattle.parser.specs.Kinds.{madeBytes, madeLength}
-use Rattle.parser.specs.Leaves.{tallied, termRow, FirstWritten}
-use Rattle.parser.proofs.Tallying.{spelled-length, term-length-many, phrase-length-many}
+use Rattle.parser.specs.Leaves.{termRow, leafOf}
+use Rattle.parser.specs.Written.{HasRoom}
+use Rattle.parser.proofs.Tallying.{spelled-length}
+use Rattle.parser.proofs.Fronts.{put-before, head-before}
 
 -- ---- spelling
 
@@ -136,15 +138,18 @@ module _ {a : ℕ} {s : List ℕ} {from start len : ℕ} (F : Found a s from sta
       ≡ part wordTag (big 4 p ++ spelled a (take (start + len - start) (drop start s))) ++ encodeWords (placedFrom (p + 1) (tokenTexts a (drop (start + len) s)))
   words-here p n = words-one p (one-here n) ∙ rw add-one
 
-module _ {a : ℕ} {s : List ℕ} {start len : ℕ} (F : Found a s 0 start len) (t : List ℕ) (us : List (List ℕ)) (e : tokenTexts a s ≡ t ∷ us) where
-  first-some : len ≡ 0 → ⊥
-  first-some z = let x : t ∷ us ≡ [] = sym e ∙ F .none z in cons-ne-nil t us x
+-- a first token, and whether a second follows it
+module _ {a : ℕ} {s : List ℕ} {start len : ℕ} (F : Found a s 0 start len) (n : len ≡ 0 → ⊥) {start₂ len₂ : ℕ} (G : Found a s (start + len) start₂ len₂) where
+  pub text-one : len₂ ≡ 0 → tokenTexts a s ≡ spelled a (take (start + len - start) (drop start s)) ∷ []
+  text-one e = one-here F n ∙ ap (λ (r : List (List ℕ)). spelled a (take (start + len - start) (drop start s)) ∷ r) (G .none e)
 
-  pub first-slice : spelled a (take (start + len - start) (drop start s)) ≡ t
-  first-slice = let x : spelled a (take (start + len - start) (drop start s)) ∷ tokenTexts a (drop (start + len) s) ≡ t ∷ us = sym (one-here F first-some) ∙ e in cc
-
-  pub first-size : length t ≡ len
-  first-size = ap length (sym first-slice) ∙ spelled-length a _ ∙ slice-length s start len (omega (arith, F .within))
+  pub text-many : (len₂ ≡ 0 → ⊥) → (t : List ℕ) × (u : List ℕ) × (us : List (List ℕ)) × (tokenTexts a s ≡ t ∷ u ∷ us)
+  text-many m = (
+    spelled a (take (start + len - start) (drop start s)),
+    spelled a (take (start₂ + len₂ - start₂) (drop start₂ s)),
+    tokenTexts a (drop (start₂ + len₂) s),
+    one-here F n ∙ ap (λ (r : List (List ℕ)). spelled a (take (start + len - start) (drop start s)) ∷ r) (one-here G m),
+  )
 
 -- a clause and a word fit where their bytes do
 pub clause-room : (f t out : List ℕ) (a w tag : ℕ) → w + length (part tag (encode (term f (spelled a t)))) ≤ length out → w + 12 + length f + length t ≤ length out
@@ -160,108 +165,59 @@ unfolding encodes termClauses placedFrom termRow
 row-is k f p [] = refl
 row-is k f p (t ∷ ts) = ap (λ (r : List ℕ). part (kindTag k) (encode (term f t)) ++ r) (row-is k f (suc p) ts)
 
--- the query that texts of tokens make: of one text it is a term, of more it is longer than the first text's term
-module _ (f : List ℕ) (G : List (List ℕ) → Made) (no : madeLength (G []) ≡ 0) (one : (t : List ℕ) → G (t ∷ []) ≡ made (term f t))
-    (many : (t u : List ℕ) (us : List (List ℕ)) → 9 + length f + length t < madeLength (G (t ∷ u ∷ us))) where
-  first-alone : (ts : List (List ℕ)) (out out′ : List ℕ) → length out ≡ madeLength (G ts) → 0 < length out → FirstWritten ts f out true out′ → out′ ≡ madeBytes (G ts)
-  first-alone [] out out′ l h w = absurd (omega (arith, no))
-  first-alone (t ∷ []) out out′ l h w = w t [] refl .1 ∙ sym (ap madeBytes (one t))
-  first-alone (t ∷ u ∷ us) out out′ l h w = absurd (omega (arith, many t u us, w t (u ∷ us) refl .0))
-
-  first-of-many : (ts : List (List ℕ)) (out out′ : List ℕ) → length out ≡ madeLength (G ts) → FirstWritten ts f out false out′ → length ts ≡ 1 → ⊥
-  first-of-many [] out out′ l w e = absurd (omega arith)
-  first-of-many (t ∷ []) out out′ l w e = w .1 t [] refl (l ∙ ap madeLength (one t) ∙ length-term f t)
-  first-of-many (t ∷ u ∷ us) out out′ l w e = absurd (omega arith)
-
+-- what is made of no text, of one, and of several
 module _ (o : ℕ) (f : List ℕ) where
-  term-is : {t : List ℕ} {ts : List (List ℕ)} → ts ≡ t ∷ [] → termOf o f (placedFrom 0 ts) ≡ made (term f t)
+  pub leaf-none : (p : Bool) {ts : List (List ℕ)} → ts ≡ [] → leafOf p o f (placedFrom 0 ts) ≡ nothing
+  unfolding termOf phraseOf placedFrom
+  leaf-none true e = rw e
+  leaf-none false e = rw e
+
+  pub leaf-one : (p : Bool) {t : List ℕ} {ts : List (List ℕ)} → ts ≡ t ∷ [] → leafOf p o f (placedFrom 0 ts) ≡ made (term f t)
+  unfolding termOf phraseOf placedFrom
+  leaf-one true e = rw e
+  leaf-one false e = rw e
+
+  pub leaf-boolean : {p : Bool} {t u : List ℕ} {us ts : List (List ℕ)} → p ≡ true → ts ≡ t ∷ u ∷ us
+      → leafOf p o f (placedFrom 0 ts) ≡ made (boolean 0 (termClauses (operatorKind o) f (placedFrom 0 ts)))
   unfolding termOf placedFrom
-  term-is e = rw e
+  leaf-boolean b e = rw (b, e)
 
-  boolean-is : (ts : List (List ℕ)) → (length ts ≡ 1 → ⊥) → 0 < madeLength (termOf o f (placedFrom 0 ts))
-      → madeBytes (termOf o f (placedFrom 0 ts)) ≡ encode (boolean 0 (termClauses (operatorKind o) f (placedFrom 0 ts)))
-  unfolding termOf placedFrom
-  boolean-is [] n h = absurd (omega arith)
-  boolean-is (t ∷ []) n h = absurd (n refl)
-  boolean-is (t ∷ u ∷ ts) n h = refl
-
-  no-term : madeLength (termOf o f (placedFrom 0 [])) ≡ 0
-  unfolding termOf placedFrom
-  no-term = refl
-
-  terms-longer : (t u : List ℕ) (us : List (List ℕ)) → 9 + length f + length t < madeLength (termOf o f (placedFrom 0 (t ∷ u ∷ us)))
-  unfolding tallied
-  terms-longer t u us = omega (arith, term-length-many f o (t ∷ u ∷ us) (λ e. omega arith) (λ e. omega arith))
-
-  pub term-alone : (ts : List (List ℕ)) (out out′ : List ℕ) → length out ≡ madeLength (termOf o f (placedFrom 0 ts)) → 0 < length out → FirstWritten ts f out true out′
-      → out′ ≡ madeBytes (termOf o f (placedFrom 0 ts))
-  term-alone = first-alone f (λ ts. termOf o f (placedFrom 0 ts)) no-term (λ t. term-is refl) terms-longer
-
-  pub term-of-many : (ts : List (List ℕ)) (out out′ : List ℕ) → length out ≡ madeLength (termOf o f (placedFrom 0 ts)) → FirstWritten ts f out false out′ → length ts ≡ 1 → ⊥
-  term-of-many = first-of-many f (λ ts. termOf o f (placedFrom 0 ts)) no-term (λ t. term-is refl) terms-longer
-
-  module _ (a : ℕ) (s out : List ℕ) (n : length (tokenTexts a s) ≡ 1 → ⊥) (h : 0 < length out) (l : length out ≡ madeLength (termOf o f (tokenize a s))) where
-    row : List ℕ
-    row = termRow (kindTag (operatorKind o)) f (tokenTexts a s)
-
-    bytes-are : madeBytes (termOf o f (tokenize a s)) ≡ encode (boolean 0 (termClauses (operatorKind o) f (tokenize a s)))
-    bytes-are = boolean-is (tokenTexts a s) n (omega arith)
-
-    pub boolean-size : length out ≡ 8 + length (termRow (kindTag (operatorKind o)) f (tokenTexts a s))
-    boolean-size = l ∙ ap length bytes-are ∙ length-boolean 0 _ ∙ ap (λ (r : List ℕ). 8 + length r) (row-is (operatorKind o) f 0 (tokenTexts a s))
-
-    pub boolean-put : {o1 o2 o3 : List ℕ} {m b c d : ℕ} → Put out 0 (header 3 m) b o1 → Put o1 b (part 0x13 (big 2 0)) c o2
-        → Put o2 c (termRow (kindTag (operatorKind o)) f (tokenTexts a s)) d o3 → m ≡ length out - 3 → length o1 ≡ length out
-        → o3 ≡ madeBytes (termOf o f (tokenize a s))
-    unfolding encode row
-    boolean-put P Q R em l1 =
-        let z = boolean-size in
-        let Y = put-then Q R (omega (arith, P .place)) in
-        let W = put-body P Y (em ∙ omega (arith, length-append (part 0x13 (big 2 0)) row)) (omega (arith, length-append (part 0x13 (big 2 0)) row)) in
-        W .bytes ∙ laid-all out (part 3 (part 0x13 (big 2 0) ++ row)) (omega (arith, length-append (part 0x13 (big 2 0)) row))
-        ∙ ap (λ (r : List ℕ). part 3 (part 0x13 (big 2 0) ++ r)) (sym (row-is (operatorKind o) f 0 (tokenTexts a s))) ∙ sym bytes-are
-
-module _ (f : List ℕ) where
-  phrase-one : {t : List ℕ} {ts : List (List ℕ)} → ts ≡ t ∷ [] → phraseOf f (placedFrom 0 ts) ≡ made (term f t)
+  pub leaf-phrase : {p : Bool} {t u : List ℕ} {us ts : List (List ℕ)} → p ≡ false → ts ≡ t ∷ u ∷ us → leafOf p o f (placedFrom 0 ts) ≡ made (phrase f (placedFrom 0 ts))
   unfolding phraseOf placedFrom
-  phrase-one e = rw e
+  leaf-phrase b e = rw (b, e)
 
-  phrase-is : (ts : List (List ℕ)) → (length ts ≡ 1 → ⊥) → 0 < madeLength (phraseOf f (placedFrom 0 ts))
-      → madeBytes (phraseOf f (placedFrom 0 ts)) ≡ encode (phrase f (placedFrom 0 ts))
-  unfolding phraseOf placedFrom
-  phrase-is [] n h = absurd (omega arith)
-  phrase-is (t ∷ []) n h = absurd (n refl)
-  phrase-is (t ∷ u ∷ ts) n h = refl
+pub made-room : {m : Made} {q : Query} (at n : ℕ) → m ≡ made q → HasRoom m at n → at + length (encode q) ≤ n
+made-room {q = q} at n e h = let l = ap madeLength e in omega (arith, h (omega (arith, length-encode q)))
 
-  no-phrase : madeLength (phraseOf f (placedFrom 0 [])) ≡ 0
-  unfolding phraseOf placedFrom
-  no-phrase = refl
+pub made-put : {m : Made} {q : Query} {out out′ : List ℕ} {at r : ℕ} → m ≡ made q → Put out at (encode q) r out′ → Put out at (madeBytes m) r out′
+made-put {out = out} {out′} {at} {r} e P = subst (λ (x : Made). Put out at (madeBytes x) r out′) (sym e) P
 
-  phrase-longer : (t u : List ℕ) (us : List (List ℕ)) → 9 + length f + length t < madeLength (phraseOf f (placedFrom 0 (t ∷ u ∷ us)))
-  unfolding tallied
-  phrase-longer t u us = omega (arith, phrase-length-many f (t ∷ u ∷ us) (λ e. omega arith) (λ e. omega arith))
+-- a Boolean: its clauses, and its front before them
+module _ (o : ℕ) (f : List ℕ) (a : ℕ) (s : List ℕ) where
+  pub boolean-length : length (encode (boolean 0 (termClauses (operatorKind o) f (tokenize a s)))) ≡ 8 + length (termRow (kindTag (operatorKind o)) f (tokenTexts a s))
+  boolean-length = length-boolean 0 (termClauses (operatorKind o) f (tokenize a s)) ∙ ap (λ (r : List ℕ). 8 + length r) (row-is (operatorKind o) f 0 (tokenTexts a s))
 
-  pub phrase-alone : (ts : List (List ℕ)) (out out′ : List ℕ) → length out ≡ madeLength (phraseOf f (placedFrom 0 ts)) → 0 < length out → FirstWritten ts f out true out′
-      → out′ ≡ madeBytes (phraseOf f (placedFrom 0 ts))
-  phrase-alone = first-alone f (λ ts. phraseOf f (placedFrom 0 ts)) no-phrase (λ t. phrase-one refl) phrase-longer
+  pub boolean-put : {out o1 o2 o3 : List ℕ} {at w b c : ℕ} (m : ℕ) → Put out (at + 8) (termRow (kindTag (operatorKind o)) f (tokenTexts a s)) w o1
+      → Put o1 at (header 3 m) b o2 → Put o2 b (part 0x13 (big 2 0)) c o3 → m ≡ w - at - 3
+      → at + length (encode (boolean 0 (termClauses (operatorKind o) f (tokenize a s)))) ≤ length out → length o1 ≡ length out
+      → Put out at (encode (boolean 0 (termClauses (operatorKind o) f (tokenize a s)))) w o3
+  unfolding encode
+  boolean-put {out} {o3 = o3} {at} {w} m P Q R em h l =
+      let row = termRow (kindTag (operatorKind o)) f (tokenTexts a s) in
+      let z = boolean-length in
+      let F = put-then Q R (omega arith) in
+      let Z = put-before P F refl (omega arith) in
+      let e : m ≡ length (part 0x13 (big 2 0) ++ row) = omega (arith, P .place, length-append (part 0x13 (big 2 0)) row) in
+      subst (λ (x : List ℕ). Put out at x w o3)
+      (ap (λ (y : ℕ). (header 3 y ++ part 0x13 (big 2 0)) ++ row) e ∙ ap (λ (r : List ℕ). part 3 (part 0x13 (big 2 0) ++ r)) (sym (row-is (operatorKind o) f 0 (tokenTexts a s)))) Z
 
-  pub phrase-of-many : (ts : List (List ℕ)) (out out′ : List ℕ) → length out ≡ madeLength (phraseOf f (placedFrom 0 ts)) → FirstWritten ts f out false out′ → length ts ≡ 1 → ⊥
-  phrase-of-many = first-of-many f (λ ts. phraseOf f (placedFrom 0 ts)) no-phrase (λ t. phrase-one refl) phrase-longer
-
-  module _ (a : ℕ) (s out : List ℕ) (n : length (tokenTexts a s) ≡ 1 → ⊥) (h : 0 < length out) (l : length out ≡ madeLength (phraseOf f (tokenize a s))) where
-    phrase-bytes : madeBytes (phraseOf f (tokenize a s)) ≡ encode (phrase f (tokenize a s))
-    phrase-bytes = phrase-is (tokenTexts a s) n (omega arith)
-
-    pub phrase-size : length out ≡ 6 + length f + length (encodeWords (tokenize a s))
-    phrase-size = l ∙ ap length phrase-bytes ∙ length-phrase f (tokenize a s)
-
-    pub phrase-put : {o1 o2 o3 : List ℕ} {m b c d : ℕ} → Put out 0 (header 2 m) b o1 → Put o1 b (part 0x10 f) c o2
-        → Put o2 c (encodeWords (tokenize a s)) d o3 → m ≡ length out - 3 → length o1 ≡ length out
-        → o3 ≡ madeBytes (phraseOf f (tokenize a s))
-    unfolding encode
-    phrase-put P Q R em l1 =
-        let z = phrase-size in
-        let r = encodeWords (tokenize a s) in
-        let Y = put-then Q R (omega (arith, P .place)) in
-        let W = put-body P Y (em ∙ omega (arith, length-append (part 0x10 f) r)) (omega (arith, length-append (part 0x10 f) r)) in
-        W .bytes ∙ laid-all out (part 2 (part 0x10 f ++ r)) (omega (arith, length-append (part 0x10 f) r)) ∙ sym phrase-bytes
+-- a phrase: its field and words, and its header before them
+pub phrase-put : (f : List ℕ) (a : ℕ) (s : List ℕ) {out o1 o2 o3 : List ℕ} {at b w p : ℕ} (m : ℕ) → Put out (at + 3) (part 0x10 f) b o1 → Put o1 b (encodeWords (tokenize a s)) w o2
+    → Put o2 at (header 2 m) p o3 → m ≡ w - at - 3 → at + length (encode (phrase f (tokenize a s))) ≤ length out → Put out at (encode (phrase f (tokenize a s))) w o3
+unfolding encode
+phrase-put f a s m P Q R em h =
+    let ws = encodeWords (tokenize a s) in
+    let z = length-phrase f (tokenize a s) in
+    let n = length-append (part 0x10 f) ws in
+    let Y = put-then P Q (omega arith) in
+    head-before Y R refl (omega (arith, Y .place)) (omega arith)

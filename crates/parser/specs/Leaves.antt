@@ -22,13 +22,6 @@ unfoldable pub termRow : ℕ → List ℕ → List (List ℕ) → List ℕ
 termRow tag f [] = []
 termRow tag f (t ∷ ts) = part tag (encode (term f t)) ++ termRow tag f ts
 
--- the first token's term, in a stretch that is as long; false where it is not
-abbrev pub FirstWritten : List (List ℕ) → List ℕ → List ℕ → Bool → List ℕ → Type 0
-FirstWritten ts f out true out′ =
-    (t : List ℕ) (us : List (List ℕ)) → ts ≡ t ∷ us → (length out ≡ 9 + length f + length t) × (out′ ≡ encode (term f t))
-FirstWritten ts f out false out′ =
-    (out′ ≡ out) × ((t : List ℕ) (us : List (List ℕ)) → ts ≡ t ∷ us → length out ≡ 9 + length f + length t → ⊥)
-
 -- ---- a term, and with false a quoted text
 
 abbrev pub leafOf : Bool → ℕ → List ℕ → List Word → Made

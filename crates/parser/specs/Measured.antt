@@ -3,13 +3,13 @@ use mathlib.Core.Path.{_≡_}
 use Prim.Native.Nat.{ℕ, suc, _+_, _*_, _-_, _≤_, _<_}
 use mathlib.Core.List.{List, []}
 use mathlib.Core.Bool.{Bool, true, _&&_}
-use lib.ListN.{length, getD}
+use lib.ListN.{length, getD, set}
 use Rattle.rules.specs.Numbers.{Refusal, number, Read, got, refused, onRead, textMost, fieldMost}
 use Rattle.rules.specs.Query.{Clauses, none}
 use Rattle.rules.specs.Lexing.{Token, endKind, termKind, colonKind}
 use Rattle.rules.specs.Setup.{Setup, analyzerOf}
 use Rattle.rules.specs.Parsing.{Made, Found, found, Kept, kept, isAt, textAt, queryFound, clauseAt, parseClauses}
-use Rattle.lexer.specs.Row.{roomLeast, entryAt, tokensOf, Laid, nameFrom}
+use Rattle.lexer.specs.Row.{roomLeast, noteIn, tokensOf, Laid, Worded, nameFrom}
 use Rattle.parser.specs.Kinds.{Sums, madeLength}
 use Rattle.parser.specs.declared.kinds.Measured.{Measured}
 use Rattle.parser.specs.declared.kinds.Measured.the-variants.{Refused, Clause}
@@ -38,6 +38,7 @@ pub record Rowed (room : List ℕ) (n : ℕ) : Type 0 where
   pub few : n ≤ textMost
   pub laid : Laid room n
   pub spaced : (i : ℕ) → i < n → Spaced (tokensOf room n) i
+  pub worded : Worded room n
 
 -- a field name stands before the clause at i
 abbrev pub isNamed : List Token → ℕ → Bool
@@ -45,7 +46,7 @@ isNamed ts i = isAt termKind ts i && isAt colonKind ts (i + 1)
 
 -- the analyzer that is noted at the token i
 abbrev pub noteAt : List ℕ → ℕ → ℕ
-noteAt room i = getD room (entryAt i + 1) 0
+noteAt room i = noteIn room i
 
 -- the field in force, by number: 0 the default field, k + 1 the text of token k
 pub record Fielded (room : List ℕ) (n : ℕ) (default : List ℕ) (from : ℕ) : Type 0 where

@@ -2,19 +2,23 @@
 use mathlib.Core.Path.{_≡_}
 use Prim.Native.Nat.{ℕ, _≤_, _<_}
 use mathlib.Core.List.{List}
-use mathlib.Core.Bool.{true}
+use mathlib.Core.Bool.{Bool, true}
 use lib.ListN.{length, set}
 use Rattle.rules.specs.Numbers.{Read, got, refused, badSetup}
-use Rattle.rules.specs.Bytes.{all}
+use Rattle.rules.specs.Bytes.{isText, all}
 use Rattle.rules.specs.Setup.{FieldEntry, isFieldEntry, analyzerAmong, entriesIn, readSetup}
 use Rattle.rules.specs.Parsing.{textAt}
 use Rattle.analysis.specs.Fields.{rowText, arrayEntries}
 use Rattle.lexer.specs.Row.{tokensOf}
 use Rattle.parser.specs.Measured.{Rowed, isNamed, noteAt}
 
--- a name is laid in the k-th row
-abbrev pub RowPut : List (List ℕ) → ℕ → List ℕ → List (List ℕ) → Type 0
-RowPut names k s names′ = (row : List ℕ) × (names′ ≡ set names k row) × (length row ≡ 32) × (rowText (length s) row ≡ s)
+-- the k-th row alone is changed, and holds the name where the answer b is that the name is ASCII
+pub record RowPut (names : List (List ℕ)) (k : ℕ) (s : List ℕ) (b : Bool) (names′ : List (List ℕ)) : Type 0 where
+  pub row : List ℕ
+  pub at : names′ ≡ set names k row
+  pub full : length row ≡ 32
+  pub told : b ≡ isText s
+  pub held : b ≡ true → rowText (length s) row ≡ s
 
 -- what the arrays hold of the entries' bytes: all of them, where they keep the rules, else the setup is refused
 pub record Entered (fields : List ℕ) (names : List (List ℕ)) (lengths analyzers : List ℕ) (count : ℕ) : Type 0 where

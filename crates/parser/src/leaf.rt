@@ -6,19 +6,23 @@ use parts::write::put_header;
 use parts::write::put_minimum;
 use parts::write::put_part;
 ghost use mathlib.Core.Path.{_≡_};
+ghost use mathlib.Core.Bool.{true};
 ghost use mathlib.Core.List.{List, [], _∷_, _++_};
+ghost use mathlib.Core.Bool.{true};
+ghost use Rattle.analysis.specs.Tokens.{OneWord};
 ghost use Prim.Native.Nat.{ℕ, _+_, _*_, _≤_, _<_};
 ghost use lib.ListN.{length};
 ghost use Rattle.rules.specs.Numbers.{textMost, fieldMost, wordTag};
 ghost use Rattle.rules.specs.Bytes.{part, big};
-ghost use Rattle.rules.specs.Query.{term};
+ghost use Rattle.rules.specs.Query.{term, phrase, boolean};
 ghost use Rattle.rules.specs.Stored.{encode, encodeWords};
 ghost use Rattle.rules.specs.Analysis.{tokenTexts, tokenize};
-ghost use Rattle.rules.specs.Parsing.{termOf, phraseOf};
+ghost use Rattle.rules.specs.Parsing.{operatorKind, termClauses, termOf, phraseOf};
 ghost use Rattle.analysis.specs.Tokens.{spelled};
 ghost use Rattle.parts.specs.Laid.{Put};
 ghost use Rattle.parser.specs.Kinds.{madeLength, madeBytes};
-ghost use Rattle.parser.specs.Leaves.{Tallied, termRow, leafOf, FirstWritten};
+ghost use Rattle.parser.specs.Leaves.{Tallied, termRow, leafOf};
+ghost use Rattle.parser.specs.Written.{HasRoom};
 
 pub struct Tally {
     count: usize,
@@ -79,12 +83,29 @@ fn phrase_len(text: &[u8], analyzer: u8, field: usize) -> usize
     6 + field + t.bytes
 }
 
-// How long the query of a term's text is, or of a quoted text.
-pub fn leaf_len(plain: bool, text: &[u8], analyzer: u8, field: usize) -> usize
-    requires { ⌜ (field ≤ fieldMost) × (length (now text) ≤ textMost) ⌝ }
+// The text is one token: all of it to a keyword, and to the others where it is known to be a word.
+pub fn is_one(word: bool, analyzer: u8, text: &[u8]) -> bool
+    requires { ⌜ (word ≡ true → OneWord (now text)) ⌝ }
+    ensures { λ r. ⌜ (r ≡ true → tokenTexts analyzer (now (text .entry)) ≡ spelled analyzer (now (text .entry)) ∷ []) ⌝ }
+{
+    if analyzer == tokens::WHITESPACE {
+        return word;
+    }
+    if analyzer == tokens::SIMPLE {
+        return word;
+    }
+    0 < text.len()
+}
+
+// How long the query of a term's text is, or of a quoted text. Where the text is known to be one token, nothing is counted.
+pub fn leaf_len(plain: bool, one: bool, text: &[u8], analyzer: u8, field: usize) -> usize
+    requires { ⌜ (field ≤ fieldMost) × (length (now text) ≤ textMost) × (one ≡ true → tokenTexts analyzer (now text) ≡ spelled analyzer (now text) ∷ []) ⌝ }
     ensures made { λ r. ⌜ ((o : ℕ) (f : List ℕ) → length f ≡ field → r ≡ madeLength (leafOf plain o f (tokenize analyzer (now (text .entry))))) ⌝ }
     ensures bound { λ r. ⌜ r ≤ 8 + 45 * length (now (text .entry)) ⌝ }
 {
+    if one {
+        return 9 + field + text.len();
+    }
     if plain {
         return term_len(text, analyzer, field);
     }
@@ -172,45 +193,65 @@ fn put_words(out: &mut [u8], at: usize, analyzer: u8, text: &[u8]) -> usize
     }
 }
 
-// The first token of a text as a term, where that fills the stretch: then it is the only one. Nothing is written where it does not.
-fn write_first(field: &[u8], analyzer: u8, text: &[u8], out: &mut [u8]) -> bool
-    requires { ⌜ (length (now field) ≤ fieldMost) × (length (now text) ≤ textMost) ⌝ }
-    ensures { λ r. ⌜ FirstWritten (tokenTexts analyzer (now (text .entry))) (now (field .entry)) (now (out .entry)) r (now (out .exit)) ⌝ }
+// A Boolean of a clause for each token. Its front is laid last, when its length is known.
+fn write_boolean(
+    operator: u8,
+    field: &[u8],
+    analyzer: u8,
+    text: &[u8],
+    out: &mut [u8],
+    at: usize,
+) -> usize
+    requires { ⌜ (at + length (encode (boolean 0 (termClauses (operatorKind operator) (now field) (tokenize analyzer (now text))))) ≤ length (now out)) × (length (now field) ≤ fieldMost) × (length (now text) ≤ textMost) × (length (now out) ≤ 65000) ⌝ }
+    ensures { λ r. ⌜ Put (now (out .entry)) at (encode (boolean 0 (termClauses (operatorKind operator) (now (field .entry)) (tokenize analyzer (now (text .entry)))))) r (now (out .exit)) ⌝ }
 {
+    let w = put_clauses(out, at + 8, operator_tag(operator), field, analyzer, text);
+    let b = put_header(out, at, 0x03, w - at - 3);
+    put_minimum(out, b, 0);
+    w
+}
+
+// A phrase of the tokens. Its header is laid last, when its length is known.
+fn write_phrase(field: &[u8], analyzer: u8, text: &[u8], out: &mut [u8], at: usize) -> usize
+    requires { ⌜ (at + length (encode (phrase (now field) (tokenize analyzer (now text)))) ≤ length (now out)) × (length (now field) ≤ fieldMost) × (length (now text) ≤ textMost) × (length (now out) ≤ 65000) ⌝ }
+    ensures { λ r. ⌜ Put (now (out .entry)) at (encode (phrase (now (field .entry)) (tokenize analyzer (now (text .entry))))) r (now (out .exit)) ⌝ }
+{
+    let b = put_part(out, at + 3, 0x10, field);
+    let w = put_words(out, b, analyzer, text);
+    put_header(out, at, 0x02, w - at - 3);
+    w
+}
+
+// The query of a term's text (plain) or of a quoted text; gives the place behind it, `at` where the text has no token.
+// With `one` the text is known to be one token.
+pub fn write_text(
+    plain: bool,
+    one: bool,
+    operator: u8,
+    field: &[u8],
+    analyzer: u8,
+    text: &[u8],
+    out: &mut [u8],
+    at: usize,
+) -> usize
+    requires { ⌜ (HasRoom (leafOf plain operator (now field) (tokenize analyzer (now text))) at (length (now out))) × (length (now field) ≤ fieldMost) × (length (now text) ≤ textMost) × (length (now out) ≤ 65000) × (one ≡ true → tokenTexts analyzer (now text) ≡ spelled analyzer (now text) ∷ []) ⌝ }
+    ensures { λ r. ⌜ Put (now (out .entry)) at (madeBytes (leafOf plain operator (now (field .entry)) (tokenize analyzer (now (text .entry))))) r (now (out .exit)) ⌝ }
+{
+    if one {
+        return put_term(out, at, field, analyzer, text);
+    }
     let t = tokens::next_token(text, analyzer, 0);
-    if out.len() != 9 + field.len() + t.len {
-        return false;
+    if t.len == 0 {
+        return at;
     }
     let start = t.start;
     let end = start + t.len;
-    put_term(out, 0, field, analyzer, &text[start..end]);
-    true
-}
-
-// Fills the stretch with the query of a term's text: a term, or a Boolean of the default operator's kind.
-pub fn write_term(operator: u8, field: &[u8], analyzer: u8, text: &[u8], out: &mut [u8])
-    requires { ⌜ (length (now out) ≡ madeLength (termOf operator (now field) (tokenize analyzer (now text)))) × (0 < length (now out)) × (length (now field) ≤ fieldMost) × (length (now text) ≤ textMost) × (length (now out) ≤ 65000) ⌝ }
-    ensures { λ _. ⌜ now (out .exit) ≡ madeBytes (termOf operator (now (field .entry)) (tokenize analyzer (now (text .entry)))) ⌝ }
-{
-    if write_first(field, analyzer, text, out) {
-        return;
+    let u = tokens::next_token(text, analyzer, end);
+    if u.len == 0 {
+        return put_term(out, at, field, analyzer, &text[start..end]);
     }
-    let n = out.len() - 3;
-    let b = put_header(out, 0, 0x03, n);
-    let c = put_minimum(out, b, 0);
-    put_clauses(out, c, operator_tag(operator), field, analyzer, text);
-}
-
-// Fills the stretch with the query of a quoted text: a term, or a phrase.
-pub fn write_phrase(field: &[u8], analyzer: u8, text: &[u8], out: &mut [u8])
-    requires { ⌜ (length (now out) ≡ madeLength (phraseOf (now field) (tokenize analyzer (now text)))) × (0 < length (now out)) × (length (now field) ≤ fieldMost) × (length (now text) ≤ textMost) × (length (now out) ≤ 65000) ⌝ }
-    ensures { λ _. ⌜ now (out .exit) ≡ madeBytes (phraseOf (now (field .entry)) (tokenize analyzer (now (text .entry)))) ⌝ }
-{
-    if write_first(field, analyzer, text, out) {
-        return;
+    if plain {
+        return write_boolean(operator, field, analyzer, text, out, at);
     }
-    let n = out.len() - 3;
-    let b = put_header(out, 0, 0x02, n);
-    let c = put_part(out, b, 0x10, field);
-    put_words(out, c, analyzer, text);
+    write_phrase(field, analyzer, text, out, at)
 }

@@ -1,5 +1,5 @@
 // The measuring half of the parser: it follows the grammar and answers a refusal, or lengths. It writes nothing, so that a refusal
-// leaves the output as it was and every length is known before the first byte is written.
+// leaves the output as it was and the length of the whole is known before the first byte is written.
 // The field in force is handed down as a number: 0 for the default field, k + 1 for the text of token k.
 use crate::kinds;
 use crate::kinds::Counted;
@@ -7,32 +7,29 @@ use crate::kinds::Measured;
 use crate::kinds::Start;
 use crate::kinds::Sum;
 use crate::kinds::is_at;
+use crate::leaf::is_one;
 use crate::leaf::leaf_len;
-use boost::numeral::Answer;
-use boost::numeral::numeral;
+use boost::numeral::fault;
 use lexer::row::field_part;
+use lexer::row::is_word_at;
 use lexer::row::kind_at;
+use lexer::row::note_at;
 use lexer::row::text_at;
 ghost use mathlib.Core.Path.{_≡_};
 ghost use mathlib.Core.Bool.{true};
 ghost use Prim.Native.Nat.{ℕ, suc, _+_, _*_, _-_, _≤_, _<_};
+ghost use mathlib.Core.List.{[], _∷_};
 ghost use lib.ListN.{length};
 ghost use Rattle.rules.specs.Numbers.{textMost, number, Read, onRead, andThen};
 ghost use Rattle.rules.specs.Setup.{Setup};
 ghost use Rattle.rules.specs.Parsing.{Made, Kept, isAt, boostAt, closedAt, queryFound};
-ghost use Rattle.lexer.specs.Row.{roomLeast, tokensOf, nameFrom};
+ghost use Rattle.rules.specs.Analysis.{tokenTexts};
+ghost use Rattle.analysis.specs.Tokens.{spelled};
+ghost use Rattle.lexer.specs.Row.{tokenAt, tokensOf, nameFrom};
 ghost use Rattle.parser.specs.Kinds.{madeLength};
 ghost use Rattle.parser.specs.Leaves.{leafKind, leafFault, leafAt};
-ghost use Rattle.parser.specs.Measured.{Rowed, Fielded, Tuned, noteAt, MeansFound, MeansKept, WithinClause, WithinClauses, MeantClause, MeantClauses};
+ghost use Rattle.parser.specs.Measured.{Rowed, Fielded, Tuned, MeansFound, MeansKept, WithinClause, WithinClauses, MeantClause, MeantClauses};
 ghost use Rattle.parser.specs.Starting.{Starts, WithinBoost};
-
-// The analyzer noted at the token i.
-pub fn note_at(room: &[u8], i: usize) -> u8
-    requires { ⌜ (i < textMost) × (roomLeast ≤ length (now room)) ⌝ }
-    ensures { λ r. ⌜ r ≡ noteAt (now (room .entry)) i ⌝ }
-{
-    room[1024 + 8 * i + 1]
-}
 
 // A field name and a colon may stand before the clause at i.
 pub fn clause_start(room: &[u8], n: usize, from: usize, analyzer: u8, i: usize) -> Start
@@ -76,13 +73,14 @@ pub fn with_boost(room: &[u8], n: usize, len: usize, i: usize) -> Measured
 {
     if is_at(room, n, 11, i) {
         if is_at(room, n, 1, i + 1) {
-            match numeral(text_at(room, i + 1)) {
-                Answer::Refused(e) => return Measured::Refused(e),
-                Answer::Bits(_) => return Measured::Clause {
-                    len: boosted_len(len),
-                    next: i + 2,
-                },
+            let e = fault(text_at(room, i + 1));
+            if e != 0 {
+                return Measured::Refused(e);
             }
+            return Measured::Clause {
+                len: boosted_len(len),
+                next: i + 2,
+            };
         }
         return Measured::Refused(14);
     }
@@ -97,6 +95,14 @@ fn leaf_fault(plain: bool) -> u8
         return 8;
     }
     9
+}
+
+// That the text of the token at i is known to be one token: nobody need look for more.
+pub fn one_at(room: &[u8], n: usize, i: usize, analyzer: u8) -> bool
+    requires { ⌜ (Rowed (now room) n) × (i < n) ⌝ }
+    ensures { λ r. ⌜ (r ≡ true → tokenTexts analyzer (tokenAt (now (room .entry)) i .text) ≡ spelled analyzer (tokenAt (now (room .entry)) i .text) ∷ []) ⌝ }
+{
+    is_one(is_word_at(room, i), analyzer, text_at(room, i))
 }
 
 // The term or the quote at i, in the field in force.
@@ -117,7 +123,9 @@ fn measure_leaf<'a>(
         return Measured::Refused(leaf_fault(plain));
     }
     let field = field_part(room, default, from);
-    let len = leaf_len(plain, text_at(room, i), analyzer, field.len());
+    let text = text_at(room, i);
+    let one = one_at(room, n, i, analyzer);
+    let len = leaf_len(plain, one, text, analyzer, field.len());
     if is_at(room, n, 11, i + 1) {
         return with_boost(room, n, len, i + 1);
     }
@@ -168,8 +176,8 @@ pub fn measure_clause<'a>(
         Start::Long => Measured::Refused(15),
         Start::At { from, analyzer, i } => {
             let t = kind_at(room, n, i);
-            if t == 1 {
-                return measure_leaf(room, n, default, from, analyzer, true, i);
+            if t == 1 || t == 2 {
+                return measure_leaf(room, n, default, from, analyzer, t == 1, i);
             }
             if t == 9 {
                 if depth < 24 {
@@ -186,9 +194,6 @@ pub fn measure_clause<'a>(
                     return closing(room, n, g);
                 }
                 return Measured::Refused(16);
-            }
-            if t == 2 {
-                return measure_leaf(room, n, default, from, analyzer, false, i);
             }
             if t == 0 {
                 return Measured::Refused(10);

@@ -158,7 +158,7 @@ pub fn parse(
 ) -> Parsed
     ensures { λ r. ⌜ Parses operator analyzer (now (field .entry)) (now (fields .entry)) (now (text .entry)) (now (out .entry)) (now (room .entry)) (now (out .exit)) (now (room .exit)) r ⌝ }
 {
-    if room.len() < 9216 {
+    if room.len() < 5120 {
         clear(room);
         return Parsed::Refused(32);
     }

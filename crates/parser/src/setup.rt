@@ -1,22 +1,21 @@
 // The setup of a call: its entries are tested and read into arrays, and the analyzer of each field that the text names is noted
 // at the name's token, so that the parser hands down a number.
-use crate::kinds;
 use analysis::fields::analyzer_among;
+use lexer::row::kind_at;
+use lexer::row::put_note;
 use lexer::row::text_at;
 use parts::bytes::is_field;
 ghost use mathlib.Core.Path.{_≡_};
-ghost use mathlib.Core.Bool.{_&&_};
+ghost use mathlib.Core.Bool.{true, _&&_};
 ghost use lib.Dec.{leb};
-ghost use Rattle.rules.specs.Numbers.{andOperator};
+ghost use Rattle.rules.specs.Numbers.{fieldMost, andOperator};
 ghost use Rattle.rules.specs.Bytes.{isField};
 ghost use mathlib.Core.List.{List, []};
-ghost use Prim.Native.Nat.{ℕ, _+_, _*_, _-_, _≤_, _<_};
+ghost use Prim.Native.Nat.{ℕ, _≤_, _<_};
 ghost use lib.ListN.{length, getD};
 ghost use Rattle.rules.specs.Setup.{isAnalyzer, analyzerAmong};
-ghost use Rattle.rules.specs.Parsing.{textAt};
 ghost use Rattle.analysis.specs.Fields.{arrayEntries};
-ghost use Rattle.lexer.specs.Row.{tokensOf};
-ghost use Rattle.parser.specs.Measured.{Rowed, isNamed, noteAt};
+ghost use Rattle.parser.specs.Measured.{Rowed};
 ghost use Rattle.parser.specs.Noted.{RowPut, Entered, Noted};
 
 fn is_analyzer(a: u8) -> bool
@@ -26,6 +25,16 @@ fn is_analyzer(a: u8) -> bool
         return false;
     }
     a <= 3
+}
+
+// The head of an entry keeps the rules: an analyzer, and a name of at most 32 bytes.
+fn is_head(analyzer: u8, len: u8) -> bool
+    ensures { λ r. ⌜ r ≡ (leb len fieldMost && isAnalyzer analyzer) ⌝ }
+{
+    if 32 < len {
+        return false;
+    }
+    is_analyzer(analyzer)
 }
 
 // The operator, the default analyzer and the default field keep the rules.
@@ -41,16 +50,21 @@ pub fn is_plain(operator: u8, analyzer: u8, field: &[u8]) -> bool
     is_field(field)
 }
 
-// Lays a name in the k-th row.
-fn put_row(names: &mut [[u8; 32]; 8], k: usize, s: &[u8])
+// Lays a name in the k-th row; false where a byte of it is not ASCII. One loop for both: a call to copy four bytes takes longer.
+fn put_row(names: &mut [[u8; 32]; 8], k: usize, s: &[u8]) -> bool
     requires { ⌜ (k < length (now names)) × (length (now names) ≡ 8) × (length (getD (now names) k []) ≡ 32) × (length (now s) ≤ 32) ⌝ }
-    ensures { λ _. ⌜ RowPut (now (names .entry)) k (now (s .entry)) (now (names .exit)) ⌝ }
+    ensures { λ r. ⌜ RowPut (now (names .entry)) k (now (s .entry)) r (now (names .exit)) ⌝ }
 {
     let mut i = 0;
     while i < s.len() {
-        names[k][i] = s[i];
+        let c = s[i];
+        if 127 < c {
+            return false;
+        }
+        names[k][i] = c;
         i += 1;
     }
+    true
 }
 
 // Reads the entries into the arrays, and returns how many there are; 9 where they break a rule.
@@ -80,13 +94,12 @@ pub fn read_entries(
         }
         let end = start + len as usize;
         let name = &fields[start..end];
-        if !is_analyzer(analyzer) {
+        if !is_head(analyzer, len) {
             return 9;
         }
-        if !is_field(name) {
+        if !put_row(names, count, name) {
             return 9;
         }
-        put_row(names, count, name);
         lengths[count] = len;
         analyzers[count] = analyzer;
         count += 1;
@@ -95,7 +108,7 @@ pub fn read_entries(
     count
 }
 
-// Notes at each field name the analyzer of that field.
+// Notes at each field name the analyzer of that field. Few tokens are colons, so the colon is asked for first.
 pub fn note_fields(
     room: &mut [u8],
     n: usize,
@@ -105,17 +118,20 @@ pub fn note_fields(
     count: usize,
     default: u8,
 )
-    requires { ⌜ Rowed (now room) n ⌝ }
+    requires { ⌜ (Rowed (now room) n) × ((f : List ℕ) → isAnalyzer (analyzerAmong default (arrayEntries (now names) (now lengths) (now analyzers) count) f) ≡ true) ⌝ }
     ensures { λ _. ⌜ Noted n (arrayEntries (now (names .entry)) (now (lengths .entry)) (now (analyzers .entry)) count) default (now (room .entry)) (now (room .exit)) ⌝ }
 {
-    let mut i = 0;
-    while i < n {
-        let k = i;
-        i += 1;
-        if !kinds::is_named(room, n, k) {
+    let mut k = 1;
+    while k < n {
+        let i = k - 1;
+        k += 1;
+        if kind_at(room, n, i + 1) != 3 {
             continue;
         }
-        let a = analyzer_among(names, lengths, analyzers, count, default, text_at(room, k));
-        room[1024 + 8 * k + 1] = a;
+        if kind_at(room, n, i) != 1 {
+            continue;
+        }
+        let a = analyzer_among(names, lengths, analyzers, count, default, text_at(room, i));
+        put_note(room, i, a);
     }
 }

@@ -1,15 +1,14 @@
-// The writing half of the parser, run only when measuring met no fault and the output is long enough. Every routine is lent the
-// stretch that its record fills exactly, so it knows the length of what it writes before the first byte.
+// The writing half of the parser, run only when measuring met no fault and the output is long enough. The body of a clause is written
+// first, behind three bytes that are left for its header, and the header afterwards, when its length is known. Only a query in brackets
+// is measured once more: whether it stands alone must be known first, and it is lent the stretch that it fills exactly.
 use crate::kinds;
 use crate::kinds::Counted;
-use crate::kinds::Measured;
 use crate::kinds::Start;
 use crate::kinds::is_at;
-use crate::leaf::write_phrase;
-use crate::leaf::write_term;
+use crate::leaf::write_text;
 use crate::measure::clause_start;
-use crate::measure::measure_clause;
 use crate::measure::measure_query;
+use crate::measure::one_at;
 use boost::numeral::Answer;
 use boost::numeral::numeral;
 use lexer::row::field_part;
@@ -18,21 +17,21 @@ use parts::big::put_big4;
 use parts::write::put_header;
 use parts::write::put_minimum;
 ghost use mathlib.Core.Path.{_≡_};
-ghost use mathlib.Core.Bool.{true, false};
-ghost use Prim.Native.Nat.{ℕ, suc, _+_, _*_, _-_, _≤_, _<_};
+ghost use mathlib.Core.Bool.{false};
+ghost use Prim.Native.Nat.{ℕ, _+_, _-_, _≤_, _<_};
+ghost use mathlib.Core.List.{List};
 ghost use lib.ListN.{length};
-ghost use Rattle.rules.specs.Numbers.{textMost};
-ghost use Rattle.rules.specs.Query.{Query, Clauses};
-ghost use Rattle.rules.specs.Stored.{encode};
-ghost use Rattle.rules.specs.Lexing.{termKind, quotedKind, caretKind};
+ghost use Rattle.rules.specs.Numbers.{textMost, got};
+ghost use Rattle.rules.specs.Query.{Clauses};
+ghost use Rattle.rules.specs.Lexing.{termKind};
 ghost use Rattle.rules.specs.Numerals.{numeralBits};
 ghost use Rattle.rules.specs.Setup.{Setup};
-ghost use Rattle.rules.specs.Parsing.{isAt, textAt, queryOf};
-ghost use Rattle.parts.specs.Laid.{Put, header};
+ghost use Rattle.rules.specs.Parsing.{Made, found, isAt, textAt, boostAt, queryOf};
+ghost use Rattle.parts.specs.Laid.{Put};
 ghost use Rattle.lexer.specs.Row.{roomLeast, tokensOf};
 ghost use Rattle.parser.specs.Kinds.{madeBytes};
 ghost use Rattle.parser.specs.Measured.{Rowed, Fielded};
-ghost use Rattle.parser.specs.Written.{bitsIn, isBoosted, boostFront, boolFront, PutUnless, Touches, LeafToWrite, ClauseToWrite, QueryToWrite};
+ghost use Rattle.parser.specs.Written.{bitsIn, boostSize, bodyStart, boolFront, PutUnless, Touches, LeafToWrite, BracketToWrite, ClauseToWrite, QueryToWrite};
 
 // The bits of the numeral at the token i.
 fn bits_at(room: &[u8], n: usize, i: usize) -> u32
@@ -45,19 +44,54 @@ fn bits_at(room: &[u8], n: usize, i: usize) -> u32
     }
 }
 
-// The front of a boost, where one stands at i: what is boosted fills the rest of the stretch.
-fn put_boost_front(room: &[u8], n: usize, i: usize, out: &mut [u8]) -> usize
-    requires { ⌜ (Rowed (now room) n) × (i ≤ 4000) × (isBoosted (tokensOf (now room) n) i ≡ true → 7 ≤ length (now out)) × (length (now out) ≤ 65000) ⌝ }
-    ensures { λ r. ⌜ Put (now (out .entry)) 0 (boostFront (tokensOf (now (room .entry)) n) i (length (now (out .entry)))) r (now (out .exit)) ⌝ }
+// Where the bytes of what was written end, and the number of the next token.
+pub struct Wrote {
+    pub end: usize,
+    pub next: usize,
+}
+
+// How many bytes the front of a boost takes, where one stands at i.
+fn boost_size(room: &[u8], n: usize, i: usize) -> usize
+    requires { ⌜ (n ≤ textMost) × (roomLeast ≤ length (now room)) × (i ≤ 4000) ⌝ }
+    ensures { λ r. ⌜ r ≡ boostSize (tokensOf (now (room .entry)) n) i ⌝ }
 {
     if is_at(room, n, 11, i) {
         if is_at(room, n, 1, i + 1) {
-            let len = out.len() - 3;
-            let b = put_header(out, 0, 0x04, len);
-            return put_big4(out, b, bits_at(room, n, i + 1));
+            return 7;
         }
     }
     0
+}
+
+// What is boosted was laid from `start` to `end`: the front goes before it, to `at`, if a boost stands at i. A boost of nothing is nothing.
+fn put_boost(
+    room: &[u8],
+    n: usize,
+    i: usize,
+    out: &mut [u8],
+    at: usize,
+    start: usize,
+    end: usize,
+) -> Wrote
+    requires { ⌜ (Rowed (now room) n) × (i ≤ n) × (start ≡ at + boostSize (tokensOf (now room) n) i) × (start ≤ end) × (start < end → end ≤ length (now out)) × (length (now out) ≤ 65000) ⌝ }
+    ensures wrote { λ r. ⌜ ((st : Setup) (m w : Made) (j : ℕ) (before : List ℕ) → boostAt st (tokensOf (now (room .entry)) n) m i ≡ got (found w j) → Put before start (madeBytes m) end (now (out .entry)) → length before ≡ length (now (out .entry)) → (r .next ≡ j) × Put before at (madeBytes w) (r .end) (now (out .exit))) ⌝ }
+    ensures within { λ r. ⌜ (i ≤ r .next) × (r .next ≤ n) ⌝ }
+{
+    if start == at {
+        return Wrote { end: end, next: i };
+    }
+    if end == start {
+        return Wrote {
+            end: at,
+            next: i + 2,
+        };
+    }
+    let b = put_header(out, at, 0x04, end - at - 3);
+    put_big4(out, b, bits_at(room, n, i + 1));
+    Wrote {
+        end: end,
+        next: i + 2,
+    }
 }
 
 // The term or the quote at i.
@@ -71,18 +105,26 @@ fn write_leaf<'a>(
     plain: bool,
     i: usize,
     out: &mut [u8],
-)
-    requires { ⌜ (Rowed (now room) n) × (Fielded (now room) n (now default) from) × (i < n) × (0 < length (now out)) × (length (now out) ≤ 65000) × (plain ≡ isAt termKind (tokensOf (now room) n) i) × ((st : Setup) × (q : Query) × (j : ℕ) × LeafToWrite (now room) n (now default) operator from analyzer i (length (now out)) st q j) ⌝ }
-    ensures { λ _. ⌜ ((st : Setup) (q : Query) (j : ℕ) → LeafToWrite (now (room .entry)) n (now (default .entry)) operator from analyzer i (length (now (out .entry))) st q j → now (out .exit) ≡ encode q) ⌝ }
+    at: usize,
+) -> Wrote
+    requires { ⌜ (Rowed (now room) n) × (Fielded (now room) n (now default) from) × (i < n) × (at ≤ 65536) × (length (now out) ≤ 65000) × (plain ≡ isAt termKind (tokensOf (now room) n) i) × ((st : Setup) × (m : Made) × (j : ℕ) × LeafToWrite (now room) n (now default) operator from analyzer i at (length (now out)) st m j) ⌝ }
+    ensures wrote { λ r. ⌜ ((st : Setup) (m : Made) (j : ℕ) → LeafToWrite (now (room .entry)) n (now (default .entry)) operator from analyzer i at (length (now (out .entry))) st m j → (r .next ≡ j) × Put (now (out .entry)) at (madeBytes m) (r .end) (now (out .exit))) ⌝ }
+    ensures within { λ r. ⌜ (i < r .next) × (r .next ≤ n) ⌝ }
 {
-    let b = put_boost_front(room, n, i + 1, out);
     let field = field_part(room, default, from);
     let text = text_at(room, i);
-    if plain {
-        write_term(operator, field, analyzer, text, &mut out[b..]);
-        return;
+    let one = one_at(room, n, i, analyzer);
+    let size = boost_size(room, n, i + 1);
+    if size == 0 {
+        let end = write_text(plain, one, operator, field, analyzer, text, out, at);
+        return Wrote {
+            end: end,
+            next: i + 1,
+        };
     }
-    write_phrase(field, analyzer, text, &mut out[b..]);
+    let start = at + size;
+    let end = write_text(plain, one, operator, field, analyzer, text, out, start);
+    put_boost(room, n, i + 1, out, at, start, end)
 }
 
 // The front of a Boolean that fills the stretch; none where a query is its one clause.
@@ -98,15 +140,15 @@ fn put_query_front(out: &mut [u8], alone: bool) -> usize
     put_minimum(out, b, 0)
 }
 
-// The header of a clause; none where a query is its one clause.
-fn put_clause_front(out: &mut [u8], alone: bool, at: usize, tag: u8, len: usize) -> usize
-    requires { ⌜ (alone ≡ false → at + 3 ≤ length (now out)) × (len < 65536) ⌝ }
-    ensures { λ r. ⌜ PutUnless alone (now (out .entry)) at (header tag len) r (now (out .exit)) ⌝ }
+// Where the body of a clause begins: behind its header, and at once where a query is its one clause.
+fn body_start(alone: bool, at: usize) -> usize
+    requires { ⌜ at ≤ 65000 ⌝ }
+    ensures { λ r. ⌜ r ≡ bodyStart alone at ⌝ }
 {
     if alone {
-        return 0;
+        return at;
     }
-    put_header(out, at, tag, len)
+    at + 3
 }
 
 // The conjunction c alters the kind of the clause that was kept last, whose header stands at `last`.
@@ -120,7 +162,55 @@ fn touch_last(out: &mut [u8], kept: bool, last: usize, operator: u8, c: u8)
     }
 }
 
-// One clause at i, below `depth` open brackets.
+// The query in brackets from i on, below `depth` open brackets, and a boost behind it.
+fn write_bracket<'a>(
+    room: &'a [u8],
+    n: usize,
+    default: &'a [u8],
+    operator: u8,
+    from: usize,
+    analyzer: u8,
+    depth: usize,
+    i: usize,
+    out: &mut [u8],
+    at: usize,
+) -> Wrote
+    requires { ⌜ (Rowed (now room) n) × (Fielded (now room) n (now default) from) × (i ≤ n) × (depth ≤ 24) × (at ≤ 65536) × (length (now out) ≤ 65000) × ((st : Setup) × (m : Made) × (j : ℕ) × BracketToWrite (now room) n (now default) operator from analyzer depth i at (length (now out)) st m j) ⌝ }
+    ensures wrote { λ r. ⌜ ((st : Setup) (m : Made) (j : ℕ) → BracketToWrite (now (room .entry)) n (now (default .entry)) operator from analyzer depth i at (length (now (out .entry))) st m j → (r .next ≡ j) × Put (now (out .entry)) at (madeBytes m) (r .end) (now (out .exit))) ⌝ }
+    ensures within { λ r. ⌜ (i < r .next) × (r .next ≤ n) ⌝ }
+{
+    match measure_query(room, n, default, operator, from, analyzer, depth, i) {
+        Counted::Fault(_) => Wrote { end: at, next: i },
+        Counted::Clauses {
+            count,
+            tag,
+            bytes,
+            next,
+        } => {
+            let len = kinds::query_len(count, tag, bytes);
+            let start = at + boost_size(room, n, next + 1);
+            let end = start + len;
+            if len == 0 {
+                return put_boost(room, n, next + 1, out, at, start, start);
+            }
+            write_query(
+                room,
+                n,
+                default,
+                operator,
+                from,
+                analyzer,
+                depth,
+                i,
+                kinds::is_alone(count, tag),
+                &mut out[start..end],
+            );
+            put_boost(room, n, next + 1, out, at, start, end)
+        }
+    }
+}
+
+// One clause at i, below `depth` open brackets: where its bytes end, and the next token. Nothing is written where it analyzes to nothing.
 fn write_clause<'a>(
     room: &'a [u8],
     n: usize,
@@ -131,44 +221,42 @@ fn write_clause<'a>(
     depth: usize,
     i: usize,
     out: &mut [u8],
-)
-    requires { ⌜ (Rowed (now room) n) × (Fielded (now room) n (now default) from) × (i ≤ 2000) × (depth ≤ 24) × (0 < length (now out)) × (length (now out) ≤ 65000) × ((st : Setup) × (q : Query) × (j : ℕ) × ClauseToWrite (now room) n (now default) operator from analyzer depth i (length (now out)) st q j) ⌝ }
-    ensures { λ _. ⌜ ((st : Setup) (q : Query) (j : ℕ) → ClauseToWrite (now (room .entry)) n (now (default .entry)) operator from analyzer depth i (length (now (out .entry))) st q j → now (out .exit) ≡ encode q) ⌝ }
+    at: usize,
+) -> Wrote
+    requires { ⌜ (Rowed (now room) n) × (Fielded (now room) n (now default) from) × (i ≤ 2000) × (depth ≤ 24) × (at ≤ 65536) × (length (now out) ≤ 65000) × ((st : Setup) × (m : Made) × (j : ℕ) × ClauseToWrite (now room) n (now default) operator from analyzer depth i at (length (now out)) st m j) ⌝ }
+    ensures wrote { λ r. ⌜ ((st : Setup) (m : Made) (j : ℕ) → ClauseToWrite (now (room .entry)) n (now (default .entry)) operator from analyzer depth i at (length (now (out .entry))) st m j → (r .next ≡ j) × Put (now (out .entry)) at (madeBytes m) (r .end) (now (out .exit))) ⌝ }
+    ensures within { λ r. ⌜ (i < r .next) × (r .next ≤ n) ⌝ }
 {
     match clause_start(room, n, from, analyzer, i) {
-        Start::Long => return,
+        Start::Long => Wrote { end: at, next: i },
         Start::At { from, analyzer, i } => {
-            if is_at(room, n, 9, i) {
-                match measure_query(room, n, default, operator, from, analyzer, depth + 1, i + 1) {
-                    Counted::Fault(_) => return,
-                    Counted::Clauses {
-                        count,
-                        tag,
-                        bytes: _,
-                        next,
-                    } => {
-                        let b = put_boost_front(room, n, next + 1, out);
-                        write_query(
-                            room,
-                            n,
-                            default,
-                            operator,
-                            from,
-                            analyzer,
-                            depth + 1,
-                            i + 1,
-                            kinds::is_alone(count, tag),
-                            &mut out[b..],
-                        );
-                        return;
-                    }
-                }
+            if !is_at(room, n, 9, i) {
+                let plain = is_at(room, n, 1, i);
+                return write_leaf(
+                    room,
+                    n,
+                    default,
+                    operator,
+                    from,
+                    analyzer,
+                    plain,
+                    i,
+                    out,
+                    at,
+                );
             }
-            if is_at(room, n, 1, i) {
-                write_leaf(room, n, default, operator, from, analyzer, true, i, out);
-                return;
-            }
-            write_leaf(room, n, default, operator, from, analyzer, false, i, out);
+            write_bracket(
+                room,
+                n,
+                default,
+                operator,
+                from,
+                analyzer,
+                depth + 1,
+                i + 1,
+                out,
+                at,
+            )
         }
     }
 }
@@ -198,32 +286,28 @@ pub fn write_query<'a>(
         let m = kinds::modifier_at(room, n, j);
         let k = kinds::after(m, j);
         touch_last(out, 8 < w, last, operator, c);
-        match measure_clause(room, n, default, operator, from, analyzer, depth, k) {
-            Measured::Refused(_) => return,
-            Measured::Clause { len, next } => {
-                i = next;
-                if len == 0 {
-                    continue;
-                }
-                let start = put_clause_front(out, alone, w, kinds::tag_after(operator, c, m), len);
-                let end = start + len;
-                write_clause(
-                    room,
-                    n,
-                    default,
-                    operator,
-                    from,
-                    analyzer,
-                    depth,
-                    k,
-                    &mut out[start..end],
-                );
-                if alone {
-                    return;
-                }
-                last = w;
-                w = end;
-            }
+        let start = body_start(alone, w);
+        let r = write_clause(
+            room,
+            n,
+            default,
+            operator,
+            from,
+            analyzer,
+            depth,
+            k,
+            out,
+            start,
+        );
+        i = r.next;
+        if r.end == start {
+            continue;
         }
+        if alone {
+            return;
+        }
+        put_header(out, w, kinds::tag_after(operator, c, m), r.end - start);
+        last = w;
+        w = r.end;
     }
 }

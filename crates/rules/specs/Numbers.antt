@@ -41,7 +41,7 @@ listMost = 65536
 
 -- working room, as docs/ROOM.md states it for each call
 abbrev pub parseRoom : ℕ
-parseRoom = 9216
+parseRoom = 5120
 
 abbrev pub rewriteRoom : ℕ
 rewriteRoom = 114687

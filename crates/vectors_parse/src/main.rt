@@ -105,7 +105,7 @@ fn answers(
     let el = decode(fields, &mut e);
     let tl = decode(text, &mut t);
     let mut out = [0u8; 65536];
-    let mut room = [0u8; 9216];
+    let mut room = [0u8; 5120];
     match parser::parse::parse(
         operator,
         analyzer,

@@ -17,7 +17,9 @@ use std::time::{Duration, Instant};
 const TURNS: usize = 5;
 const SLOW: f64 = 1e8;
 /// A run is repeated for about this long.
-const RUN: Duration = Duration::from_millis(10);
+const RUN: Duration = Duration::from_millis(2);
+/// How long a row goes on at least: a machine may change its own speed from one second to the next.
+const ROW: Duration = Duration::from_secs(4);
 
 fn main() {
     println!(
@@ -102,7 +104,10 @@ fn row<A, B>(
     mut rust: impl FnMut() -> B,
 ) {
     let mut best = (f64::INFINITY, f64::INFINITY);
-    for _ in 0..TURNS {
+    let begun = Instant::now();
+    let mut turns = 0;
+    while turns < TURNS || begun.elapsed() < ROW {
+        turns += 1;
         best.0 = best.0.min(time(&mut archive));
         best.1 = best.1.min(time(&mut rust));
         if best.0 + best.1 > SLOW {

@@ -3,7 +3,8 @@ use mathlib.Core.Path.{refl, _∙_}
 use Rattle.rules.specs.Analysis.{classes}
 use Prim.Native.Nat.{_-_}
 use lib.ListN.{length, getD}
-use Rattle.lexer.proofs.Turns.{Lexing, lexing-none, lexing-space, lexing-refused, lexing-token, lexing-over, ends-behind, told-space}
+use Rattle.lexer.proofs.Turns.{Lexing, lexing-none, lexing-space, lexing-refused, lexing-token, lexing-over, ends-behind}
+use Rattle.lexer.proofs.Flags.{text-byte, space-told, no-space-told}
 use native.Mathlib.Omega.{arith}
 use borrow.Author.Needs.{needs}
 use Rattle.lexer.proofs.lex.Statement.{statement}
@@ -21,8 +22,8 @@ loop-holds c = lexing-none (c .before .before .args .text .now) (c .before .befo
 shared-slice-read-c : tie.Need-shared-slice-read-c Inv-loop μ-loop
 shared-slice-read-c c = omega arith
 
-is-space-in-requires : tie.Need-is-space-in-requires Inv-loop μ-loop
-is-space-in-requires c κs = search needs
+class-at-requires : tie.Need-class-at-requires Inv-loop μ-loop
+class-at-requires c κs = text-byte (c .before .before .before .before .before .before .args .text .now) (c .before .before .before .loop .i) (c .before .before .before .before .before .before .pre .2)
 
 add-i : tie.Need-add-i Inv-loop μ-loop
 add-i c = omega arith
@@ -32,11 +33,11 @@ loop-less c = omega arith
 
 loop-again : tie.Need-loop-again Inv-loop μ-loop
 unfolding classes
-loop-again c = lexing-space (c .before .before .before .before .before .before .before .before .args .text .now) (c .before .before .before .before .before .loop .inv) (c .before .before .before .before .loop-test .taken) (told-space _ (c .before .is-space-in .ensures) refl (c .if1 .taken))
+loop-again c = lexing-space (c .before .before .before .before .before .before .before .before .args .text .now) (c .before .before .before .before .before .loop .inv) (c .before .before .before .before .loop-test .taken) (space-told (getD (c .before .before .before .before .before .before .before .before .args .text .now) (c .before .before .before .before .before .loop .i) 0) (text-byte (c .before .before .before .before .before .before .before .before .args .text .now) (c .before .before .before .before .before .loop .i) (c .before .before .before .before .before .before .before .before .pre .2)) (c .before .class-at .ensures) refl (c .if1 .taken))
 
 token-at-requires : tie.Need-token-at-requires Inv-loop μ-loop
 unfolding classes
-token-at-requires c κs = (c .before .before .before .before .before .before .loop-test .taken, c .before .before .before .before .before .before .before .before .before .before .pre .0, omega (arith, c .before .before .before .before .before .before .before .loop .inv .as-long, c .before .before .before .before .before .before .before .before .before .before .pre .1), refl)
+token-at-requires c κs = (c .before .before .before .before .before .before .loop-test .taken, c .before .before .before .before .before .before .before .before .before .before .pre .0, c .before .before .before .before .before .before .before .before .before .before .pre .2, omega (arith, c .before .before .before .before .before .before .before .loop .inv .as-long, c .before .before .before .before .before .before .before .before .before .before .pre .1), refl)
 
 enum-known-f : tie.Need-enum-known-f Inv-loop μ-loop
 enum-known-f c = search needs
@@ -46,27 +47,27 @@ same-length c = c .before .before .before .before .before .token-at .kept .1 .1 
 
 returns : tie.Need-returns Inv-loop μ-loop
 unfolding classes
-returns c = lexing-refused (c .before .before .before .before .before .before .before .before .before .before .before .before .before .before .before .before .args .text .now) (c .before .before .before .before .before .before .before .before .before .before .before .before .before .loop .inv) (c .before .before .before .before .before .before .before .before .before .before .before .before .loop-test .taken) (told-space (getD (c .before .before .before .before .before .before .before .before .before .before .before .before .before .before .before .before .args .text .now) (c .before .before .before .before .before .before .before .before .before .before .before .before .before .loop .i) 0) (c .before .before .before .before .before .before .before .before .before .is-space-in .ensures) refl (c .before .before .before .before .before .before .before .before .if1 .left)) (c .before .before .before .before .before .token-at .last .1 .1 .1 .0) (c .before .before .before .before .before .token-at .result) (c .before .before .before .before .before .token-at .ensures .1) _ (c .before .f .given .1)
+returns c = lexing-refused (c .before .before .before .before .before .before .before .before .before .before .before .before .before .before .before .before .args .text .now) (c .before .before .before .before .before .before .before .before .before .before .before .before .before .loop .inv) (c .before .before .before .before .before .before .before .before .before .before .before .before .loop-test .taken) (no-space-told (getD (c .before .before .before .before .before .before .before .before .before .before .before .before .before .before .before .before .args .text .now) (c .before .before .before .before .before .before .before .before .before .before .before .before .before .loop .i) 0) (text-byte (c .before .before .before .before .before .before .before .before .before .before .before .before .before .before .before .before .args .text .now) (c .before .before .before .before .before .before .before .before .before .before .before .before .before .loop .i) (c .before .before .before .before .before .before .before .before .before .before .before .before .before .before .before .before .pre .2)) (c .before .before .before .before .before .before .before .before .before .class-at .ensures) refl (c .before .before .before .before .before .before .before .before .if1 .left)) (c .before .before .before .before .before .token-at .last .1 .1 .1 .0) (c .before .before .before .before .before .token-at .result) (c .before .before .before .before .before .token-at .ensures .1) _ (c .before .f .given .1)
 
 enum-known-kind : tie.Need-enum-known-kind Inv-loop μ-loop
 enum-known-kind c = search needs
 
 put-token-requires : tie.Need-put-token-requires Inv-loop μ-loop
 unfolding classes
-put-token-requires c κs = let e = ends-behind (c .before .before .before .before .before .before .before .before .before .before .before .before .before .before .before .before .before .args .text .now) (c .before .before .before .before .before .before .before .before .before .before .before .before .before .before .loop .inv) (c .before .before .before .before .before .before .before .before .before .before .before .before .before .loop-test .taken) (told-space (getD (c .before .before .before .before .before .before .before .before .before .before .before .before .before .before .before .before .before .args .text .now) (c .before .before .before .before .before .before .before .before .before .before .before .before .before .before .loop .i) 0) (c .before .before .before .before .before .before .before .before .before .before .is-space-in .ensures) refl (c .before .before .before .before .before .before .before .before .before .if1 .left)) (c .before .before .before .before .before .before .token-at .last .1 .1 .1 .0) (c .before .before .before .before .before .before .token-at .result) (c .before .before .before .before .before .before .token-at .ensures .1) _ _ _ (c .before .before .kind .given .1) in
-    omega (arith, e .0, e .1, e .2, c .before .before .before .before .before .before .before .before .before .before .before .before .before .before .loop .inv .few, c .before .before .before .before .before .before .before .before .before .before .before .before .before .before .before .before .before .pre .0, c .before .before .before .before .before .before .before .before .before .before .before .before .before .before .before .before .before .pre .1, c .before .before .before .before .before .before .before .before .before .before .before .before .before .loop-test .taken, c .before .before .before .before .before .before .token-at .kept .1 .1 .1 .0, c .before .before .before .before .before .before .before .before .before .before .before .before .before .before .loop .inv .as-long)
+put-token-requires c κs = let e = ends-behind (c .before .before .before .before .before .before .before .before .before .before .before .before .before .before .before .before .before .args .text .now) (c .before .before .before .before .before .before .before .before .before .before .before .before .before .before .loop .inv) (c .before .before .before .before .before .before .before .before .before .before .before .before .before .loop-test .taken) (no-space-told (getD (c .before .before .before .before .before .before .before .before .before .before .before .before .before .before .before .before .before .args .text .now) (c .before .before .before .before .before .before .before .before .before .before .before .before .before .before .loop .i) 0) (text-byte (c .before .before .before .before .before .before .before .before .before .before .before .before .before .before .before .before .before .args .text .now) (c .before .before .before .before .before .before .before .before .before .before .before .before .before .before .loop .i) (c .before .before .before .before .before .before .before .before .before .before .before .before .before .before .before .before .before .pre .2)) (c .before .before .before .before .before .before .before .before .before .before .class-at .ensures) refl (c .before .before .before .before .before .before .before .before .before .if1 .left)) (c .before .before .before .before .before .before .token-at .last .1 .1 .1 .0) (c .before .before .before .before .before .before .token-at .result) (c .before .before .before .before .before .before .token-at .ensures .1) _ _ _ _ (c .before .before .kind .given .1) in
+    omega (arith, e .0, e .1, e .2, e .3, c .before .before .before .before .before .before .before .before .before .before .before .before .before .before .loop .inv .few, c .before .before .before .before .before .before .before .before .before .before .before .before .before .before .before .before .before .pre .0, c .before .before .before .before .before .before .before .before .before .before .before .before .before .before .before .before .before .pre .1, c .before .before .before .before .before .before .before .before .before .before .before .before .before .loop-test .taken, c .before .before .before .before .before .before .token-at .kept .1 .1 .1 .0, c .before .before .before .before .before .before .before .before .before .before .before .before .before .before .loop .inv .as-long)
 
 add-n : tie.Need-add-n Inv-loop μ-loop
 add-n c = omega (arith, c .before .before .before .before .before .before .before .before .before .before .before .before .before .before .before .before .before .loop .inv .few, c .before .before .before .before .before .before .before .before .before .before .before .before .before .before .before .before .before .before .before .before .pre .0, c .before .before .before .before .before .before .before .before .before .before .before .before .before .before .before .before .loop-test .taken)
 
 loop-less-2 : tie.Need-loop-less-2 Inv-loop μ-loop
 unfolding classes
-loop-less-2 c = let e = ends-behind (c .before .before .before .before .before .before .before .before .before .before .before .before .before .before .before .before .before .before .before .before .args .text .now) (c .before .before .before .before .before .before .before .before .before .before .before .before .before .before .before .before .before .loop .inv) (c .before .before .before .before .before .before .before .before .before .before .before .before .before .before .before .before .loop-test .taken) (told-space (getD (c .before .before .before .before .before .before .before .before .before .before .before .before .before .before .before .before .before .before .before .before .args .text .now) (c .before .before .before .before .before .before .before .before .before .before .before .before .before .before .before .before .before .loop .i) 0) (c .before .before .before .before .before .before .before .before .before .before .before .before .before .is-space-in .ensures) refl (c .before .before .before .before .before .before .before .before .before .before .before .before .if1 .left)) (c .before .before .before .before .before .before .before .before .before .token-at .last .1 .1 .1 .0) (c .before .before .before .before .before .before .before .before .before .token-at .result) (c .before .before .before .before .before .before .before .before .before .token-at .ensures .1) _ _ _ (c .before .before .before .before .before .kind .given .1) in
+loop-less-2 c = let e = ends-behind (c .before .before .before .before .before .before .before .before .before .before .before .before .before .before .before .before .before .before .before .before .args .text .now) (c .before .before .before .before .before .before .before .before .before .before .before .before .before .before .before .before .before .loop .inv) (c .before .before .before .before .before .before .before .before .before .before .before .before .before .before .before .before .loop-test .taken) (no-space-told (getD (c .before .before .before .before .before .before .before .before .before .before .before .before .before .before .before .before .before .before .before .before .args .text .now) (c .before .before .before .before .before .before .before .before .before .before .before .before .before .before .before .before .before .loop .i) 0) (text-byte (c .before .before .before .before .before .before .before .before .before .before .before .before .before .before .before .before .before .before .before .before .args .text .now) (c .before .before .before .before .before .before .before .before .before .before .before .before .before .before .before .before .before .loop .i) (c .before .before .before .before .before .before .before .before .before .before .before .before .before .before .before .before .before .before .before .before .pre .2)) (c .before .before .before .before .before .before .before .before .before .before .before .before .before .class-at .ensures) refl (c .before .before .before .before .before .before .before .before .before .before .before .before .if1 .left)) (c .before .before .before .before .before .before .before .before .before .token-at .last .1 .1 .1 .0) (c .before .before .before .before .before .before .before .before .before .token-at .result) (c .before .before .before .before .before .before .before .before .before .token-at .ensures .1) _ _ _ _ (c .before .before .before .before .before .kind .given .1) in
     omega (arith, e .0, c .before .before .before .before .before .before .before .before .before .before .before .before .before .before .before .before .loop-test .taken)
 
 loop-again-2 : tie.Need-loop-again-2 Inv-loop μ-loop
 unfolding classes
-loop-again-2 c = lexing-token (c .before .before .before .before .before .before .before .before .before .before .before .before .before .before .before .before .before .before .before .before .args .text .now) (c .before .before .before .before .before .before .before .before .before .before .before .before .before .before .before .before .before .loop .inv) (c .before .before .before .before .before .before .before .before .before .before .before .before .before .before .before .before .loop-test .taken) (told-space (getD (c .before .before .before .before .before .before .before .before .before .before .before .before .before .before .before .before .before .before .before .before .args .text .now) (c .before .before .before .before .before .before .before .before .before .before .before .before .before .before .before .before .before .loop .i) 0) (c .before .before .before .before .before .before .before .before .before .before .before .before .before .is-space-in .ensures) refl (c .before .before .before .before .before .before .before .before .before .before .before .before .if1 .left)) (c .before .before .before .before .before .before .before .before .before .token-at .last .1 .1 .1 .0) (c .before .before .before .before .before .before .before .before .before .token-at .result) (c .before .before .before .before .before .before .before .before .before .token-at .ensures .1) _ _ _ (c .before .before .before .before .before .kind .given .1) (c .before .before .before .before .before .before .before .before .before .before .before .before .before .before .before .before .before .before .before .before .pre .0) (c .before .before .before .before .before .before .before .before .before .before .before .before .before .before .before .before .before .before .before .before .pre .1) (c .before .before .before .before .before .before .before .before .before .token-at .kept .1 .1 .1 .0) (c .before .before .before .before .before .before .before .before .before .token-at .ensures .0) (c .before .before .put-token .last .0) (c .before .before .put-token .kept .0) (c .before .before .put-token .ensures)
+loop-again-2 c = lexing-token (c .before .before .before .before .before .before .before .before .before .before .before .before .before .before .before .before .before .before .before .before .args .text .now) (c .before .before .before .before .before .before .before .before .before .before .before .before .before .before .before .before .before .loop .inv) (c .before .before .before .before .before .before .before .before .before .before .before .before .before .before .before .before .loop-test .taken) (no-space-told (getD (c .before .before .before .before .before .before .before .before .before .before .before .before .before .before .before .before .before .before .before .before .args .text .now) (c .before .before .before .before .before .before .before .before .before .before .before .before .before .before .before .before .before .loop .i) 0) (text-byte (c .before .before .before .before .before .before .before .before .before .before .before .before .before .before .before .before .before .before .before .before .args .text .now) (c .before .before .before .before .before .before .before .before .before .before .before .before .before .before .before .before .before .loop .i) (c .before .before .before .before .before .before .before .before .before .before .before .before .before .before .before .before .before .before .before .before .pre .2)) (c .before .before .before .before .before .before .before .before .before .before .before .before .before .class-at .ensures) refl (c .before .before .before .before .before .before .before .before .before .before .before .before .if1 .left)) (c .before .before .before .before .before .before .before .before .before .token-at .last .1 .1 .1 .0) (c .before .before .before .before .before .before .before .before .before .token-at .result) (c .before .before .before .before .before .before .before .before .before .token-at .ensures .1) _ _ _ _ (c .before .before .before .before .before .kind .given .1) (c .before .before .before .before .before .before .before .before .before .before .before .before .before .before .before .before .before .before .before .before .pre .0) (c .before .before .before .before .before .before .before .before .before .before .before .before .before .before .before .before .before .before .before .before .pre .1) (c .before .before .before .before .before .before .before .before .before .token-at .kept .1 .1 .1 .0) (c .before .before .before .before .before .before .before .before .before .token-at .ensures .0) (c .before .before .put-token .last .0) (c .before .before .put-token .kept .0) (c .before .before .put-token .ensures)
 
 same-length-2 : tie.Need-same-length-2 Inv-loop μ-loop
 same-length-2 c = c .before .loop .inv .as-long
@@ -82,7 +83,7 @@ lex-spec =
     μ-loop
     loop-holds
     shared-slice-read-c
-    is-space-in-requires
+    class-at-requires
     add-i
     loop-less
     loop-again

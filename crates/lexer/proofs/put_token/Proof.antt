@@ -1,11 +1,11 @@
--- `put_token` meets its contract: eight stores in a row lay the token's eight bytes, and nothing else changes. Assumes nothing.
+-- `put_token` meets its contract: four stores in a row lay the token's four bytes, and nothing else changes. Assumes nothing.
 use Prim.Native.Nat.{_+_, _*_}
-use native.Mathlib.Omega.{arith}
 use lib.ListN.{length-set}
+use Rattle.lexer.proofs.Rows.{four}
+use native.Mathlib.Omega.{arith}
 use borrow.Author.Needs.{needs}
-use Rattle.lexer.proofs.Rows.{eight}
-use Rattle.lexer.proofs.put_token.Tie as tie
 use Rattle.lexer.proofs.put_token.Statement.{statement}
+use Rattle.lexer.proofs.put_token.Tie as tie
 
 mul-at : tie.Need-mul-at
 mul-at c = search needs
@@ -16,71 +16,50 @@ add-at c = search needs
 slice-write-room : tie.Need-slice-write-room
 slice-write-room c = search needs
 
-add-room : tie.Need-add-room
-add-room c = search needs
-
-slice-write-room-2 : tie.Need-slice-write-room-2
-slice-write-room-2 c = simp length-set (omega arith)
+mul-room : tie.Need-mul-room
+mul-room c = search needs
 
 cast-room : tie.Need-cast-room
 cast-room c = search needs
 
+add-room : tie.Need-add-room
+add-room c = search needs
+
 add-room-2 : tie.Need-add-room-2
 add-room-2 c = search needs
 
-slice-write-room-3 : tie.Need-slice-write-room-3
-slice-write-room-3 c = simp length-set (omega arith)
+slice-write-room-2 : tie.Need-slice-write-room-2
+slice-write-room-2 c = simp length-set (omega arith)
 
-cast-room-2 : tie.Need-cast-room-2
-cast-room-2 c = search needs
+mul-room-2 : tie.Need-mul-room-2
+mul-room-2 c = search needs
 
 add-room-3 : tie.Need-add-room-3
 add-room-3 c = search needs
 
-slice-write-room-4 : tie.Need-slice-write-room-4
-slice-write-room-4 c = simp length-set (omega arith)
-
-cast-room-3 : tie.Need-cast-room-3
-cast-room-3 c = search needs
+cast-room-2 : tie.Need-cast-room-2
+cast-room-2 c = search needs
 
 add-room-4 : tie.Need-add-room-4
 add-room-4 c = search needs
 
-slice-write-room-5 : tie.Need-slice-write-room-5
-slice-write-room-5 c = simp length-set (omega arith)
+slice-write-room-3 : tie.Need-slice-write-room-3
+slice-write-room-3 c = simp length-set (omega arith)
 
-cast-room-4 : tie.Need-cast-room-4
-cast-room-4 c = search needs
+cast-room-3 : tie.Need-cast-room-3
+cast-room-3 c = search needs
 
 add-room-5 : tie.Need-add-room-5
 add-room-5 c = search needs
 
-slice-write-room-6 : tie.Need-slice-write-room-6
-slice-write-room-6 c = simp length-set (omega arith)
-
-cast-room-5 : tie.Need-cast-room-5
-cast-room-5 c = search needs
-
-add-room-6 : tie.Need-add-room-6
-add-room-6 c = search needs
-
-slice-write-room-7 : tie.Need-slice-write-room-7
-slice-write-room-7 c = simp length-set (omega arith)
-
-cast-room-6 : tie.Need-cast-room-6
-cast-room-6 c = search needs
-
-add-room-7 : tie.Need-add-room-7
-add-room-7 c = search needs
-
-slice-write-room-8 : tie.Need-slice-write-room-8
-slice-write-room-8 c = simp length-set (omega arith)
+slice-write-room-4 : tie.Need-slice-write-room-4
+slice-write-room-4 c = simp length-set (omega arith)
 
 same-length : tie.Need-same-length
 same-length c = simp length-set
 
 returns : tie.Need-returns
-returns c = eight (c .args .room .now) (1024 + 8 * c .args .n) _ _ _ _ _ _ _ _ (omega arith)
+returns c = four (c .args .room .now) (1024 + 4 * c .args .n) _ _ _ _ (omega arith)
 
 pub put-token-spec : {M : Type 1} → statement M
 put-token-spec =
@@ -89,25 +68,18 @@ put-token-spec =
     mul-at
     add-at
     slice-write-room
-    add-room
-    slice-write-room-2
+    mul-room
     cast-room
+    add-room
     add-room-2
-    slice-write-room-3
-    cast-room-2
+    slice-write-room-2
+    mul-room-2
     add-room-3
-    slice-write-room-4
-    cast-room-3
+    cast-room-2
     add-room-4
-    slice-write-room-5
-    cast-room-4
+    slice-write-room-3
+    cast-room-3
     add-room-5
-    slice-write-room-6
-    cast-room-5
-    add-room-6
-    slice-write-room-7
-    cast-room-6
-    add-room-7
-    slice-write-room-8
+    slice-write-room-4
     same-length
     returns)

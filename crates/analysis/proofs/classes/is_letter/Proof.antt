@@ -1,21 +1,28 @@
--- `classes::is_letter` meets its contract, by the rule of the constant table. Assumes nothing.
-use mathlib.Core.Path.{ap, _∙_}
-use mathlib.Core.List.{List}
-use Prim.Native.Nat.{ℕ}
-use borrow.Author.Needs.{needs}
-use Rattle.analysis.specs.Classes.{letterIn}
-use Rattle.analysis.proofs.Tables.{letter-is}
+-- `classes::is_letter` meets its contract, by the byte's range. Assumes nothing.
+use mathlib.Core.Path.{sym, _∙_}
+use mathlib.Core.Logic.{⊎-elim}
+use borrow.Author.Tests.{lt-leb}
+use Rattle.rules.proofs.Bools.{clash}
+use Rattle.analysis.proofs.Comparing.{letter-yes, letter-capital, letter-below, letter-above}
 use Rattle.analysis.proofs.classes.is_letter.Tie as tie
 use Rattle.analysis.proofs.classes.is_letter.Statement.{statement}
 
-table-requires : tie.Need-table-requires
-table-requires c κs = search needs
-
-is-letter-in-requires : tie.Need-is-letter-in-requires
-is-letter-in-requires c κs = search needs
-
 returns : tie.Need-returns
-returns c = c .is-letter-in .ensures ∙ ap (λ (t : List ℕ). letterIn t (c .before .before .before .args .c)) (c .before .before .table .ensures) ∙ letter-is (c .before .before .before .args .c)
+returns c =
+    ⊎-elim
+    (λ w. c .if2 .taken ∙ sym (letter-yes _ (w .0 .taken) (sym (w .1) ∙ c .if2 .taken)))
+    (λ w. clash (sym (w .1) ∙ c .if2 .taken) (lt-leb _ _ (w .0 .left)))
+    (c .before .if1 .came)
+
+returns-2 : tie.Need-returns-2
+returns-2 c = sym (letter-above _ (c .if3 .taken))
+
+returns-3 : tie.Need-returns-3
+returns-3 c =
+    ⊎-elim
+    (λ w. lt-leb _ _ (c .if3 .left) ∙ sym (letter-capital _ (w .0 .taken) (c .if3 .left) ∙ sym (w .1) ∙ c .before .if2 .left))
+    (λ w. lt-leb _ _ (c .if3 .left) ∙ sym (letter-below _ (w .0 .left)))
+    (c .before .before .if1 .came)
 
 pub is-letter-spec : {M : Type 1} → statement M
-is-letter-spec = tie.close (tie.spec table-requires is-letter-in-requires returns)
+is-letter-spec = tie.close (tie.spec returns returns-2 returns-3)

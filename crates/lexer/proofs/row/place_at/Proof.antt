@@ -1,28 +1,19 @@
 -- `row::place_at` meets its contract: the place of the row's token at i. Assumes nothing.
 use mathlib.Core.Path.{sym, ap, _∙_}
-use native.Mathlib.Omega.{arith}
-use borrow.Author.Needs.{needs}
 use Rattle.rules.specs.Lexing.{Token}
 use Rattle.lexer.specs.Row.{tokenAt}
 use Rattle.lexer.proofs.Rows.{token-of}
-use Rattle.lexer.proofs.row.place_at.Tie as tie
+use native.Mathlib.Omega.{arith}
+use borrow.Author.Needs.{needs}
 use Rattle.lexer.proofs.row.place_at.Statement.{statement}
+use Rattle.lexer.proofs.row.place_at.Tie as tie
 
-mul-two-at : tie.Need-mul-two-at
-mul-two-at c = search needs
-
-add-two-at : tie.Need-add-two-at
-add-two-at c = search needs
-
-add-two-at-2 : tie.Need-add-two-at-2
-add-two-at-2 c = search needs
-
-two-at-requires : tie.Need-two-at-requires
-two-at-requires c κs = search needs
+start-at-requires : tie.Need-start-at-requires
+start-at-requires c κs = search needs
 
 returns : tie.Need-returns
 unfolding tokenAt
-returns c = c .two-at .ensures ∙ sym (ap (λ (t : Token). t .place) (token-of (c .before .before .args .room .now) (c .before .before .args .n) (c .before .before .args .i) (omega arith)))
+returns c = c .start-at .ensures ∙ sym (ap (λ (t : Token). t .place) (token-of (c .before .before .args .room .now) (c .before .before .args .n) (c .before .before .args .i) (omega arith)))
 
 pub place-at-spec : {M : Type 1} → statement M
-place-at-spec = tie.close (tie.spec mul-two-at add-two-at add-two-at-2 two-at-requires returns)
+place-at-spec = tie.close (tie.spec start-at-requires returns)

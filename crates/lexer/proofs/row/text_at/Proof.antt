@@ -1,37 +1,19 @@
 -- `row::text_at` meets its contract: the part that the token's bytes name lies within the room. Assumes nothing.
 use native.Mathlib.Nat.{add-sub-cancel-left}
+use Rattle.lexer.specs.Row.{tokenAt}
 use native.Mathlib.Omega.{arith}
 use borrow.Author.Needs.{needs}
-use Rattle.lexer.specs.Row.{tokenAt}
-use Rattle.lexer.proofs.row.text_at.Tie as tie
 use Rattle.lexer.proofs.row.text_at.Statement.{statement}
+use Rattle.lexer.proofs.row.text_at.Tie as tie
 
-mul-two-at : tie.Need-mul-two-at
-mul-two-at c = search needs
+start-at-requires : tie.Need-start-at-requires
+start-at-requires c κs = search needs
 
-add-two-at : tie.Need-add-two-at
-add-two-at c = search needs
-
-add-two-at-2 : tie.Need-add-two-at-2
-add-two-at-2 c = search needs
-
-two-at-requires : tie.Need-two-at-requires
-two-at-requires c κs = search needs
-
-mul-two-at-2 : tie.Need-mul-two-at-2
-mul-two-at-2 c = search needs
-
-add-two-at-3 : tie.Need-add-two-at-3
-add-two-at-3 c = search needs
-
-add-two-at-4 : tie.Need-add-two-at-4
-add-two-at-4 c = search needs
-
-two-at-requires-2 : tie.Need-two-at-requires-2
-two-at-requires-2 c κs = search needs
+size-at-requires : tie.Need-size-at-requires
+size-at-requires c κs = search needs
 
 add-end : tie.Need-add-end
-add-end c = omega (arith, c .before .two-at .ensures, c .two-at2 .ensures)
+add-end c = omega (arith, c .before .start-at .ensures, c .size-at .ensures)
 
 sub-result : tie.Need-sub-result
 sub-result c = search needs
@@ -40,24 +22,18 @@ part-result-start : tie.Need-part-result-start
 part-result-start c = search needs
 
 part-result-end : tie.Need-part-result-end
-part-result-end c = omega (arith, c .before .two-at .ensures, c .two-at2 .ensures)
+part-result-end c = omega (arith, c .before .start-at .ensures, c .size-at .ensures)
 
 returns : tie.Need-returns
 unfolding tokenAt
-returns c = rw (add-sub-cancel-left, c .before .before .two-at .ensures, c .before .two-at2 .ensures)
+returns c = rw (add-sub-cancel-left, c .before .before .start-at .ensures, c .before .size-at .ensures)
 
 pub text-at-spec : {M : Type 1} → statement M
 text-at-spec =
     tie.close
     (tie.spec
-    mul-two-at
-    add-two-at
-    add-two-at-2
-    two-at-requires
-    mul-two-at-2
-    add-two-at-3
-    add-two-at-4
-    two-at-requires-2
+    start-at-requires
+    size-at-requires
     add-end
     sub-result
     part-result-start

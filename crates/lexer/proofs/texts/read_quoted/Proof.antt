@@ -1,7 +1,7 @@
 -- `texts::read_quoted` meets its contract, as `read_term` does: the opening quote stands before the text, and a closing one ends it. Assumes nothing.
 use Prim.Native.Nat.{_+_, _-_}
 use native.Mathlib.Omega.{arith}
-use lib.ListN.{length, getD}
+use lib.ListN.{length, getD, drop}
 use borrow.Author.Needs.{needs}
 use borrow.Author.Tests.{eq-eqb, ne-eqb}
 use Rattle.rules.proofs.Tokenizing.{quoted-unescapes}
@@ -12,7 +12,7 @@ use Rattle.lexer.proofs.texts.read_quoted.Tie as tie
 use Rattle.lexer.proofs.texts.read_quoted.Statement.{statement}
 
 abbrev Inv-loop : tie.InvT-loop
-Inv-loop text at room₀ i₀ len₀ room i len = Reading quotedText text (at + 1) at room₀ room i len
+Inv-loop text at room₀ i₀ len₀ room i len = Reading quotedText (quotedText (drop (at + 1) text)) text at room₀ room i len
 
 abbrev μ-loop : tie.MeasureT-loop
 μ-loop text at room₀ i₀ len₀ room i len = length text - i
@@ -34,7 +34,7 @@ same-length c = c .before .before .before .loop .inv .as-long
 
 returns : tie.Need-returns Inv-loop μ-loop
 returns c = let t = c .before .before .before .before .before .before .args .text .now in let i = c .before .before .before .loop .i in
-    reading-at quotedText t (c .before .before .before .before .before .before .args .at + 1) (c .before .before .before .before .before .before .args .at) (c .before .before .before .loop .inv) (i + 1) (quote-ends t i (c .before .before .loop-test .taken) (eq-eqb (getD t i 0) 0x22 (c .if1 .taken))) (omega arith) (omega arith)
+    reading-at quotedText t (c .before .before .before .before .before .before .args .at) (c .before .before .before .loop .inv) (i + 1) (quote-ends t i (c .before .before .loop-test .taken) (eq-eqb (getD t i 0) 0x22 (c .if1 .taken))) (omega arith) (omega arith)
 
 escape-requires : tie.Need-escape-requires Inv-loop μ-loop
 escape-requires c κs = search needs
@@ -47,7 +47,7 @@ same-length-2 c = c .before .before .before .before .before .loop .inv .as-long
 
 returns-2 : tie.Need-returns-2 Inv-loop μ-loop
 returns-2 c = let t = c .before .before .before .before .before .before .before .before .args .text .now in let i = c .before .before .before .before .before .loop .i in
-    reading-dangling quotedText t (c .before .before .before .before .before .before .before .before .args .at + 1) (c .before .before .before .before .before .before .before .before .args .at) (c .before .before .before .before .before .loop .inv) isQuote quoted-unescapes (c .before .escape .result) (c .before .before .before .before .loop-test .taken) (ne-eqb (getD t i 0) 0x22 (c .before .before .if1 .left)) (c .before .escape .ensures) (c .if2 .taken)
+    reading-dangling quotedText t (c .before .before .before .before .before .before .before .before .args .at) (c .before .before .before .before .before .loop .inv) isQuote quoted-unescapes (c .before .escape .result) (c .before .before .before .before .loop-test .taken) (ne-eqb (getD t i 0) 0x22 (c .before .before .if1 .left)) (c .before .escape .ensures) (c .if2 .taken)
 
 shared-slice-read-room : tie.Need-shared-slice-read-room Inv-loop μ-loop
 shared-slice-read-room c = omega arith
@@ -69,14 +69,14 @@ loop-less c = omega (arith, c .before .if2 .left, c .before .before .before .bef
 
 loop-again : tie.Need-loop-again Inv-loop μ-loop
 loop-again c = let t = c .before .before .before .before .before .before .before .before .before .args .text .now in let i = c .before .before .before .before .before .before .loop .i in
-    reading-turn quotedText t (c .before .before .before .before .before .before .before .before .before .args .at + 1) (c .before .before .before .before .before .before .before .before .before .args .at) (c .before .before .before .before .before .before .loop .inv) isQuote quoted-unescapes (c .before .before .escape .result) (c .before .before .before .before .before .loop-test .taken) (ne-eqb (getD t i 0) 0x22 (c .before .before .before .if1 .left)) (c .before .before .escape .ensures) (c .before .if2 .left) (c .before .before .before .before .before .before .before .before .before .pre .1) (c .before .before .before .before .before .before .before .before .before .pre .2)
+    reading-turn quotedText t (c .before .before .before .before .before .before .before .before .before .args .at) (c .before .before .before .before .before .before .loop .inv) isQuote quoted-unescapes (c .before .before .escape .result) (c .before .before .before .before .before .loop-test .taken) (ne-eqb (getD t i 0) 0x22 (c .before .before .before .if1 .left)) (c .before .before .escape .ensures) (c .before .if2 .left) (c .before .before .before .before .before .before .before .before .before .pre .1) (c .before .before .before .before .before .before .before .before .before .pre .2)
 
 same-length-3 : tie.Need-same-length-3 Inv-loop μ-loop
 same-length-3 c = c .before .loop .inv .as-long
 
 returns-3 : tie.Need-returns-3 Inv-loop μ-loop
 returns-3 c = let t = c .before .before .before .before .args .text .now in let i = c .before .loop .i in
-    reading-fault quotedText t (c .before .before .before .before .args .at + 1) (c .before .before .before .before .args .at) (c .before .loop .inv) openQuote (quote-over t i (c .loop-test .left))
+    reading-fault quotedText t (c .before .before .before .before .args .at) (c .before .loop .inv) openQuote (quote-over t i (c .loop-test .left))
 
 pub read-quoted-spec : {M : Type 1} → statement M
 read-quoted-spec =

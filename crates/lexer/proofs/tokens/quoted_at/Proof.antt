@@ -25,7 +25,7 @@ same-length-2 : tie.Need-same-length-2
 same-length-2 c = search needs
 
 returns-2 : tie.Need-returns-2
-returns-2 c = (c .before .before .before .before .before .read-quoted .ensures .0, quoted-yes (c .before .before .before .before .before .before .before .before .before .args .text .now) (c .before .before .before .before .before .before .before .before .before .args .at) _ (drop (c .before .before .before .before .before .before .before .before .before .args .at + 1) (c .before .before .before .before .before .before .before .before .before .args .text .now)) (c .before .before .before .before .before .read-quoted .result) (c .before .before .before .before .before .read-quoted .ensures .1) _ _ (c .before .next .given .1))
+returns-2 c = (c .before .before .before .before .before .read-quoted .ensures .0, quoted-yes (c .before .before .before .before .before .before .before .before .before .args .text .now) (c .before .before .before .before .before .before .before .before .before .args .at) _ (drop (c .before .before .before .before .before .before .before .before .before .args .at + 1) (c .before .before .before .before .before .before .before .before .before .args .text .now)) (c .before .before .before .before .before .read-quoted .result) (c .before .before .before .before .before .read-quoted .ensures .1) _ _ _ (c .before .next .given .1))
 
 pub quoted-at-spec : {M : Type 1} → statement M
 quoted-at-spec =

@@ -1,15 +1,18 @@
 -- `parser::measure::measure_clause` and `parser::measure::measure_query` call each other and meet their contracts: unread tokens fall, then a call rank.
 use Rattle.parser.proofs.Steps.{past-one, Bounds, Turn, led, bounds-start, bounds-on, bounds-small, clause-small, turn-start, turn-end, turn-refused, turn-found}
-use Rattle.parser.proofs.Bodies.{body-plain, body-open, body-deep, body-quoted, body-end, body-other, meant-start, within-start}
+use Rattle.parser.proofs.Bodies.{leaf-at, body-leaf, body-open, body-deep, body-end, body-other, meant-start, within-start}
 use Rattle.parser.proofs.Rows.{kind-in, goes-in}
 use Rattle.parser.specs.Measured.{Tuned}
 use Rattle.lexer.specs.Row.{tokensOf, nameFrom}
-use Rattle.rules.specs.Parsing.{plainAt, quotedAt, closedAt, queryFound}
+use Rattle.parser.specs.Leaves.{leafAt}
+use Rattle.rules.specs.Parsing.{closedAt, queryFound}
 use Rattle.rules.specs.Setup.{Setup}
 use Rattle.rules.specs.Numbers.{onRead, andThen, refused, longField, manyBrackets, unexpectedEnd, unexpectedToken}
-use borrow.Author.Tests.{eq-eqb, not-true, not-false}
+use borrow.Author.Tests.{eqb-true, eqb-false, eq-eqb, not-true, not-false}
 use Prim.Native.Nat.{ℕ, _<_, _+_, _-_, _*_}
+use lib.Dec.{eqb}
 use mathlib.Core.Path.{refl, sym, _∙_}
+use mathlib.Core.Logic.{inl, inr, ⊎-elim}
 use native.Mathlib.Omega.{arith}
 use borrow.Author.Needs.{needs}
 use borrow.Fn.Kinds.{In}
@@ -87,43 +90,37 @@ measure-clause-kind-at-requires : (t : ℕ) → measure-clause-lts.Need-kind-at-
 measure-clause-kind-at-requires t c κs = (c .before .before .before .before .before .before .pre .1 .0 .few, c .before .before .before .before .before .before .pre .1 .0 .least)
 
 measure-clause-measure-leaf-requires : (t : ℕ) → measure-clause-lts.Need-measure-leaf-requires (measure-clause-calls t) (measure-clause-at t) measure-clause.Post
-measure-clause-measure-leaf-requires t c κs = let S1 = rw (c .before .before .before .from .given .1) at (c .before .before .before .before .before .clause-start .ensures) in (c .before .before .before .before .before .before .before .before .pre .1 .0, S1 .fielded (c .before .before .before .before .before .before .before .before .args .default .now) (c .before .before .before .before .before .before .before .before .pre .1 .1), eq-eqb _ _ (sym (c .before .kind-at .ensures) ∙ c .if1 .taken), omega (arith, S1 .high, c .before .before .before .before .before .before .before .before .pre .1 .2))
+measure-clause-measure-leaf-requires t c κs = let S1 = rw (c .before .before .before .from .given .1) at (c .before .before .before .before .before .clause-start .ensures) in (c .before .before .before .before .before .before .before .before .pre .1 .0, S1 .fielded (c .before .before .before .before .before .before .before .before .args .default .now) (c .before .before .before .before .before .before .before .before .pre .1 .1), leaf-at (tokensOf (c .before .before .before .before .before .before .before .before .args .room .now) (c .before .before .before .before .before .before .before .before .args .n)) (c .before .before .before .from .given .0 .1 .1 .0) _ (c .before .kind-at .ensures) (⊎-elim (λ w. inl (w .taken)) (λ w. inr (eqb-true _ _ (w .1 .taken))) (c .if1 .came)), omega (arith, S1 .high, c .before .before .before .before .before .before .before .before .pre .1 .2))
 
 measure-clause-returns : (t : ℕ) → measure-clause-lts.Need-returns (measure-clause-calls t) (measure-clause-at t) measure-clause.Post
-measure-clause-returns t c = let S1 = rw (c .before .before .before .before .from .given .1) at (c .before .before .before .before .before .before .clause-start .ensures) in ((λ st T. meant-start S1 st (c .before .before .before .before .before .before .before .before .before .args .default .now) (c .before .before .before .before .before .before .before .before .before .args .depth) _ (plainAt st (tokensOf (c .before .before .before .before .before .before .before .before .before .args .room .now) (c .before .before .before .before .before .before .before .before .before .args .n)) (nameFrom (c .before .before .before .before .before .before .before .before .before .args .room .now) (c .before .before .before .before .before .before .before .before .before .args .default .now) (c .before .before .before .before .from .given .0 .0)) (c .before .before .before .before .from .given .0 .1 .1 .0)) (λ k h. body-plain st (tokensOf (c .before .before .before .before .before .before .before .before .before .args .room .now) (c .before .before .before .before .before .before .before .before .before .args .n)) _ (nameFrom (c .before .before .before .before .before .before .before .before .before .args .room .now) (c .before .before .before .before .before .before .before .before .before .args .default .now) (c .before .before .before .before .from .given .0 .0)) (c .before .before .before .before .before .before .before .before .before .args .depth) (c .before .before .before .before .from .given .0 .1 .1 .0) _ (c .before .before .kind-at .ensures) (c .before .if1 .taken)) (c .measure-leaf .ensures .0 st (c .before .before .before .before .before .before .before .before .before .args .operator) (S1 .tuned st (c .before .before .before .before .before .before .before .before .before .args .operator) (c .before .before .before .before .before .before .before .before .before .args .default .now) T))), within-start S1 (c .measure-leaf .result) (c .measure-leaf .ensures .1))
+measure-clause-returns t c = let S1 = rw (c .before .before .before .before .from .given .1) at (c .before .before .before .before .before .before .clause-start .ensures) in ((λ st T. meant-start S1 st (c .before .before .before .before .before .before .before .before .before .args .default .now) (c .before .before .before .before .before .before .before .before .before .args .depth) _ (leafAt (eqb (c .before .before .kind-at .result) 1) st (tokensOf (c .before .before .before .before .before .before .before .before .before .args .room .now) (c .before .before .before .before .before .before .before .before .before .args .n)) (nameFrom (c .before .before .before .before .before .before .before .before .before .args .room .now) (c .before .before .before .before .before .before .before .before .before .args .default .now) (c .before .before .before .before .from .given .0 .0)) (c .before .before .before .before .from .given .0 .1 .1 .0)) (λ k h. body-leaf st (tokensOf (c .before .before .before .before .before .before .before .before .before .args .room .now) (c .before .before .before .before .before .before .before .before .before .args .n)) _ (nameFrom (c .before .before .before .before .before .before .before .before .before .args .room .now) (c .before .before .before .before .before .before .before .before .before .args .default .now) (c .before .before .before .before .from .given .0 .0)) (c .before .before .before .before .before .before .before .before .before .args .depth) (c .before .before .before .before .from .given .0 .1 .1 .0) _ (c .before .before .kind-at .ensures) (⊎-elim (λ w. inl (w .taken)) (λ w. inr (eqb-true _ _ (w .1 .taken))) (c .before .if1 .came))) (c .measure-leaf .ensures .0 st (c .before .before .before .before .before .before .before .before .before .args .operator) (S1 .tuned st (c .before .before .before .before .before .before .before .before .before .args .operator) (c .before .before .before .before .before .before .before .before .before .args .default .now) T))), within-start S1 (c .measure-leaf .result) (c .measure-leaf .ensures .1))
 
 measure-clause-add-measure-query : (t : ℕ) → measure-clause-lts.Need-add-measure-query (measure-clause-calls t) (measure-clause-at t) measure-clause.Post
-measure-clause-add-measure-query t c = omega (arith, c .before .before .before .before .before .before .before .before .before .before .pre .1 .3)
+measure-clause-add-measure-query t c = omega (arith, c .before .before .before .before .before .before .before .before .before .before .before .pre .1 .3)
 
 measure-clause-add-measure-query-2 : (t : ℕ) → measure-clause-lts.Need-add-measure-query-2 (measure-clause-calls t) (measure-clause-at t) measure-clause.Post
-measure-clause-add-measure-query-2 t c = let S1 = rw (c .before .before .before .before .before .from .given .1) at (c .before .before .before .before .before .before .before .clause-start .ensures) in omega (arith, S1 .high, c .before .before .before .before .before .before .before .before .before .before .pre .1 .2)
+measure-clause-add-measure-query-2 t c = let S1 = rw (c .before .before .before .before .before .before .from .given .1) at (c .before .before .before .before .before .before .before .before .clause-start .ensures) in omega (arith, S1 .high, c .before .before .before .before .before .before .before .before .before .before .before .pre .1 .2)
 
 measure-clause-measure-query-requires : (t : ℕ) → measure-clause-lts.Need-measure-query-requires (measure-clause-calls t) (measure-clause-at t) measure-clause.Post
-measure-clause-measure-query-requires t c κs = let S1 = rw (c .before .before .before .before .before .from .given .1) at (c .before .before .before .before .before .before .before .clause-start .ensures) in let z = kind-in (c .before .before .before .before .before .before .before .before .before .before .args .room .now) (c .before .before .before .before .before .before .before .before .before .before .args .n) 9 (c .before .before .before .before .before .from .given .0 .1 .1 .0) (λ z. omega arith) (eq-eqb _ _ (sym (c .before .before .before .kind-at .ensures) ∙ c .before .if2 .taken)) in (omega (arith, S1 .low, c .before .before .before .before .before .before .before .before .before .before .pre .0), (c .before .before .before .before .before .before .before .before .before .before .pre .1 .0, S1 .fielded (c .before .before .before .before .before .before .before .before .before .before .args .default .now) (c .before .before .before .before .before .before .before .before .before .before .pre .1 .1), omega arith, omega (arith, c .if3 .taken)))
+measure-clause-measure-query-requires t c κs = let S1 = rw (c .before .before .before .before .before .before .from .given .1) at (c .before .before .before .before .before .before .before .before .clause-start .ensures) in let z = kind-in (c .before .before .before .before .before .before .before .before .before .before .before .args .room .now) (c .before .before .before .before .before .before .before .before .before .before .before .args .n) 9 (c .before .before .before .before .before .before .from .given .0 .1 .1 .0) (λ z. omega arith) (eq-eqb _ _ (sym (c .before .before .before .before .kind-at .ensures) ∙ c .before .if3 .taken)) in (omega (arith, S1 .low, c .before .before .before .before .before .before .before .before .before .before .before .pre .0), (c .before .before .before .before .before .before .before .before .before .before .before .pre .1 .0, S1 .fielded (c .before .before .before .before .before .before .before .before .before .before .before .args .default .now) (c .before .before .before .before .before .before .before .before .before .before .before .pre .1 .1), omega arith, omega (arith, c .if4 .taken)))
 
 measure-clause-closing-requires : (t : ℕ) → measure-clause-lts.Need-closing-requires (measure-clause-calls t) (measure-clause-at t) measure-clause.Post
-measure-clause-closing-requires t c κs = (c .before .before .before .before .before .before .before .before .before .before .before .pre .1 .0, (_, c .measure-query .ensures .1))
+measure-clause-closing-requires t c κs = (c .before .before .before .before .before .before .before .before .before .before .before .before .pre .1 .0, (_, c .measure-query .ensures .1))
 
 measure-clause-returns-2 : (t : ℕ) → measure-clause-lts.Need-returns-2 (measure-clause-calls t) (measure-clause-at t) measure-clause.Post
-measure-clause-returns-2 t c = let S1 = rw (c .before .before .before .before .before .before .before .from .given .1) at (c .before .before .before .before .before .before .before .before .before .clause-start .ensures) in let z = kind-in (c .before .before .before .before .before .before .before .before .before .before .before .before .args .room .now) (c .before .before .before .before .before .before .before .before .before .before .before .before .args .n) 9 (c .before .before .before .before .before .before .before .from .given .0 .1 .1 .0) (λ z. omega arith) (eq-eqb _ _ (sym (c .before .before .before .before .before .kind-at .ensures) ∙ c .before .before .before .if2 .taken)) in ((λ st T. let M = c .before .measure-query .ensures .0 st (S1 .tuned st (c .before .before .before .before .before .before .before .before .before .before .before .before .args .operator) (c .before .before .before .before .before .before .before .before .before .before .before .before .args .default .now) T) in meant-start S1 st (c .before .before .before .before .before .before .before .before .before .before .before .before .args .default .now) (c .before .before .before .before .before .before .before .before .before .before .before .before .args .depth) (c .closing .result) (andThen (onRead queryFound (M .answer)) (closedAt st (tokensOf (c .before .before .before .before .before .before .before .before .before .before .before .before .args .room .now) (c .before .before .before .before .before .before .before .before .before .before .before .before .args .n)))) (λ k h. body-open st (tokensOf (c .before .before .before .before .before .before .before .before .before .before .before .before .args .room .now) (c .before .before .before .before .before .before .before .before .before .before .before .before .args .n)) _ (nameFrom (c .before .before .before .before .before .before .before .before .before .before .before .before .args .room .now) (c .before .before .before .before .before .before .before .before .before .before .before .before .args .default .now) (c .before .before .before .before .before .before .before .from .given .0 .0)) (c .before .before .before .before .before .before .before .before .before .before .before .before .args .depth) (c .before .before .before .before .before .before .before .from .given .0 .1 .1 .0) _ (c .before .before .before .before .before .kind-at .ensures) (c .before .before .before .before .if1 .left) (c .before .before .before .if2 .taken) (c .before .before .if3 .taken) ∙ rw (M .says k (omega arith))) (c .closing .ensures .0 st (M .answer) (M .means))), within-start S1 (c .closing .result) (c .closing .ensures .1 (c .before .before .before .before .before .before .before .from .given .0 .1 .1 .0) z (c .before .measure-query .ensures .1)))
+measure-clause-returns-2 t c = let S1 = rw (c .before .before .before .before .before .before .before .before .from .given .1) at (c .before .before .before .before .before .before .before .before .before .before .clause-start .ensures) in let z = kind-in (c .before .before .before .before .before .before .before .before .before .before .before .before .before .args .room .now) (c .before .before .before .before .before .before .before .before .before .before .before .before .before .args .n) 9 (c .before .before .before .before .before .before .before .before .from .given .0 .1 .1 .0) (λ z. omega arith) (eq-eqb _ _ (sym (c .before .before .before .before .before .before .kind-at .ensures) ∙ c .before .before .before .if3 .taken)) in ((λ st T. let M = c .before .measure-query .ensures .0 st (S1 .tuned st (c .before .before .before .before .before .before .before .before .before .before .before .before .before .args .operator) (c .before .before .before .before .before .before .before .before .before .before .before .before .before .args .default .now) T) in meant-start S1 st (c .before .before .before .before .before .before .before .before .before .before .before .before .before .args .default .now) (c .before .before .before .before .before .before .before .before .before .before .before .before .before .args .depth) (c .closing .result) (andThen (onRead queryFound (M .answer)) (closedAt st (tokensOf (c .before .before .before .before .before .before .before .before .before .before .before .before .before .args .room .now) (c .before .before .before .before .before .before .before .before .before .before .before .before .before .args .n)))) (λ k h. body-open st (tokensOf (c .before .before .before .before .before .before .before .before .before .before .before .before .before .args .room .now) (c .before .before .before .before .before .before .before .before .before .before .before .before .before .args .n)) _ (nameFrom (c .before .before .before .before .before .before .before .before .before .before .before .before .before .args .room .now) (c .before .before .before .before .before .before .before .before .before .before .before .before .before .args .default .now) (c .before .before .before .before .before .before .before .before .from .given .0 .0)) (c .before .before .before .before .before .before .before .before .before .before .before .before .before .args .depth) (c .before .before .before .before .before .before .before .before .from .given .0 .1 .1 .0) _ (c .before .before .before .before .before .before .kind-at .ensures) (c .before .before .before .before .before .if1 .left) (c .before .before .before .if3 .taken) (c .before .before .if4 .taken) ∙ rw (M .says k (omega arith))) (c .closing .ensures .0 st (M .answer) (M .means))), within-start S1 (c .closing .result) (c .closing .ensures .1 (c .before .before .before .before .before .before .before .before .from .given .0 .1 .1 .0) z (c .before .measure-query .ensures .1)))
 
 measure-clause-returns-3 : (t : ℕ) → measure-clause-lts.Need-returns-3 (measure-clause-calls t) (measure-clause-at t) measure-clause.Post
-measure-clause-returns-3 t c = let S1 = rw (c .before .before .before .before .before .from .given .1) at (c .before .before .before .before .before .before .before .clause-start .ensures) in ((λ st T. meant-start S1 st (c .before .before .before .before .before .before .before .before .before .before .args .default .now) (c .before .before .before .before .before .before .before .before .before .before .args .depth) _ (refused manyBrackets) (λ k h. body-deep st (tokensOf (c .before .before .before .before .before .before .before .before .before .before .args .room .now) (c .before .before .before .before .before .before .before .before .before .before .args .n)) _ (nameFrom (c .before .before .before .before .before .before .before .before .before .before .args .room .now) (c .before .before .before .before .before .before .before .before .before .before .args .default .now) (c .before .before .before .before .before .from .given .0 .0)) (c .before .before .before .before .before .before .before .before .before .before .args .depth) (c .before .before .before .before .before .from .given .0 .1 .1 .0) _ (c .before .before .before .kind-at .ensures) (c .before .before .if1 .left) (c .before .if2 .taken) (c .if3 .left)) (manyBrackets, refl, refl)), omega arith)
-
-measure-clause-measure-leaf-requires-2 : (t : ℕ) → measure-clause-lts.Need-measure-leaf-requires-2 (measure-clause-calls t) (measure-clause-at t) measure-clause.Post
-measure-clause-measure-leaf-requires-2 t c κs = let S1 = rw (c .before .before .before .before .before .from .given .1) at (c .before .before .before .before .before .before .before .clause-start .ensures) in (c .before .before .before .before .before .before .before .before .before .before .pre .1 .0, S1 .fielded (c .before .before .before .before .before .before .before .before .before .before .args .default .now) (c .before .before .before .before .before .before .before .before .before .before .pre .1 .1), eq-eqb _ _ (sym (c .before .before .before .kind-at .ensures) ∙ c .if4 .taken), omega (arith, S1 .high, c .before .before .before .before .before .before .before .before .before .before .pre .1 .2))
+measure-clause-returns-3 t c = let S1 = rw (c .before .before .before .before .before .before .from .given .1) at (c .before .before .before .before .before .before .before .before .clause-start .ensures) in ((λ st T. meant-start S1 st (c .before .before .before .before .before .before .before .before .before .before .before .args .default .now) (c .before .before .before .before .before .before .before .before .before .before .before .args .depth) _ (refused manyBrackets) (λ k h. body-deep st (tokensOf (c .before .before .before .before .before .before .before .before .before .before .before .args .room .now) (c .before .before .before .before .before .before .before .before .before .before .before .args .n)) _ (nameFrom (c .before .before .before .before .before .before .before .before .before .before .before .args .room .now) (c .before .before .before .before .before .before .before .before .before .before .before .args .default .now) (c .before .before .before .before .before .before .from .given .0 .0)) (c .before .before .before .before .before .before .before .before .before .before .before .args .depth) (c .before .before .before .before .before .before .from .given .0 .1 .1 .0) _ (c .before .before .before .before .kind-at .ensures) (c .before .before .before .if1 .left) (c .before .if3 .taken) (c .if4 .left)) (manyBrackets, refl, refl)), omega arith)
 
 measure-clause-returns-4 : (t : ℕ) → measure-clause-lts.Need-returns-4 (measure-clause-calls t) (measure-clause-at t) measure-clause.Post
-measure-clause-returns-4 t c = let S1 = rw (c .before .before .before .before .before .before .from .given .1) at (c .before .before .before .before .before .before .before .before .clause-start .ensures) in ((λ st T. meant-start S1 st (c .before .before .before .before .before .before .before .before .before .before .before .args .default .now) (c .before .before .before .before .before .before .before .before .before .before .before .args .depth) _ (quotedAt st (tokensOf (c .before .before .before .before .before .before .before .before .before .before .before .args .room .now) (c .before .before .before .before .before .before .before .before .before .before .before .args .n)) (nameFrom (c .before .before .before .before .before .before .before .before .before .before .before .args .room .now) (c .before .before .before .before .before .before .before .before .before .before .before .args .default .now) (c .before .before .before .before .before .before .from .given .0 .0)) (c .before .before .before .before .before .before .from .given .0 .1 .1 .0)) (λ k h. body-quoted st (tokensOf (c .before .before .before .before .before .before .before .before .before .before .before .args .room .now) (c .before .before .before .before .before .before .before .before .before .before .before .args .n)) _ (nameFrom (c .before .before .before .before .before .before .before .before .before .before .before .args .room .now) (c .before .before .before .before .before .before .before .before .before .before .before .args .default .now) (c .before .before .before .before .before .before .from .given .0 .0)) (c .before .before .before .before .before .before .before .before .before .before .before .args .depth) (c .before .before .before .before .before .before .from .given .0 .1 .1 .0) _ (c .before .before .before .before .kind-at .ensures) (c .before .before .before .if1 .left) (c .before .before .if2 .left) (c .before .if4 .taken)) (c .measure-leaf2 .ensures .0 st (c .before .before .before .before .before .before .before .before .before .before .before .args .operator) (S1 .tuned st (c .before .before .before .before .before .before .before .before .before .before .before .args .operator) (c .before .before .before .before .before .before .before .before .before .before .before .args .default .now) T))), within-start S1 (c .measure-leaf2 .result) (c .measure-leaf2 .ensures .1))
+measure-clause-returns-4 t c = let S1 = rw (c .before .before .before .before .before .before .from .given .1) at (c .before .before .before .before .before .before .before .before .clause-start .ensures) in ((λ st T. meant-start S1 st (c .before .before .before .before .before .before .before .before .before .before .before .args .default .now) (c .before .before .before .before .before .before .before .before .before .before .before .args .depth) _ (refused unexpectedEnd) (λ k h. body-end st (tokensOf (c .before .before .before .before .before .before .before .before .before .before .before .args .room .now) (c .before .before .before .before .before .before .before .before .before .before .before .args .n)) _ (nameFrom (c .before .before .before .before .before .before .before .before .before .before .before .args .room .now) (c .before .before .before .before .before .before .before .before .before .before .before .args .default .now) (c .before .before .before .before .before .before .from .given .0 .0)) (c .before .before .before .before .before .before .before .before .before .before .before .args .depth) (c .before .before .before .before .before .before .from .given .0 .1 .1 .0) _ (c .before .before .before .before .kind-at .ensures) (c .before .before .before .if1 .left) (c .before .if3 .left) (eqb-false _ _ (c .before .before .if2 .left)) (c .if5 .taken)) (unexpectedEnd, refl, refl)), omega arith)
 
 measure-clause-returns-5 : (t : ℕ) → measure-clause-lts.Need-returns-5 (measure-clause-calls t) (measure-clause-at t) measure-clause.Post
-measure-clause-returns-5 t c = let S1 = rw (c .before .before .before .before .before .before .from .given .1) at (c .before .before .before .before .before .before .before .before .clause-start .ensures) in ((λ st T. meant-start S1 st (c .before .before .before .before .before .before .before .before .before .before .before .args .default .now) (c .before .before .before .before .before .before .before .before .before .before .before .args .depth) _ (refused unexpectedEnd) (λ k h. body-end st (tokensOf (c .before .before .before .before .before .before .before .before .before .before .before .args .room .now) (c .before .before .before .before .before .before .before .before .before .before .before .args .n)) _ (nameFrom (c .before .before .before .before .before .before .before .before .before .before .before .args .room .now) (c .before .before .before .before .before .before .before .before .before .before .before .args .default .now) (c .before .before .before .before .before .before .from .given .0 .0)) (c .before .before .before .before .before .before .before .before .before .before .before .args .depth) (c .before .before .before .before .before .before .from .given .0 .1 .1 .0) _ (c .before .before .before .before .kind-at .ensures) (c .before .before .before .if1 .left) (c .before .before .if2 .left) (c .before .if4 .left) (c .if5 .taken)) (unexpectedEnd, refl, refl)), omega arith)
+measure-clause-returns-5 t c = let E = rw (c .enum-told .given .1) at (c .before .before .clause-start .ensures) in ((λ st T. record { answer = refused longField; says = λ k h. E st _ _ _; means = (longField, refl, refl) }), omega arith)
 
 measure-clause-returns-6 : (t : ℕ) → measure-clause-lts.Need-returns-6 (measure-clause-calls t) (measure-clause-at t) measure-clause.Post
-measure-clause-returns-6 t c = let E = rw (c .enum-told .given .1) at (c .before .before .clause-start .ensures) in ((λ st T. record { answer = refused longField; says = λ k h. E st _ _ _; means = (longField, refl, refl) }), omega arith)
-
-measure-clause-returns-7 : (t : ℕ) → measure-clause-lts.Need-returns-7 (measure-clause-calls t) (measure-clause-at t) measure-clause.Post
-measure-clause-returns-7 t c = let S1 = rw (c .before .before .before .before .before .before .from .given .1) at (c .before .before .before .before .before .before .before .before .clause-start .ensures) in ((λ st T. meant-start S1 st (c .before .before .before .before .before .before .before .before .before .before .before .args .default .now) (c .before .before .before .before .before .before .before .before .before .before .before .args .depth) _ (refused unexpectedToken) (λ k h. body-other st (tokensOf (c .before .before .before .before .before .before .before .before .before .before .before .args .room .now) (c .before .before .before .before .before .before .before .before .before .before .before .args .n)) _ (nameFrom (c .before .before .before .before .before .before .before .before .before .before .before .args .room .now) (c .before .before .before .before .before .before .before .before .before .before .before .args .default .now) (c .before .before .before .before .before .before .from .given .0 .0)) (c .before .before .before .before .before .before .before .before .before .before .before .args .depth) (c .before .before .before .before .before .before .from .given .0 .1 .1 .0) _ (c .before .before .before .before .kind-at .ensures) (c .before .before .before .if1 .left) (c .before .before .if2 .left) (c .before .if4 .left) (c .if5 .left)) (unexpectedToken, refl, refl)), omega arith)
+measure-clause-returns-6 t c = let S1 = rw (c .before .before .before .before .before .before .from .given .1) at (c .before .before .before .before .before .before .before .before .clause-start .ensures) in ((λ st T. meant-start S1 st (c .before .before .before .before .before .before .before .before .before .before .before .args .default .now) (c .before .before .before .before .before .before .before .before .before .before .before .args .depth) _ (refused unexpectedToken) (λ k h. body-other st (tokensOf (c .before .before .before .before .before .before .before .before .before .before .before .args .room .now) (c .before .before .before .before .before .before .before .before .before .before .before .args .n)) _ (nameFrom (c .before .before .before .before .before .before .before .before .before .before .before .args .room .now) (c .before .before .before .before .before .before .before .before .before .before .before .args .default .now) (c .before .before .before .before .before .before .from .given .0 .0)) (c .before .before .before .before .before .before .before .before .before .before .before .args .depth) (c .before .before .before .before .before .before .from .given .0 .1 .1 .0) _ (c .before .before .before .before .kind-at .ensures) (c .before .before .before .if1 .left) (c .before .if3 .left) (eqb-false _ _ (c .before .before .if2 .left)) (c .if5 .left)) (unexpectedToken, refl, refl)), omega arith)
 
 abbrev measure-query-Inv-loop : measure-query-lts.InvT-loop
 measure-query-Inv-loop room n default operator from analyzer depth at i₀ s₀ i s =
@@ -192,11 +189,9 @@ pub +measure-clause+measure-query-spec : {M : Type 1} → statement M
     (measure-clause-closing-requires t)
     (measure-clause-returns-2 t)
     (measure-clause-returns-3 t)
-    (measure-clause-measure-leaf-requires-2 t)
     (measure-clause-returns-4 t)
     (measure-clause-returns-5 t)
-    (measure-clause-returns-6 t)
-    (measure-clause-returns-7 t))
+    (measure-clause-returns-6 t))
     λ t. measure-query-lts.spec (measure-query-calls t)
     (measure-query-at t)
     measure-query.Post

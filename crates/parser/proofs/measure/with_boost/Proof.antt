@@ -1,12 +1,12 @@
 -- `parser::measure::with_boost` meets its contract.
-use Rattle.parser.proofs.Rows.{kind-in, text-is, place-step-two}
-use Prim.Native.Nat.{_+_}
 use mathlib.Core.Path.{refl, sym, ap, _∙_}
-use Rattle.rules.specs.Numerals.{numeralBits}
-use Rattle.parser.proofs.Bodies.{answer-refused, answer-got, boost-none, boost-missing, boost-refused, boost-got, boosted-length}
-use Rattle.parser.proofs.Rows.{kind-in, text-is}
+use Prim.Native.Nat.{_+_}
 use Rattle.lexer.specs.Row.{tokensOf}
-use mathlib.Core.Path.{refl, sym, _∙_}
+use Rattle.rules.specs.Numerals.{numeralBits}
+use Rattle.rules.specs.Reading.{numberOf}
+use Rattle.rules.proofs.Refusals.{number-not, number-got}
+use Rattle.parser.proofs.Bodies.{boost-none, boost-missing, boost-refused, boost-got, boosted-length}
+use Rattle.parser.proofs.Rows.{kind-in, text-is, place-step-two}
 use native.Mathlib.Omega.{arith}
 use borrow.Author.Needs.{needs}
 use Rattle.parser.proofs.measure.with_boost.Statement.{statement}
@@ -27,26 +27,20 @@ add-text-at c = search needs
 text-at-requires : tie.Need-text-at-requires
 text-at-requires c κs = let z = kind-in (c .before .before .before .before .before .args .room .now) (c .before .before .before .before .before .args .n) 1 (c .before .before .before .before .before .args .i + 1) (λ z. omega arith) (sym (c .before .is-at2 .ensures) ∙ c .if2 .taken) in (omega (arith, c .before .before .before .before .before .pre .0 .few), c .before .before .before .before .before .pre .0 .laid (c .before .before .before .before .before .args .i + 1) (omega arith), c .before .before .before .before .before .pre .0 .least)
 
-numeral-requires : tie.Need-numeral-requires
-numeral-requires c κs = search needs
-
-enum-known-e : tie.Need-enum-known-e
-enum-known-e c = search needs
+fault-requires : tie.Need-fault-requires
+fault-requires c κs = search needs
 
 returns : tie.Need-returns
-returns c = let z = kind-in (c .before .before .before .before .before .before .before .before .before .before .args .room .now) (c .before .before .before .before .before .before .before .before .before .before .args .n) 1 (c .before .before .before .before .before .before .before .before .before .before .args .i + 1) (λ z. omega arith) (sym (c .before .before .before .before .before .before .is-at2 .ensures) ∙ c .before .before .before .before .before .if2 .taken) in let a = answer-refused _ _ (sym (c .before .e .given .1) ∙ c .before .before .before .numeral .ensures) in ((λ st m e. (a .0, boost-refused st (tokensOf (c .before .before .before .before .before .before .before .before .before .before .args .room .now) (c .before .before .before .before .before .before .before .before .before .before .args .n)) (c .before .before .before .before .before .before .before .before .before .before .args .i) m (sym (c .before .before .before .before .before .before .before .before .is-at .ensures) ∙ c .before .before .before .before .before .before .before .if1 .taken) (sym (c .before .before .before .before .before .before .is-at2 .ensures) ∙ c .before .before .before .before .before .if2 .taken) (ap numeralBits (text-is (c .before .before .before .before .before .before .before .before .before .before .args .room .now) (c .before .before .before .before .before .before .before .before .before .before .args .n) (c .before .before .before .before .before .before .before .before .before .before .args .i + 1) z ∙ sym (c .before .before .before .before .text-at .ensures)) ∙ a .1), a .2)), omega arith)
-
-enum-told : tie.Need-enum-told
-enum-told c = search needs
+returns c = let z = kind-in (c .before .before .before .before .before .before .before .before .args .room .now) (c .before .before .before .before .before .before .before .before .args .n) 1 (c .before .before .before .before .before .before .before .before .args .i + 1) (λ z. omega arith) (sym (c .before .before .before .before .is-at2 .ensures) ∙ c .before .before .before .if2 .taken) in let a = number-not (numeralBits (c .before .before .text-at .result .now)) (λ e. c .if3 .taken (c .before .fault .ensures ∙ e)) in ((λ st m e. (a .0, boost-refused st (tokensOf (c .before .before .before .before .before .before .before .before .args .room .now) (c .before .before .before .before .before .before .before .before .args .n)) (c .before .before .before .before .before .before .before .before .args .i) m (sym (c .before .before .before .before .before .before .is-at .ensures) ∙ c .before .before .before .before .before .if1 .taken) (sym (c .before .before .before .before .is-at2 .ensures) ∙ c .before .before .before .if2 .taken) (ap numeralBits (text-is (c .before .before .before .before .before .before .before .before .args .room .now) (c .before .before .before .before .before .before .before .before .args .n) (c .before .before .before .before .before .before .before .before .args .i + 1) z ∙ sym (c .before .before .text-at .ensures)) ∙ a .1), c .before .fault .ensures ∙ ap numberOf (a .1))), omega arith)
 
 boosted-len-requires : tie.Need-boosted-len-requires
 boosted-len-requires c κs = search needs
 
-add-t13 : tie.Need-add-t13
-add-t13 c = search needs
+add-t12 : tie.Need-add-t12
+add-t12 c = search needs
 
 returns-2 : tie.Need-returns-2
-returns-2 c = let z = kind-in (c .before .before .before .before .before .before .before .before .before .before .args .room .now) (c .before .before .before .before .before .before .before .before .before .before .args .n) 1 (c .before .before .before .before .before .before .before .before .before .before .args .i + 1) (λ z. omega arith) (sym (c .before .before .before .before .before .before .is-at2 .ensures) ∙ c .before .before .before .before .before .if2 .taken) in let a = answer-got _ _ (sym (c .before .enum-told .given .1) ∙ c .before .before .before .numeral .ensures) in ((λ st m e. (_, boost-got st (tokensOf (c .before .before .before .before .before .before .before .before .before .before .args .room .now) (c .before .before .before .before .before .before .before .before .before .before .args .n)) (c .before .before .before .before .before .before .before .before .before .before .args .i) m (sym (c .before .before .before .before .before .before .before .before .is-at .ensures) ∙ c .before .before .before .before .before .before .before .if1 .taken) (sym (c .before .before .before .before .before .before .is-at2 .ensures) ∙ c .before .before .before .before .before .if2 .taken) (ap numeralBits (text-is (c .before .before .before .before .before .before .before .before .before .before .args .room .now) (c .before .before .before .before .before .before .before .before .before .before .args .n) (c .before .before .before .before .before .before .before .before .before .before .args .i + 1) z ∙ sym (c .before .before .before .before .text-at .ensures)) ∙ a), boosted-length _ m _ _ e (c .boosted-len .ensures))), (omega arith, omega arith, place-step-two (c .before .before .before .before .before .before .before .before .before .before .pre .0) (c .before .before .before .before .before .before .before .before .before .before .args .i), c .boosted-len .ensures .0))
+returns-2 c = let z = kind-in (c .before .before .before .before .before .before .before .before .before .args .room .now) (c .before .before .before .before .before .before .before .before .before .args .n) 1 (c .before .before .before .before .before .before .before .before .before .args .i + 1) (λ z. omega arith) (sym (c .before .before .before .before .before .is-at2 .ensures) ∙ c .before .before .before .before .if2 .taken) in let a = number-got (numeralBits (c .before .before .before .text-at .result .now)) (sym (c .before .before .fault .ensures) ∙ c .before .if3 .left) in ((λ st m e. (_, boost-got st (tokensOf (c .before .before .before .before .before .before .before .before .before .args .room .now) (c .before .before .before .before .before .before .before .before .before .args .n)) (c .before .before .before .before .before .before .before .before .before .args .i) m (sym (c .before .before .before .before .before .before .before .is-at .ensures) ∙ c .before .before .before .before .before .before .if1 .taken) (sym (c .before .before .before .before .before .is-at2 .ensures) ∙ c .before .before .before .before .if2 .taken) (ap numeralBits (text-is (c .before .before .before .before .before .before .before .before .before .args .room .now) (c .before .before .before .before .before .before .before .before .before .args .n) (c .before .before .before .before .before .before .before .before .before .args .i + 1) z ∙ sym (c .before .before .before .text-at .ensures)) ∙ a .1), boosted-length _ m _ _ e (c .boosted-len .ensures))), (omega arith, omega arith, place-step-two (c .before .before .before .before .before .before .before .before .before .pre .0) (c .before .before .before .before .before .before .before .before .before .args .i), c .boosted-len .ensures .0))
 
 returns-3 : tie.Need-returns-3
 returns-3 c = ((λ st m e. (_, boost-missing st (tokensOf (c .before .before .before .before .before .args .room .now) (c .before .before .before .before .before .args .n)) (c .before .before .before .before .before .args .i) m (sym (c .before .before .before .is-at .ensures) ∙ c .before .before .if1 .taken) (sym (c .before .is-at2 .ensures) ∙ c .if2 .left), refl)), omega arith)
@@ -63,12 +57,10 @@ with-boost-spec =
     is-at-requires-2
     add-text-at
     text-at-requires
-    numeral-requires
-    enum-known-e
+    fault-requires
     returns
-    enum-told
     boosted-len-requires
-    add-t13
+    add-t12
     returns-2
     returns-3
     returns-4)

@@ -1,8 +1,9 @@
 -- `parser::parse::parse_text` meets its contract.
-use Rattle.parser.proofs.Delivering.{refuses, delivers-as, setup-refused, theSetup, setup-plain, setup-got, plain-field, text-long, text-other, text-fault, text-tokens, row-of, lexed-refused, lexed-tokens}
+use Rattle.parser.proofs.Delivering.{refuses, delivers-as, plain-analyzer, setup-refused, theSetup, setup-plain, setup-got, plain-field, text-long, text-other, text-fault, text-tokens, row-of, lexed-refused, lexed-tokens}
 use Rattle.lexer.specs.Lexing.{Row}
 use Rattle.lexer.specs.Row.{tokensOf}
 use Rattle.rules.proofs.Bools.{told-no, told-yes}
+use Rattle.parser.proofs.Notes.{among-analyzers}
 use Rattle.rules.specs.Parsing.{parse, parseTokens}
 use Rattle.rules.specs.Setup.{Setup}
 use Rattle.rules.specs.Lexing.{Token}
@@ -38,7 +39,7 @@ returns-4 : tie.Need-returns-4
 returns-4 c = refuses (c .before .before .before .before .before .before .before .before .before .before .before .before .before .before .before .args .out .now) 2 {x = notAscii} (ap (λ (r : Read Setup). andThen r (λ st. parse st (c .before .before .before .before .before .before .before .before .before .before .before .before .before .before .before .args .text .now))) (setup-got (c .before .before .before .before .before .before .before .before .before .before .before .before .before .before .before .args .operator) (c .before .before .before .before .before .before .before .before .before .before .before .before .before .before .before .args .analyzer) (c .before .before .before .before .before .before .before .before .before .before .before .before .before .before .before .args .field .now) (c .before .before .before .before .before .before .before .before .before .before .before .before .before .before .before .args .fields .now) (arrayEntries (c .before .before .before .before .before .before .read-entries .last .1 .0) (c .before .before .before .before .before .before .read-entries .last .1 .1 .0) (c .before .before .before .before .before .before .read-entries .last .1 .1 .1 .0) (c .before .before .before .before .before .before .read-entries .result)) ((c .before .before .before .before .before .before .read-entries .ensures .held (c .before .before .before .before .before .if1 .left)) .0) (told-yes (c .before .before .before .before .is-plain .ensures) (c .before .before .before .if2 .left)) ((c .before .before .before .before .before .before .read-entries .ensures .held (c .before .before .before .before .before .if1 .left)) .1) (omega (arith, (c .before .before .before .before .before .before .read-entries .ensures .held (c .before .before .before .before .before .if1 .left)) .2, c .before .before .before .before .before .if1 .left))) ∙ text-other (theSetup (c .before .before .before .before .before .before .before .before .before .before .before .before .before .before .before .args .operator) (c .before .before .before .before .before .before .before .before .before .before .before .before .before .before .before .args .analyzer) (c .before .before .before .before .before .before .before .before .before .before .before .before .before .before .before .args .field .now) (c .before .before .before .before .before .before .before .before .before .before .before .before .before .before .before .args .fields .now) (arrayEntries (c .before .before .before .before .before .before .read-entries .last .1 .0) (c .before .before .before .before .before .before .read-entries .last .1 .1 .0) (c .before .before .before .before .before .before .read-entries .last .1 .1 .1 .0) (c .before .before .before .before .before .before .read-entries .result)) ((c .before .before .before .before .before .before .read-entries .ensures .held (c .before .before .before .before .before .if1 .left)) .0)) (c .before .before .before .before .before .before .before .before .before .before .before .before .before .before .before .args .text .now) (c .before .before .if3 .left) (told-no (c .before .is-text .ensures) (c .if4 .taken))) refl
 
 lex-requires : tie.Need-lex-requires
-lex-requires c κs = (c .before .before .before .if3 .left, c .before .before .before .before .before .before .before .before .before .before .before .before .before .before .before .before .pre)
+lex-requires c κs = (c .before .before .before .if3 .left, c .before .before .before .before .before .before .before .before .before .before .before .before .before .before .before .before .pre, told-yes (c .before .before .is-text .ensures) (c .before .if4 .left))
 
 enum-known-e : tie.Need-enum-known-e
 enum-known-e c = search needs
@@ -47,7 +48,7 @@ enum-known-n : tie.Need-enum-known-n
 enum-known-n c = search needs
 
 note-fields-requires : tie.Need-note-fields-requires
-note-fields-requires c κs = let z = lexed-tokens _ _ (sym (c .before .before .before .before .before .n .given .1) ∙ c .before .before .before .before .before .before .before .before .before .lex .ensures .0) in row-of (c .before .before .before .before .before .before .before .before .before .before .before .before .before .before .before .before .before .before .before .before .before .before .before .before .before .before .args .text .now) (c .before .before .before .before .before .before .before .before .before .lex .last .1 .0) (c .before .before .before .before .before .n .given .0 .0) (c .before .before .before .before .before .before .before .before .before .before .before .before .before .if3 .left) (omega (arith, c .before .before .before .before .before .before .before .before .before .lex .kept .1 .0, c .before .before .before .before .before .before .before .before .before .before .before .before .before .before .before .before .before .before .before .before .before .before .before .before .before .before .pre)) (z .1) (z .2) (subst (λ (o : Read (List Token)). Row o (c .before .before .before .before .before .before .before .before .before .lex .last .1 .0)) (z .1) (c .before .before .before .before .before .before .before .before .before .lex .ensures .1))
+note-fields-requires c κs = let z = lexed-tokens _ _ (sym (c .before .before .before .before .before .n .given .1) ∙ c .before .before .before .before .before .before .before .before .before .lex .ensures .0) in (row-of (c .before .before .before .before .before .before .before .before .before .before .before .before .before .before .before .before .before .before .before .before .before .before .before .before .before .before .args .text .now) (c .before .before .before .before .before .before .before .before .before .lex .last .1 .0) (c .before .before .before .before .before .n .given .0 .0) (c .before .before .before .before .before .before .before .before .before .before .before .before .before .if3 .left) (omega (arith, c .before .before .before .before .before .before .before .before .before .lex .kept .1 .0, c .before .before .before .before .before .before .before .before .before .before .before .before .before .before .before .before .before .before .before .before .before .before .before .before .before .before .pre)) (z .1) (z .2) (subst (λ (o : Read (List Token)). Row o (c .before .before .before .before .before .before .before .before .before .lex .last .1 .0)) (z .1) (c .before .before .before .before .before .before .before .before .before .lex .ensures .1)), λ f. among-analyzers (c .before .before .before .before .before .before .before .before .before .before .before .before .before .before .before .before .before .before .before .before .before .before .before .before .before .before .args .analyzer) (arrayEntries (c .before .before .before .before .before .before .before .before .before .before .before .before .before .before .before .before .before .read-entries .last .1 .0) (c .before .before .before .before .before .before .before .before .before .before .before .before .before .before .before .before .before .read-entries .last .1 .1 .0) (c .before .before .before .before .before .before .before .before .before .before .before .before .before .before .before .before .before .read-entries .last .1 .1 .1 .0) (c .before .before .before .before .before .before .before .before .before .before .before .before .before .before .before .before .before .read-entries .result)) f (plain-analyzer (c .before .before .before .before .before .before .before .before .before .before .before .before .before .before .before .before .before .before .before .before .before .before .before .before .before .before .args .operator) (c .before .before .before .before .before .before .before .before .before .before .before .before .before .before .before .before .before .before .before .before .before .before .before .before .before .before .args .analyzer) (c .before .before .before .before .before .before .before .before .before .before .before .before .before .before .before .before .before .before .before .before .before .before .before .before .before .before .args .field .now) ((told-yes (c .before .before .before .before .before .before .before .before .before .before .before .before .before .before .before .is-plain .ensures) (c .before .before .before .before .before .before .before .before .before .before .before .before .before .before .if2 .left)))) ((c .before .before .before .before .before .before .before .before .before .before .before .before .before .before .before .before .before .read-entries .ensures .held (c .before .before .before .before .before .before .before .before .before .before .before .before .before .before .before .before .if1 .left)) .1))
 
 analyzer-among-requires : tie.Need-analyzer-among-requires
 analyzer-among-requires c κs = search needs

@@ -1,8 +1,8 @@
 -- `parser::setup::note_fields` meets its contract.
-use Rattle.parser.proofs.Notes.{Noting, noting-starts, noting-skips, noting-notes}
-use Rattle.rules.proofs.Bools.{told-no}
-use Rattle.rules.specs.Setup.{analyzerAmong}
+use Rattle.parser.proofs.Notes.{Noting, noting-starts, noting-skips, noting-notes, noting-ends, no-colon, no-name, analyzer-small}
+use Rattle.rules.specs.Setup.{isAnalyzer, analyzerAmong}
 use Rattle.analysis.specs.Fields.{arrayEntries}
+use Rattle.lexer.specs.Row.{tokensOf}
 use Prim.Native.Nat.{_-_}
 use mathlib.Core.Path.{ap, _∙_}
 use native.Mathlib.Omega.{arith}
@@ -11,56 +11,62 @@ use Rattle.parser.proofs.setup.note_fields.Statement.{statement}
 use Rattle.parser.proofs.setup.note_fields.Tie as tie
 
 abbrev Inv-loop : tie.InvT-loop
-Inv-loop room₀ n names lengths analyzers count default i₀ room i =
-    Noting n (arrayEntries names lengths analyzers count) default room₀ i room
+Inv-loop room₀ n names lengths analyzers count default k₀ room k =
+    Noting n (arrayEntries names lengths analyzers count) default room₀ k room
 
 abbrev μ-loop : tie.MeasureT-loop
-μ-loop room₀ n names lengths analyzers count default i₀ room i = n - i
+μ-loop room₀ n names lengths analyzers count default k₀ room k = n - k
 
 loop-holds : tie.Need-loop-holds Inv-loop μ-loop
-loop-holds c = noting-starts _ _ (c .before .pre)
+loop-holds c = noting-starts _ _ (c .before .pre .0)
 
-add-i : tie.Need-add-i Inv-loop μ-loop
-add-i c = omega (arith, c .before .loop .inv .upto, c .before .before .before .pre .few)
+sub-i : tie.Need-sub-i Inv-loop μ-loop
+sub-i c = omega (arith, c .before .loop .inv .first)
 
-is-named-requires : tie.Need-is-named-requires Inv-loop μ-loop
-is-named-requires c κs = (c .before .before .before .before .pre .few, c .before .before .loop .inv .rowed .least, omega (arith, c .before .before .loop .inv .upto, c .before .before .before .before .pre .few))
+add-k : tie.Need-add-k Inv-loop μ-loop
+add-k c = omega (arith, c .loop-test .taken, c .before .before .before .pre .0 .few)
+
+add-kind-at : tie.Need-add-kind-at Inv-loop μ-loop
+add-kind-at c = omega (arith, c .before .loop-test .taken, c .before .before .before .before .pre .0 .few)
+
+kind-at-requires : tie.Need-kind-at-requires Inv-loop μ-loop
+kind-at-requires c κs = (c .before .before .before .before .pre .0 .few, c .before .before .loop .inv .rowed .least)
 
 loop-less : tie.Need-loop-less Inv-loop μ-loop
 loop-less c = omega (arith, c .before .before .before .loop-test .taken)
 
 loop-again : tie.Need-loop-again Inv-loop μ-loop
-loop-again c = noting-skips (c .before .before .before .before .loop .inv) (c .before .before .before .loop-test .taken) (told-no (c .before .is-named .ensures) (c .if1 .taken))
+loop-again c = noting-skips (c .before .before .before .before .loop .inv) (c .before .before .before .loop-test .taken) (no-colon (tokensOf (c .before .before .before .before .loop .room) (c .before .before .before .before .before .before .args .n)) (c .before .before .before .before .loop .k - 1) (c .before .kind-at .ensures) (c .if1 .taken))
 
-text-at-requires : tie.Need-text-at-requires Inv-loop μ-loop
-text-at-requires c κs = (omega (arith, c .before .before .before .before .loop-test .taken, c .before .before .before .before .before .before .before .pre .few), c .before .before .before .before .before .loop .inv .rowed .laid (c .before .before .before .before .before .loop .i) (c .before .before .before .before .loop-test .taken), c .before .before .before .before .before .loop .inv .rowed .least)
-
-analyzer-among-requires : tie.Need-analyzer-among-requires Inv-loop μ-loop
-analyzer-among-requires c κs = search needs
-
-mul-room : tie.Need-mul-room Inv-loop μ-loop
-mul-room c = omega (arith, c .before .before .before .before .before .before .loop-test .taken, c .before .before .before .before .before .before .before .before .before .pre .few)
-
-add-room : tie.Need-add-room Inv-loop μ-loop
-add-room c = omega (arith, c .before .before .before .before .before .before .loop-test .taken, c .before .before .before .before .before .before .before .before .before .pre .few)
-
-add-room-2 : tie.Need-add-room-2 Inv-loop μ-loop
-add-room-2 c = omega (arith, c .before .before .before .before .before .before .loop-test .taken, c .before .before .before .before .before .before .before .before .before .pre .few)
-
-slice-write-room : tie.Need-slice-write-room Inv-loop μ-loop
-slice-write-room c = omega (arith, c .before .before .before .before .before .before .loop-test .taken, c .before .before .before .before .before .before .before .before .before .pre .few, c .before .before .before .before .before .before .before .loop .inv .rowed .least)
+kind-at-requires-2 : tie.Need-kind-at-requires-2 Inv-loop μ-loop
+kind-at-requires-2 c κs = (c .before .before .before .before .before .before .before .pre .0 .few, c .before .before .before .before .before .loop .inv .rowed .least)
 
 loop-less-2 : tie.Need-loop-less-2 Inv-loop μ-loop
 loop-less-2 c = omega (arith, c .before .before .before .before .before .before .loop-test .taken)
 
 loop-again-2 : tie.Need-loop-again-2 Inv-loop μ-loop
-loop-again-2 c = noting-notes (c .before .before .before .before .before .before .before .loop .inv) (c .before .before .before .before .before .before .loop-test .taken) _ (c .analyzer-among .ensures ∙ ap (analyzerAmong (c .before .before .before .before .before .before .before .before .before .args .default) (arrayEntries (c .before .before .before .before .before .before .before .before .before .args .names .now) (c .before .before .before .before .before .before .before .before .before .args .lengths .now) (c .before .before .before .before .before .before .before .before .before .args .analyzers .now) (c .before .before .before .before .before .before .before .before .before .args .count))) (c .before .text-at .ensures))
+loop-again-2 c = noting-skips (c .before .before .before .before .before .before .before .loop .inv) (c .before .before .before .before .before .before .loop-test .taken) (no-name (tokensOf (c .before .before .before .before .before .before .before .loop .room) (c .before .before .before .before .before .before .before .before .before .args .n)) (c .before .before .before .before .before .before .before .loop .k - 1) (c .before .kind-at2 .ensures) (c .if2 .taken))
+
+text-at-requires : tie.Need-text-at-requires Inv-loop μ-loop
+text-at-requires c κs = (omega (arith, c .before .before .before .before .before .before .before .loop-test .taken, c .before .before .before .before .before .before .before .before .before .before .pre .0 .few), c .before .before .before .before .before .before .before .before .loop .inv .rowed .laid (c .before .before .before .before .before .before .before .before .loop .k - 1) (omega (arith, c .before .before .before .before .before .before .before .loop-test .taken)), c .before .before .before .before .before .before .before .before .loop .inv .rowed .least)
+
+analyzer-among-requires : tie.Need-analyzer-among-requires Inv-loop μ-loop
+analyzer-among-requires c κs = search needs
+
+put-note-requires : tie.Need-put-note-requires Inv-loop μ-loop
+put-note-requires c κs = (omega (arith, c .before .before .before .before .before .before .before .before .before .before .loop-test .taken, c .before .before .before .before .before .before .before .before .before .before .before .before .before .pre .0 .few), c .before .before .before .before .before .before .before .before .before .before .before .loop .inv .rowed .least, omega (arith, analyzer-small (c .before .analyzer-among .result) (ap isAnalyzer (c .before .analyzer-among .ensures) ∙ c .before .before .before .before .before .before .before .before .before .before .before .before .before .pre .1 (c .before .before .text-at .result .now))))
+
+loop-less-3 : tie.Need-loop-less-3 Inv-loop μ-loop
+loop-less-3 c = omega (arith, c .before .before .before .before .before .before .before .before .before .before .before .before .before .loop-test .taken)
+
+loop-again-3 : tie.Need-loop-again-3 Inv-loop μ-loop
+loop-again-3 c = noting-notes (c .before .before .before .before .before .before .before .before .before .before .before .before .before .before .loop .inv) (c .before .before .before .before .before .before .before .before .before .before .before .before .before .loop-test .taken) _ (c .before .before .put-note .ensures) (λ z. omega (arith, analyzer-small (c .before .before .before .before .analyzer-among .result) (ap isAnalyzer (c .before .before .before .before .analyzer-among .ensures) ∙ c .before .before .before .before .before .before .before .before .before .before .before .before .before .before .before .before .pre .1 (c .before .before .before .before .before .text-at .result .now)))) (c .before .before .before .before .analyzer-among .ensures ∙ ap (analyzerAmong (c .before .before .before .before .before .before .before .before .before .before .before .before .before .before .before .before .args .default) (arrayEntries (c .before .before .before .before .before .before .before .before .before .before .before .before .before .before .before .before .args .names .now) (c .before .before .before .before .before .before .before .before .before .before .before .before .before .before .before .before .args .lengths .now) (c .before .before .before .before .before .before .before .before .before .before .before .before .before .before .before .before .args .analyzers .now) (c .before .before .before .before .before .before .before .before .before .before .before .before .before .before .before .before .args .count))) (c .before .before .before .before .before .text-at .ensures))
 
 same-length : tie.Need-same-length Inv-loop μ-loop
 same-length c = c .before .loop .inv .long
 
 returns : tie.Need-returns Inv-loop μ-loop
-returns c = record { rowed = c .before .loop .inv .rowed; tokens = c .before .loop .inv .tokens; notes = λ k h. c .before .loop .inv .notes k (omega (arith, c .loop-test .left)) }
+returns c = noting-ends (c .before .loop .inv) (c .loop-test .left)
 
 pub note-fields-spec : {M : Type 1} → statement M
 note-fields-spec =
@@ -69,17 +75,19 @@ note-fields-spec =
     Inv-loop
     μ-loop
     loop-holds
-    add-i
-    is-named-requires
+    sub-i
+    add-k
+    add-kind-at
+    kind-at-requires
     loop-less
     loop-again
-    text-at-requires
-    analyzer-among-requires
-    mul-room
-    add-room
-    add-room-2
-    slice-write-room
+    kind-at-requires-2
     loop-less-2
     loop-again-2
+    text-at-requires
+    analyzer-among-requires
+    put-note-requires
+    loop-less-3
+    loop-again-3
     same-length
     returns)

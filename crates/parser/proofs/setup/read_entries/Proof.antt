@@ -1,9 +1,9 @@
 -- `parser::setup::read_entries` meets its contract.
 use lib.ListN.{length, take, drop, getD, set}
-use Rattle.parser.proofs.Entries.{Entering, entering-starts, entering-cut, entering-short, entering-many, entering-broken, entering-on, entering-ends, field-short}
+use Rattle.parser.proofs.Entries.{Entering, entering-starts, entering-cut, entering-short, entering-many, entering-broken, entering-on, entering-ends, head-broken, name-broken, entry-good, head-short, nine-any}
 use Rattle.parser.proofs.Writing.{slice-length}
-use Rattle.rules.proofs.Bools.{told-no, told-yes, both, and-no-l, and-no-r}
-use Rattle.rules.specs.Setup.{isAnalyzer}
+use Rattle.rules.proofs.Bools.{told-no, told-yes}
+use borrow.Author.Tests.{not-false}
 use Prim.Native.Nat.{ℕ, _+_, _-_}
 use mathlib.Core.List.{List}
 use mathlib.Core.Path.{refl, sym, subst}
@@ -67,35 +67,32 @@ part-name-start c = search needs
 part-name-end : tie.Need-part-name-end Inv-loop μ-loop
 part-name-end c = omega (arith, c .before .if2 .left, c .before .before .before .before .if1 .left)
 
-is-analyzer-requires : tie.Need-is-analyzer-requires Inv-loop μ-loop
-is-analyzer-requires c κs = search needs
+is-head-requires : tie.Need-is-head-requires Inv-loop μ-loop
+is-head-requires c κs = search needs
 
 returns-4 : tie.Need-returns-4 Inv-loop μ-loop
-returns-4 c = entering-broken (c .before .before .before .before .before .before .before .before .before .loop .inv) (c .before .before .before .before .before .before .before .before .loop-test .taken) (c .before .before .before .before .before .before .before .if1 .left) (getD (c .before .before .before .before .before .before .before .before .before .before .before .args .fields .now) (c .before .before .before .before .before .before .before .before .before .loop .at) 0) (getD (c .before .before .before .before .before .before .before .before .before .before .before .args .fields .now) (c .before .before .before .before .before .before .before .before .before .loop .at + 1) 0) refl refl (c .before .before .before .before .if2 .left) (and-no-l _ (told-no (c .before .is-analyzer .ensures) (c .if4 .taken)))
-
-is-field-requires : tie.Need-is-field-requires Inv-loop μ-loop
-is-field-requires c κs = search needs
-
-returns-5 : tie.Need-returns-5 Inv-loop μ-loop
-returns-5 c = entering-broken (c .before .before .before .before .before .before .before .before .before .before .before .loop .inv) (c .before .before .before .before .before .before .before .before .before .before .loop-test .taken) (c .before .before .before .before .before .before .before .before .before .if1 .left) (getD (c .before .before .before .before .before .before .before .before .before .before .before .before .before .args .fields .now) (c .before .before .before .before .before .before .before .before .before .before .before .loop .at) 0) (getD (c .before .before .before .before .before .before .before .before .before .before .before .before .before .args .fields .now) (c .before .before .before .before .before .before .before .before .before .before .before .loop .at + 1) 0) refl refl (c .before .before .before .before .before .before .if2 .left) (and-no-r (isAnalyzer (getD (c .before .before .before .before .before .before .before .before .before .before .before .before .before .args .fields .now) (c .before .before .before .before .before .before .before .before .before .before .before .loop .at) 0)) (told-no (c .before .is-field .ensures) (c .if5 .taken)))
+returns-4 c = entering-broken (c .before .before .before .before .before .before .before .before .before .loop .inv) (c .before .before .before .before .before .before .before .before .loop-test .taken) (c .before .before .before .before .before .before .before .if1 .left) (getD (c .before .before .before .before .before .before .before .before .before .before .before .args .fields .now) (c .before .before .before .before .before .before .before .before .before .loop .at) 0) (getD (c .before .before .before .before .before .before .before .before .before .before .before .args .fields .now) (c .before .before .before .before .before .before .before .before .before .loop .at + 1) 0) refl refl (c .before .before .before .before .if2 .left) (head-broken (getD (c .before .before .before .before .before .before .before .before .before .before .before .args .fields .now) (c .before .before .before .before .before .before .before .before .before .loop .at) 0) (getD (c .before .before .before .before .before .before .before .before .before .before .before .args .fields .now) (c .before .before .before .before .before .before .before .before .before .loop .at + 1) 0) (take (c .before .before .before .before .before .before .before .before .before .loop .at + 2 + (getD (c .before .before .before .before .before .before .before .before .before .before .before .args .fields .now) (c .before .before .before .before .before .before .before .before .before .loop .at + 1) 0) - (c .before .before .before .before .before .before .before .before .before .loop .at + 2)) (drop (c .before .before .before .before .before .before .before .before .before .loop .at + 2) (c .before .before .before .before .before .before .before .before .before .before .before .args .fields .now))) (slice-length (c .before .before .before .before .before .before .before .before .before .before .before .args .fields .now) (c .before .before .before .before .before .before .before .before .before .loop .at + 2) (getD (c .before .before .before .before .before .before .before .before .before .before .before .args .fields .now) (c .before .before .before .before .before .before .before .before .before .loop .at + 1) 0) (c .before .before .before .before .if2 .left)) (told-no (c .before .is-head .ensures) (c .if4 .taken)))
 
 put-row-requires : tie.Need-put-row-requires Inv-loop μ-loop
-put-row-requires c κs = (omega (arith, c .before .before .before .before .before .before .before .before .before .before .before .before .loop .inv .few, c .before .before .before .before .before .before .if3 .left, c .before .before .before .before .before .before .before .before .before .before .before .before .loop .inv .eight .0), c .before .before .before .before .before .before .before .before .before .before .before .before .loop .inv .eight .0, c .before .before .before .before .before .before .before .before .before .before .before .before .loop .inv .rows (c .before .before .before .before .before .before .before .before .before .before .before .before .loop .count) (omega (arith, c .before .before .before .before .before .before .before .before .before .before .before .before .loop .inv .few, c .before .before .before .before .before .before .if3 .left)), field-short (take (c .before .before .before .before .before .before .before .before .before .before .before .before .loop .at + 2 + (getD (c .before .before .before .before .before .before .before .before .before .before .before .before .before .before .args .fields .now) (c .before .before .before .before .before .before .before .before .before .before .before .before .loop .at + 1) 0) - (c .before .before .before .before .before .before .before .before .before .before .before .before .loop .at + 2)) (drop (c .before .before .before .before .before .before .before .before .before .before .before .before .loop .at + 2) (c .before .before .before .before .before .before .before .before .before .before .before .before .before .before .args .fields .now))) (told-yes (c .before .before .is-field .ensures) (c .before .if5 .left)))
+put-row-requires c κs = (omega (arith, c .before .before .before .before .before .before .before .before .before .before .loop .inv .few, c .before .before .before .before .if3 .left, c .before .before .before .before .before .before .before .before .before .before .loop .inv .eight .0), c .before .before .before .before .before .before .before .before .before .before .loop .inv .eight .0, c .before .before .before .before .before .before .before .before .before .before .loop .inv .rows (c .before .before .before .before .before .before .before .before .before .before .loop .count) (omega (arith, c .before .before .before .before .before .before .before .before .before .before .loop .inv .few, c .before .before .before .before .if3 .left)), omega (arith, (slice-length (c .before .before .before .before .before .before .before .before .before .before .before .before .args .fields .now) (c .before .before .before .before .before .before .before .before .before .before .loop .at + 2) (getD (c .before .before .before .before .before .before .before .before .before .before .before .before .args .fields .now) (c .before .before .before .before .before .before .before .before .before .before .loop .at + 1) 0) (c .before .before .before .before .before .if2 .left)), head-short (getD (c .before .before .before .before .before .before .before .before .before .before .before .before .args .fields .now) (c .before .before .before .before .before .before .before .before .before .before .loop .at) 0) (getD (c .before .before .before .before .before .before .before .before .before .before .before .before .args .fields .now) (c .before .before .before .before .before .before .before .before .before .before .loop .at + 1) 0) (told-yes (c .before .before .is-head .ensures) (c .before .if4 .left))))
+
+returns-5 : tie.Need-returns-5 Inv-loop μ-loop
+returns-5 c = nine-any (entering-broken (c .before .before .before .before .before .before .before .before .before .before .before .before .loop .inv) (c .before .before .before .before .before .before .before .before .before .before .before .loop-test .taken) (c .before .before .before .before .before .before .before .before .before .before .if1 .left) (getD (c .before .before .before .before .before .before .before .before .before .before .before .before .before .before .args .fields .now) (c .before .before .before .before .before .before .before .before .before .before .before .before .loop .at) 0) (getD (c .before .before .before .before .before .before .before .before .before .before .before .before .before .before .args .fields .now) (c .before .before .before .before .before .before .before .before .before .before .before .before .loop .at + 1) 0) refl refl (c .before .before .before .before .before .before .before .if2 .left) (name-broken (getD (c .before .before .before .before .before .before .before .before .before .before .before .before .before .before .args .fields .now) (c .before .before .before .before .before .before .before .before .before .before .before .before .loop .at) 0) (getD (c .before .before .before .before .before .before .before .before .before .before .before .before .before .before .args .fields .now) (c .before .before .before .before .before .before .before .before .before .before .before .before .loop .at + 1) 0) (take (c .before .before .before .before .before .before .before .before .before .before .before .before .loop .at + 2 + (getD (c .before .before .before .before .before .before .before .before .before .before .before .before .before .before .args .fields .now) (c .before .before .before .before .before .before .before .before .before .before .before .before .loop .at + 1) 0) - (c .before .before .before .before .before .before .before .before .before .before .before .before .loop .at + 2)) (drop (c .before .before .before .before .before .before .before .before .before .before .before .before .loop .at + 2) (c .before .before .before .before .before .before .before .before .before .before .before .before .before .before .args .fields .now))) (slice-length (c .before .before .before .before .before .before .before .before .before .before .before .before .before .before .args .fields .now) (c .before .before .before .before .before .before .before .before .before .before .before .before .loop .at + 2) (getD (c .before .before .before .before .before .before .before .before .before .before .before .before .before .before .args .fields .now) (c .before .before .before .before .before .before .before .before .before .before .before .before .loop .at + 1) 0) (c .before .before .before .before .before .before .before .if2 .left)) (told-no (c .before .put-row .ensures .told) (c .if5 .taken))))
 
 element-write-lengths : tie.Need-element-write-lengths Inv-loop μ-loop
-element-write-lengths c = omega (arith, c .before .before .before .before .before .before .before .before .before .before .before .before .before .loop .inv .few, c .before .before .before .before .before .before .before .if3 .left)
+element-write-lengths c = omega (arith, c .before .before .before .before .before .before .before .before .before .before .before .before .loop .inv .few, c .before .before .before .before .before .before .if3 .left)
 
 element-write-analyzers : tie.Need-element-write-analyzers Inv-loop μ-loop
-element-write-analyzers c = omega (arith, c .before .before .before .before .before .before .before .before .before .before .before .before .before .loop .inv .few, c .before .before .before .before .before .before .before .if3 .left)
+element-write-analyzers c = omega (arith, c .before .before .before .before .before .before .before .before .before .before .before .before .loop .inv .few, c .before .before .before .before .before .before .if3 .left)
 
 add-count : tie.Need-add-count Inv-loop μ-loop
-add-count c = omega (arith, c .before .before .before .before .before .before .before .before .before .before .before .before .before .loop .inv .few)
+add-count c = omega (arith, c .before .before .before .before .before .before .before .before .before .before .before .before .loop .inv .few)
 
 loop-less : tie.Need-loop-less Inv-loop μ-loop
-loop-less c = omega (arith, c .before .before .before .before .before .before .before .before .if2 .left, c .before .before .before .before .before .before .before .before .before .before .before .if1 .left, c .before .before .before .before .before .before .before .before .before .before .before .before .loop-test .taken)
+loop-less c = omega (arith, c .before .before .before .before .before .before .before .if2 .left, c .before .before .before .before .before .before .before .before .before .before .if1 .left, c .before .before .before .before .before .before .before .before .before .before .before .loop-test .taken)
 
 loop-again : tie.Need-loop-again Inv-loop μ-loop
-loop-again c = subst (λ (ns : List (List ℕ)). Entering (c .before .before .before .before .before .before .before .before .before .before .before .before .before .before .before .args .fields .now) ns (set (c .before .before .before .before .before .before .before .before .before .before .before .before .before .loop .lengths) (c .before .before .before .before .before .before .before .before .before .before .before .before .before .loop .count) (getD (c .before .before .before .before .before .before .before .before .before .before .before .before .before .before .before .args .fields .now) (c .before .before .before .before .before .before .before .before .before .before .before .before .before .loop .at + 1) 0)) (set (c .before .before .before .before .before .before .before .before .before .before .before .before .before .loop .analyzers) (c .before .before .before .before .before .before .before .before .before .before .before .before .before .loop .count) (getD (c .before .before .before .before .before .before .before .before .before .before .before .before .before .before .before .args .fields .now) (c .before .before .before .before .before .before .before .before .before .before .before .before .before .loop .at) 0)) (c .before .before .before .before .before .before .before .before .before .before .before .before .before .loop .at + 2 + (getD (c .before .before .before .before .before .before .before .before .before .before .before .before .before .before .before .args .fields .now) (c .before .before .before .before .before .before .before .before .before .before .before .before .before .loop .at + 1) 0)) (c .before .before .before .before .before .before .before .before .before .before .before .before .before .loop .count + 1)) (sym (c .put-row .ensures .1)) (entering-on (c .before .before .before .before .before .before .before .before .before .before .before .before .before .loop .inv) (c .before .before .before .before .before .before .before .before .before .before .before .before .loop-test .taken) (c .before .before .before .before .before .before .before .before .before .before .before .if1 .left) (getD (c .before .before .before .before .before .before .before .before .before .before .before .before .before .before .before .args .fields .now) (c .before .before .before .before .before .before .before .before .before .before .before .before .before .loop .at) 0) (getD (c .before .before .before .before .before .before .before .before .before .before .before .before .before .before .before .args .fields .now) (c .before .before .before .before .before .before .before .before .before .before .before .before .before .loop .at + 1) 0) refl refl (c .before .before .before .before .before .before .before .before .if2 .left) (c .before .before .before .before .before .before .before .if3 .left) (both (told-yes (c .before .before .before .before .before .is-analyzer .ensures) (c .before .before .before .before .if4 .left)) (told-yes (c .before .before .before .is-field .ensures) (c .before .before .if5 .left))) (omega (arith, field-short (take (c .before .before .before .before .before .before .before .before .before .before .before .before .before .loop .at + 2 + (getD (c .before .before .before .before .before .before .before .before .before .before .before .before .before .before .before .args .fields .now) (c .before .before .before .before .before .before .before .before .before .before .before .before .before .loop .at + 1) 0) - (c .before .before .before .before .before .before .before .before .before .before .before .before .before .loop .at + 2)) (drop (c .before .before .before .before .before .before .before .before .before .before .before .before .before .loop .at + 2) (c .before .before .before .before .before .before .before .before .before .before .before .before .before .before .before .args .fields .now))) (told-yes (c .before .before .before .is-field .ensures) (c .before .before .if5 .left)), slice-length (c .before .before .before .before .before .before .before .before .before .before .before .before .before .before .before .args .fields .now) (c .before .before .before .before .before .before .before .before .before .before .before .before .before .loop .at + 2) (getD (c .before .before .before .before .before .before .before .before .before .before .before .before .before .before .before .args .fields .now) (c .before .before .before .before .before .before .before .before .before .before .before .before .before .loop .at + 1) 0) (c .before .before .before .before .before .before .before .before .if2 .left))) (c .put-row .ensures .0) (c .put-row .ensures .2) (c .put-row .ensures .3))
+loop-again c = let P = c .before .put-row .ensures in let H = told-yes (c .before .before .before .before .is-head .ensures) (c .before .before .before .if4 .left) in subst (λ (ns : List (List ℕ)). Entering (c .before .before .before .before .before .before .before .before .before .before .before .before .before .before .args .fields .now) ns (set (c .before .before .before .before .before .before .before .before .before .before .before .before .loop .lengths) (c .before .before .before .before .before .before .before .before .before .before .before .before .loop .count) (getD (c .before .before .before .before .before .before .before .before .before .before .before .before .before .before .args .fields .now) (c .before .before .before .before .before .before .before .before .before .before .before .before .loop .at + 1) 0)) (set (c .before .before .before .before .before .before .before .before .before .before .before .before .loop .analyzers) (c .before .before .before .before .before .before .before .before .before .before .before .before .loop .count) (getD (c .before .before .before .before .before .before .before .before .before .before .before .before .before .before .args .fields .now) (c .before .before .before .before .before .before .before .before .before .before .before .before .loop .at) 0)) (c .before .before .before .before .before .before .before .before .before .before .before .before .loop .at + 2 + (getD (c .before .before .before .before .before .before .before .before .before .before .before .before .before .before .args .fields .now) (c .before .before .before .before .before .before .before .before .before .before .before .before .loop .at + 1) 0)) (c .before .before .before .before .before .before .before .before .before .before .before .before .loop .count + 1)) (sym (P .at)) (entering-on (c .before .before .before .before .before .before .before .before .before .before .before .before .loop .inv) (c .before .before .before .before .before .before .before .before .before .before .before .loop-test .taken) (c .before .before .before .before .before .before .before .before .before .before .if1 .left) (getD (c .before .before .before .before .before .before .before .before .before .before .before .before .before .before .args .fields .now) (c .before .before .before .before .before .before .before .before .before .before .before .before .loop .at) 0) (getD (c .before .before .before .before .before .before .before .before .before .before .before .before .before .before .args .fields .now) (c .before .before .before .before .before .before .before .before .before .before .before .before .loop .at + 1) 0) refl refl (c .before .before .before .before .before .before .before .if2 .left) (c .before .before .before .before .before .before .if3 .left) (entry-good (getD (c .before .before .before .before .before .before .before .before .before .before .before .before .before .before .args .fields .now) (c .before .before .before .before .before .before .before .before .before .before .before .before .loop .at) 0) (getD (c .before .before .before .before .before .before .before .before .before .before .before .before .before .before .args .fields .now) (c .before .before .before .before .before .before .before .before .before .before .before .before .loop .at + 1) 0) (take (c .before .before .before .before .before .before .before .before .before .before .before .before .loop .at + 2 + (getD (c .before .before .before .before .before .before .before .before .before .before .before .before .before .before .args .fields .now) (c .before .before .before .before .before .before .before .before .before .before .before .before .loop .at + 1) 0) - (c .before .before .before .before .before .before .before .before .before .before .before .before .loop .at + 2)) (drop (c .before .before .before .before .before .before .before .before .before .before .before .before .loop .at + 2) (c .before .before .before .before .before .before .before .before .before .before .before .before .before .before .args .fields .now))) (slice-length (c .before .before .before .before .before .before .before .before .before .before .before .before .before .before .args .fields .now) (c .before .before .before .before .before .before .before .before .before .before .before .before .loop .at + 2) (getD (c .before .before .before .before .before .before .before .before .before .before .before .before .before .before .args .fields .now) (c .before .before .before .before .before .before .before .before .before .before .before .before .loop .at + 1) 0) (c .before .before .before .before .before .before .before .if2 .left)) H (told-yes (P .told) (c .if5 .left))) (head-short (getD (c .before .before .before .before .before .before .before .before .before .before .before .before .before .before .args .fields .now) (c .before .before .before .before .before .before .before .before .before .before .before .before .loop .at) 0) (getD (c .before .before .before .before .before .before .before .before .before .before .before .before .before .before .args .fields .now) (c .before .before .before .before .before .before .before .before .before .before .before .before .loop .at + 1) 0) H) (P .row) (P .full) (P .held (not-false _ (c .if5 .left))))
 
 returns-6 : tie.Need-returns-6 Inv-loop μ-loop
 returns-6 c = entering-ends (c .before .loop .inv) (c .loop-test .left)
@@ -122,11 +119,10 @@ read-entries-spec =
     sub-name
     part-name-start
     part-name-end
-    is-analyzer-requires
+    is-head-requires
     returns-4
-    is-field-requires
-    returns-5
     put-row-requires
+    returns-5
     element-write-lengths
     element-write-analyzers
     add-count
