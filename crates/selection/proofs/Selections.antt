@@ -26,7 +26,7 @@ use Rattle.rules.proofs.Accepted.{Accepted, accepted, Listed, listed as list-ac
 use Rattle.rules.proofs.Choices.{selection, selected-is, chosen-few}
 use Rattle.parts.specs.Laid.{laid, Put}
 use Rattle.selection.specs.declared.select.Selected.the-variants.{Refused, Chosen}
-use Rattle.selection.specs.Truth.{Truth, StoredFor}
+use Rattle.matching.specs.Truth.{Truth, StoredFor}
 use Rattle.selection.specs.Select.{listed, within, answerOf, rowsAfter, Selects, told, SelectsBytes}
 
 -- ---- what was checked

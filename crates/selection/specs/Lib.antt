@@ -1,5 +1,1 @@
-pub mod Entry
-pub mod Order
-pub mod Level
-pub mod Truth
 pub mod Select

@@ -1,6 +1,6 @@
 // Selection: the numbers, from 0, of the records that a query is true of, into rows that the caller lends. The query and the list are checked
 // once. Whether the rows are long enough is known at once where they hold every record; only else is it counted before anything is written.
-use super::truth::holds;
+use matching::truth::holds;
 use parts::big::put_big4;
 use parts::bytes::clear;
 use parts::part::body;

@@ -1,0 +1,6 @@
+mod Searches
+mod Entries
+mod Orders
+mod Leaves
+mod Levels
+mod Walks

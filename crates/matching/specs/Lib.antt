@@ -1,0 +1,4 @@
+pub mod Entry
+pub mod Order
+pub mod Level
+pub mod Truth

@@ -1,0 +1,86 @@
+-- The walk through a stored query: what it asks of the bytes and of the row of open Booleans, and what its answers say.
+use mathlib.Core.Path.{_≡_}
+use Prim.Native.Nat.{ℕ, _+_, _-_, _≤_, _<_}
+use mathlib.Core.List.{List}
+use mathlib.Core.Bool.{Bool}
+use lib.ListN.{length, getD, take, drop}
+use Rattle.rules.specs.Numbers.{booleanTag, boostTag, constantScoreTag, selectionBytes, selectionDepth}
+use Rattle.rules.specs.Bytes.{tagOf}
+use Rattle.rules.specs.Query.{Query, Clauses, depth, depths}
+use Rattle.rules.specs.Checked.{Is, Are, Stored}
+use Rattle.rules.specs.Lists.{Entry}
+use Rattle.rules.specs.Matching.{matches}
+use Rattle.matching.specs.declared.level.Level.{Level}
+use Rattle.matching.specs.declared.truth.Next.{Next}
+use Rattle.matching.specs.declared.truth.Next.the-variants.{Done, Query as Goes}
+use Rattle.matching.specs.Level.{levelOf, carries, after}
+
+-- r says whether the query of s is true of es, whichever query that is
+unfoldable pub Truth : List ℕ → List Entry → Bool → Type 0
+Truth s es r = (q : Query) → Is s q → r ≡ matches es q
+
+-- checked bytes with this tag
+pub record StoredAs (t : ℕ) (s : List ℕ) : Type 0 where
+  pub stored : Stored s
+  pub tag : tagOf s ≡ t
+
+-- the tags of queries that hold others
+pub record IsLeaf (t : ℕ) : Type 0 where
+  pub boolean : t ≡ booleanTag → ⊥
+  pub boost : t ≡ boostTag → ⊥
+  pub constantScore : t ≡ constantScoreTag → ⊥
+
+-- checked bytes within selection's limits
+pub record StoredFor (s : List ℕ) : Type 0 where
+  pub stored : Stored s
+  pub deep : depth (stored .query) ≤ selectionDepth
+  pub short : length s ≤ selectionBytes
+
+-- ---- the row of open Booleans
+
+abbrev pub cut : List ℕ → ℕ → ℕ → List ℕ
+cut s a e = take (e - a) (drop a s)
+
+-- n Booleans are open around a query that ends at e. The innermost stands at d in the row, at the level l; behind the query stand the
+-- clauses that it has left.
+pub data Open (s row : List ℕ) : ℕ → ℕ → Type 0 where
+  outside : {n e : ℕ} → n ≡ 0 → e ≡ length s → Open s row n e
+  inside : {n e : ℕ} (d : ℕ) (l : Level) (cs : Clauses) → n ≡ d + 1 → levelOf (getD row d 0) ≡ l → Are (cut s e (l .end)) cs → e ≤ l .end
+      → depths cs + n ≤ selectionDepth → Open s row d (l .end) → Open s row n e
+
+-- what the whole query is, where the query at hand is y
+unfoldable pub outcome : List Entry → {s row : List ℕ} {n e : ℕ} → Open s row n e → Bool → Bool
+outcome es (outside h k) y = y
+outcome es (inside d l cs h k a f m o) y = outcome es o (after es l y cs)
+
+-- ---- clauses that change nothing
+
+-- of the clauses from `at` to `end`, those from p on decide, with so many Should clauses asked for
+pub record Past (s : List ℕ) (at end : ℕ) (asked : ℕ) (met : Bool) (p : ℕ) : Type 0 where
+  pub later : at ≤ p
+  pub fits : p ≤ end
+  pub left : (cs : Clauses) → Are (cut s at end) cs
+      → (ds : Clauses) × Are (cut s p end) ds × (depths ds ≤ depths cs) × ((es : List Entry) → carries es asked met cs ≡ carries es asked met ds)
+
+-- ---- the places of the walk
+
+-- at a query, from `at` to `end`
+pub record At (s row : List ℕ) (n at end : ℕ) : Type 0 where
+  pub query : Query
+  pub is : Is (cut s at end) query
+  pub fits : at ≤ end
+  pub deep : depth query + n ≤ selectionDepth
+  pub around : Open s row n end
+
+-- at the first of the clauses that a Boolean has left
+pub record AtClause (s row : List ℕ) (n at end : ℕ) : Type 0 where
+  pub clauses : Clauses
+  pub are : Are (cut s at end) clauses
+  pub fits : at < end
+  pub deep : depths clauses + n < selectionDepth
+  pub around : Open s row n end
+
+-- where the walk goes from a place behind `from` that makes the whole query v
+abbrev pub Leads : List Entry → List ℕ → List ℕ → ℕ → Bool → Next → Type 0
+Leads es s row from v (Done r) = v ≡ r
+Leads es s row from v (Goes n at end) = (from < at) × ((t : At s row n at end) × (v ≡ outcome es (t .around) (matches es (t .query))))

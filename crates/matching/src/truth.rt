@@ -1,0 +1,198 @@
+// Whether a stored query is true of a record: a walk through the query from the left, with a row of the Booleans that are open. It does not
+// call itself, however deep the query is.
+use super::level::Level;
+use super::level::allowed;
+use super::level::answer;
+use super::level::is_over;
+use super::level::packed;
+use super::level::unpacked;
+use super::phrase::phrase_true;
+use super::range::range_true;
+use super::term::term_true;
+use parts::big::big2;
+use parts::part::size_of;
+use parts::part::tag_of;
+ghost use mathlib.Core.Path.{_≡_};
+ghost use Prim.Native.Nat.{_<_, _≤_};
+ghost use mathlib.Core.Bool.{true};
+ghost use mathlib.Core.List.{List};
+ghost use Rattle.rules.specs.Numbers.{booleanTag, selectionBytes, selectionDepth};
+ghost use lib.ListN.{length};
+ghost use Rattle.rules.specs.Bytes.{tagOf, every, each};
+ghost use Rattle.rules.specs.Checked.{Stored, StoredClauses};
+ghost use Rattle.rules.specs.Lists.{isEntry, entryOf, Entry};
+ghost use Rattle.rules.specs.Matching.{matches};
+ghost use Rattle.matching.specs.Level.{carries};
+ghost use Rattle.matching.specs.Truth.{IsLeaf, Truth, StoredFor, cut, Open, outcome, AtClause, At, Leads, Past};
+
+// Where the walk goes next: nowhere, or to the query from `at` to `end`, inside so many Booleans.
+pub enum Next {
+    Done(bool),
+    Query { depth: usize, at: usize, end: usize },
+}
+
+fn leaf_true(q: &[u8], rec: &[u8]) -> bool
+    requires { ⌜ Stored (now q) × IsLeaf (tagOf (now q)) × (every isEntry (now rec) ≡ true) ⌝ }
+    ensures { λ r. ⌜ Truth (now (q .entry)) (each entryOf (now (rec .entry))) r ⌝ }
+{
+    match tag_of(q) {
+        1 => term_true(q, rec),
+        2 => phrase_true(q, rec),
+        6 => true,
+        8 => range_true(false, q, rec),
+        9 => range_true(true, q, rec),
+        _ => false,
+    }
+}
+
+// To the clause that stands at `at` in the Boolean l, inside `depth` others.
+fn clause(q: &[u8], row: &mut [u64], depth: usize, at: usize, l: Level) -> Next
+    requires { ⌜ AtClause (now q) (now row) depth at (l .end) × (l .asked < 65536) × (length (now q) ≤ selectionBytes) × (selectionDepth ≤ length (now row)) ⌝ }
+    ensures { λ r. ⌜ ((es : List Entry) (t : AtClause (now (q .entry)) (now (row .entry)) depth at (l .end))
+        → Leads es (now (q .entry)) (now (row .exit)) at (outcome es (t .around) (carries es (l .asked) (l .met) (t .clauses))) r) ⌝ }
+{
+    let end = l.end;
+    let t = &q[at..end];
+    row[depth] = packed(Level {
+        end,
+        asked: l.asked,
+        met: l.met,
+        kind: tag_of(t),
+    });
+    let next = at + 3;
+    Next::Query {
+        depth: depth + 1,
+        at: next,
+        end: next + size_of(t),
+    }
+}
+
+// The place of the first clause from `at` on that is no Should, or the end. In a Boolean that asks for no more Should clauses and has met
+// what it needs, those change nothing.
+fn past_shoulds(q: &[u8], at: usize, end: usize) -> usize
+    requires { ⌜ StoredClauses (cut (now q) at end) × (at ≤ end) × (end ≤ length (now q)) ⌝ }
+    ensures { λ r. ⌜ Past (now (q .entry)) at end 0 true r ⌝ }
+{
+    let mut p = at;
+    while p < end {
+        let t = &q[p..end];
+        if tag_of(t) != 0x21 {
+            return p;
+        }
+        p += 3 + size_of(t);
+    }
+    p
+}
+
+// Where the next clause that can change the Boolean l stands, from `at` on.
+fn next_clause(q: &[u8], at: usize, l: Level) -> usize
+    requires { ⌜ StoredClauses (cut (now q) at (l .end)) × (at ≤ l .end) × (l .end ≤ length (now q)) ⌝ }
+    ensures { λ r. ⌜ Past (now (q .entry)) at (l .end) (l .asked) (l .met) r ⌝ }
+{
+    if is_over(l) {
+        return past_shoulds(q, at, l.end);
+    }
+    at
+}
+
+// From the end of a query that is true or not: to the next clause of the innermost Boolean that has one and is not decided.
+fn settle(q: &[u8], row: &mut [u64], depth: usize, at: usize, known: bool) -> Next
+    requires { ⌜ Open (now q) (now row) depth at × (length (now q) ≤ selectionBytes) × (selectionDepth ≤ length (now row)) ⌝ }
+    ensures { λ r. ⌜ ((es : List Entry) (o : Open (now (q .entry)) (now (row .entry)) depth at)
+        → Leads es (now (q .entry)) (now (row .exit)) at (outcome es o known) r) ⌝ }
+{
+    let mut d = depth;
+    let mut e = at;
+    let mut y = known;
+    while d > 0 {
+        d -= 1;
+        let l = unpacked(row[d]);
+        let end = l.end;
+        if allowed(l, y) {
+            let m = answer(l, y);
+            let p = next_clause(q, e, m);
+            if p < end {
+                return clause(q, row, d, p, m);
+            }
+            e = end;
+            y = is_over(m);
+        } else {
+            e = end;
+            y = false;
+        }
+    }
+    Next::Done(y)
+}
+
+// Into the Boolean from `at` to `end`: to its first clause. With no clause it is false, whatever its minimum is.
+fn enter(q: &[u8], row: &mut [u64], depth: usize, at: usize, end: usize) -> Next
+    requires { ⌜ At (now q) (now row) depth at end × (tagOf (cut (now q) at end) ≡ booleanTag)
+        × (length (now q) ≤ selectionBytes) × (selectionDepth ≤ length (now row)) ⌝ }
+    ensures { λ r. ⌜ ((es : List Entry) (t : At (now (q .entry)) (now (row .entry)) depth at end)
+        → Leads es (now (q .entry)) (now (row .exit)) at (outcome es (t .around) (matches es (t .query))) r) ⌝ }
+{
+    let x = &q[at..end];
+    if x.len() > 8 {
+        let asked = big2(&x[6..]);
+        let l = Level {
+            end,
+            asked,
+            met: false,
+            kind: 0,
+        };
+        return clause(q, row, depth, at + 8, l);
+    }
+    settle(q, row, depth, end, false)
+}
+
+// From the query at hand.
+fn step(q: &[u8], rec: &[u8], row: &mut [u64], depth: usize, at: usize, end: usize) -> Next
+    requires { ⌜ At (now q) (now row) depth at end × (every isEntry (now rec) ≡ true)
+        × (length (now q) ≤ selectionBytes) × (selectionDepth ≤ length (now row)) ⌝ }
+    ensures { λ r. ⌜ ((t : At (now (q .entry)) (now (row .entry)) depth at end)
+        → Leads (each entryOf (now (rec .entry))) (now (q .entry)) (now (row .exit)) at
+        (outcome (each entryOf (now (rec .entry))) (t .around) (matches (each entryOf (now (rec .entry))) (t .query))) r) ⌝ }
+{
+    let x = &q[at..end];
+    match tag_of(x) {
+        3 => enter(q, row, depth, at, end),
+        4 => Next::Query {
+            depth,
+            at: at + 7,
+            end,
+        },
+        5 => Next::Query {
+            depth,
+            at: at + 3,
+            end,
+        },
+        _ => {
+            let y = leaf_true(x, rec);
+            settle(q, row, depth, end, y)
+        }
+    }
+}
+
+// The row is the caller's, so that it is made once for all records.
+pub fn holds(q: &[u8], rec: &[u8], row: &mut [u64]) -> bool
+    requires { ⌜ StoredFor (now q) × (every isEntry (now rec) ≡ true) × (selectionDepth ≤ length (now row)) ⌝ }
+    ensures { λ r. ⌜ Truth (now (q .entry)) (each entryOf (now (rec .entry))) r ⌝ }
+{
+    let mut depth: usize = 0;
+    let mut at: usize = 0;
+    let mut end = q.len();
+    loop {
+        match step(q, rec, row, depth, at, end) {
+            Next::Done(y) => return y,
+            Next::Query {
+                depth: d,
+                at: a,
+                end: e,
+            } => {
+                depth = d;
+                at = a;
+                end = e;
+            }
+        }
+    }
+}
