@@ -1,12 +1,1 @@
-pub mod Standing
-pub mod Placed
-pub mod Forms
-pub mod Laid
-pub mod Seeking
-pub mod Merging
-pub mod Finishing
-pub mod Phrases
-pub mod Booleans
-pub mod Nested
-pub mod Cycling
 pub mod Settling

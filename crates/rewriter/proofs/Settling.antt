@@ -25,13 +25,13 @@ use Rattle.rules.proofs.rewriting.Rounds.{resultOf, countOf}
 use Rattle.rules.proofs.rewriting.Weights.{valid-once, any-fuel}
 use Rattle.parts.specs.Laid.{laid, Put}
 use Rattle.parts.proofs.Laying.{laid-front}
-use Rattle.rewriter.specs.Within.{within, Stands}
-use Rattle.rewriter.specs.Once.{Room}
+use Rattle.round.specs.Within.{within, Stands}
+use Rattle.round.specs.Once.{Room}
 use Rattle.rewriter.specs.Rounds.{Ready, Settled, left}
-use Rattle.rewriter.proofs.Standing.{within-length, within-same, stands-put}
-use Rattle.rewriter.proofs.Forms.{is-same}
-use Rattle.rewriter.proofs.Finishing.{moved}
-use Rattle.rewriter.proofs.Nested.{once-bulk}
+use Rattle.round.proofs.Standing.{within-length, within-same, stands-put}
+use Rattle.round.proofs.Forms.{is-same}
+use Rattle.round.proofs.Finishing.{moved}
+use Rattle.round.proofs.Nested.{once-bulk}
 
 -- ---- counted rounds
 

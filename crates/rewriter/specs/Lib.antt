@@ -1,6 +1,1 @@
-pub mod Within
-pub mod Clauses
-pub mod Merge
-pub mod Over
-pub mod Once
 pub mod Rounds

@@ -1,7 +1,2 @@
-// The rewriter: rounds over a stored query, all in one lent room.
-mod clauses;
-mod merge;
-mod once;
-mod over;
-mod place;
+// The rewriter: rounds over a stored query, all in one lent room. One round is the crate `round`.
 pub mod rounds;

@@ -1,9 +1,9 @@
 // Rounds, until one changes nothing; and the call.
-use crate::once::rewrite_once;
-use crate::place::shift;
 use parts::bytes::clear;
 use parts::bytes::copy;
 use parts::bytes::same;
+use round::once::rewrite_once;
+use round::place::shift;
 use stored::read::for_rewriting;
 ghost use mathlib.Core.Path.{_≡_};
 ghost use Rattle.rules.specs.Query.{Query};
@@ -11,7 +11,7 @@ ghost use Rattle.rules.specs.Checked.{Is};
 ghost use Rattle.rules.specs.Rewriting.{rewrite};
 ghost use Rattle.rules.specs.Answers.{rewriteLeft};
 ghost use Rattle.rules.proofs.rewriting.Rounds.{resultOf, countOf};
-ghost use Rattle.rewriter.specs.Within.{within};
+ghost use Rattle.round.specs.Within.{within};
 ghost use Rattle.rewriter.specs.Rounds.{Ready, Settled, left};
 
 pub struct Rounds {

@@ -1,0 +1,11 @@
+pub mod Standing
+pub mod Placed
+pub mod Forms
+pub mod Laid
+pub mod Seeking
+pub mod Merging
+pub mod Finishing
+pub mod Phrases
+pub mod Booleans
+pub mod Nested
+pub mod Cycling
