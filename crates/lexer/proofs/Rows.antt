@@ -11,9 +11,8 @@ use lib.Seq.{take-nil, take-take, take-at, getD-take, getD-drop, getD-at, getD-a
 use Rattle.rules.specs.Numbers.{textMost}
 use Rattle.rules.specs.Lexing.{Token, endKind}
 use Rattle.rules.specs.Parsing.{tokenOf}
-use Rattle.lexer.specs.Row.{roomLeast, entryAt, kindIn, noteIn, placeIn, sizeIn, tokenAt, tokensOf, Below, LaidBelow, Laid, entry, nameFrom, wordNote, Worded}
+use Rattle.lexer.specs.Row.{roomLeast, entryAt, kindIn, noteIn, placeIn, sizeIn, tokenAt, tokensOf, Below, LaidBelow, Laid, entry, nameFrom, wordNote, Worded, Kept}
 use Rattle.analysis.specs.Tokens.{OneWord}
-use Rattle.lexer.specs.Texts.{Kept}
 
 -- ---- lists that have a front or a rest in common
 

@@ -79,3 +79,8 @@ pub record Renoted (i a : ℕ) (before after : List ℕ) : Type 0 where
   -- a text stands before the row, where no note is put
   pub tokens : (n : ℕ) → Laid before n → tokensOf after n ≡ tokensOf before n
   pub laid : (n : ℕ) → Laid before n → Laid after n
+
+-- the bytes below `at`, and the row of tokens, are as they were
+pub record Kept (at : ℕ) (before after : List ℕ) : Type 0 where
+  pub front : take at after ≡ take at before
+  pub row : drop textMost after ≡ drop textMost before

@@ -11,11 +11,6 @@ use Rattle.rules.specs.Lexing.{Piece, piece, termText}
 use Rattle.lexer.specs.declared.texts.Ended.{Ended}
 use Rattle.lexer.specs.declared.texts.Ended.the-variants.{Refused, At}
 
--- the bytes below `at`, and the row of tokens, are as they were
-pub record Kept (at : ℕ) (before after : List ℕ) : Type 0 where
-  pub front : take at after ≡ take at before
-  pub row : drop textMost after ≡ drop textMost before
-
 -- what was read before goes in front
 abbrev pub onFront : List ℕ → Piece → Piece
 onFront u (piece t s) = piece (u ++ t) s
