@@ -14,7 +14,8 @@ use Rattle.rules.specs.Setup.{Setup, readSetup}
 use Rattle.rules.specs.Parsing.{parse}
 use Rattle.rules.specs.Answers.{Answer, Left, Reply, storedReply, fitting, leave, call, parseReply, parseLeft}
 use Rattle.rules.proofs.Refusals.{number-some}
-use Rattle.rules.proofs.Weights.{weight-length, weight-some}
+use Rattle.rules.proofs.rewriting.Measures.{weight-length}
+use Rattle.rules.proofs.Weights.{weight-some}
 use Rattle.parts.specs.Laid.{Put}
 use Rattle.parser.specs.Parsed.{answerOf, leftOf, Parses}
 use Rattle.parser.specs.declared.parse.Parsed.{Parsed}

@@ -24,7 +24,7 @@ use Rattle.rules.proofs.Parts.{none-empty, empty-nil}
 use Rattle.rules.proofs.Sizes.{length-encode}
 use Rattle.rules.proofs.Steps.{read-long}
 use Rattle.rules.proofs.Sound.{read-sound}
-use Rattle.rules.proofs.Weights.{weight-length}
+use Rattle.rules.proofs.rewriting.Measures.{weight-length}
 use Rattle.rules.proofs.rewriting.Rounds.{resultOf, countOf}
 use Rattle.rules.proofs.rewriting.Weights.{few-rounds, valid-rewrite}
 use Rattle.rules.proofs.rewriting.Bounds.{within-bytes}

@@ -18,7 +18,8 @@ use Rattle.rules.proofs.Bools.{clash}
 use Rattle.rules.proofs.Bigs.{read-big}
 use Rattle.rules.proofs.Parts.{more-empty, less-empty, empty-nil, rest-part, whole-part, whole-le}
 use Rattle.rules.proofs.Sizes.{length-encode}
-use Rattle.rules.proofs.Weights.{weight-length, largest-below}
+use Rattle.rules.proofs.rewriting.Measures.{weight-length}
+use Rattle.rules.proofs.Weights.{largest-below}
 use Rattle.rules.proofs.Equal.{encode-injective}
 use Rattle.stored.specs.Measure.{skipOf, worthOf, leastOf, Weighs, Largest}
 
