@@ -1,4 +1,4 @@
-// Where a clause begins behind a field name, and whether the text of its token is known to be one token: both halves ask.
+// Where a clause begins behind a field name, and whether the text of its token is known to be one token: both passes ask.
 use crate::kinds::is_named;
 use crate::leaf::is_one;
 use lexer::row::is_word_at;

@@ -47,9 +47,9 @@ fn bits_at(room: &[u8], n: usize, i: usize) -> u32
 }
 
 // Where the bytes of what was written end, and the number of the next token.
-pub struct Wrote {
-    pub end: usize,
-    pub next: usize,
+struct Wrote {
+    end: usize,
+    next: usize,
 }
 
 // How many bytes the front of a boost takes, where one stands at i.
