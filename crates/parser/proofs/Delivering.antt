@@ -24,17 +24,17 @@ use Rattle.parts.proofs.Laying.{laid-front, lent}
 use Rattle.lexer.specs.Row.{roomLeast, tokensOf, Laid, nameFrom}
 use Rattle.lexer.specs.Lexing.{Row, answerOf as lexedOf}
 use Rattle.lexer.specs.declared.Lexed.the-variants as lexed
-use Rattle.parser.specs.Kinds.{isAlone, madeBytes, madeLength, Sums}
-use Rattle.parser.specs.Measured.{Says, placeAt, Spaced, Rowed, Fielded, Tuned, clausesRun, MeansKept, MeantClauses}
-use Rattle.parser.specs.Written.{QueryToWrite}
+use Rattle.clauses.specs.Kinds.{isAlone, madeBytes, madeLength, Sums}
+use Rattle.clauses.specs.Measured.{Says, placeAt, Spaced, Rowed, Fielded, Tuned, clausesRun, MeansKept, MeantClauses}
+use Rattle.clauses.specs.Written.{QueryToWrite}
 use Rattle.parser.specs.Noted.{Entered, Noted}
 use Rattle.parser.specs.Parsed.{answerOf, leftOf, fit, Delivers, Parses}
 use Rattle.parser.specs.declared.parse.Parsed.{Parsed}
 use Rattle.parser.specs.declared.parse.Parsed.the-variants.{Refused, Bytes}
-use Rattle.parser.specs.declared.kinds.Counted.{Counted}
-use Rattle.parser.specs.declared.kinds.Counted.the-variants.{Fault, Clauses as Many}
-use Rattle.parser.proofs.Deciding.{made-some}
-use Rattle.parser.proofs.Rows.{tokens-length}
+use Rattle.clauses.specs.declared.counted.Counted.{Counted}
+use Rattle.clauses.specs.declared.counted.Counted.the-variants.{Fault, Clauses as Many}
+use Rattle.clauses.proofs.Deciding.{made-some}
+use Rattle.clauses.proofs.Rows.{tokens-length}
 
 -- ---- the whole answer
 

@@ -1,15 +1,3 @@
-pub mod Deciding
-pub mod Tallying
-pub mod Keeping
-pub mod Rows
-pub mod Bodies
-pub mod Steps
-pub mod Fuel
-pub mod Fronts
-pub mod Writing
-pub mod Filling
-pub mod Going
-pub mod Placing
 pub mod Notes
 pub mod Entries
 pub mod Delivering

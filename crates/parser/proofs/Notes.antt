@@ -15,9 +15,9 @@ use Rattle.rules.specs.Parsing.{tokenOf, isAt, textAt}
 use Rattle.rules.proofs.Bools.{clash, and-l, and-r, and-no-l, and-no-r}
 use Rattle.lexer.specs.Row.{tokenAt, tokensOf, wordNote, Renoted}
 use Rattle.lexer.proofs.Noting.{worded-noted}
-use Rattle.parser.specs.Measured.{Spaced, Rowed, isNamed, noteAt}
+use Rattle.clauses.specs.Measured.{Spaced, Rowed, isNamed, noteAt}
 use Rattle.parser.specs.Noted.{Noted}
-use Rattle.parser.proofs.Rows.{text-is, named-in}
+use Rattle.clauses.proofs.Rows.{text-is, named-in}
 
 -- an analyzer's note at a token leaves a row that is laid so
 module _ {i a n : ℕ} {room after : List ℕ} (N : Renoted i a room after) (R : Rowed room n) where

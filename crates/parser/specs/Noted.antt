@@ -10,7 +10,7 @@ use Rattle.rules.specs.Setup.{FieldEntry, isFieldEntry, analyzerAmong, entriesI
 use Rattle.rules.specs.Parsing.{textAt}
 use Rattle.analysis.specs.Fields.{rowText, arrayEntries}
 use Rattle.lexer.specs.Row.{tokensOf}
-use Rattle.parser.specs.Measured.{Rowed, isNamed, noteAt}
+use Rattle.clauses.specs.Measured.{Rowed, isNamed, noteAt}
 
 -- the k-th row alone is changed, and holds the name where the answer b is that the name is ASCII
 pub record RowPut (names : List (List ℕ)) (k : ℕ) (s : List ℕ) (b : Bool) (names′ : List (List ℕ)) : Type 0 where

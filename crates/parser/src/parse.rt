@@ -1,12 +1,14 @@
 // The public call: a text under a setup becomes the stored form of its query, or a refusal leaves the output as it was.
 // The first half measures, so that what does not fit is refused before a byte is written. The room ends all zeros in every case.
-use crate::kinds;
-use crate::kinds::Counted;
-use crate::measure::measure_query;
 use crate::setup;
-use crate::write::write_query;
 use analysis::fields::analyzer_among;
+use clauses::counted::Counted;
+use clauses::counted::is_alone;
+use clauses::counted::query_len;
+use clauses::measure::measure_query;
+use clauses::write::write_query;
 use lexer::Lexed;
+use lexer::row::kind_at;
 use parts::bytes::clear;
 use parts::bytes::is_text;
 use parts::write::put_header;
@@ -19,9 +21,9 @@ ghost use Rattle.rules.specs.Query.{Clauses};
 ghost use Rattle.rules.specs.Setup.{Setup, readSetup};
 ghost use Rattle.rules.specs.Parsing.{queryOf, orMatchNone, parse, parseTokens};
 ghost use Rattle.lexer.specs.Row.{roomLeast, tokensOf};
-ghost use Rattle.parser.specs.Measured.{Rowed, Fielded, Tuned};
+ghost use Rattle.clauses.specs.Measured.{Rowed, Fielded, Tuned};
 ghost use Rattle.parser.specs.Parsed.{Delivers, Parses};
-ghost use Rattle.parser.specs.Written.{QueryToWrite};
+ghost use Rattle.clauses.specs.Written.{QueryToWrite};
 
 // What a call answers: a refusal by its number, or how many bytes it wrote.
 pub enum Parsed {
@@ -88,15 +90,15 @@ fn parse_tokens<'a>(
             bytes,
             next,
         } => {
-            if kinds::is_at(room, n, 0, next) {
-                let len = kinds::query_len(count, tag, bytes);
+            if kind_at(room, n, next) == 0 {
+                let len = query_len(count, tag, bytes);
                 return write_whole(
                     operator,
                     analyzer,
                     field,
                     n,
                     room,
-                    kinds::is_alone(count, tag),
+                    is_alone(count, tag),
                     len,
                     out,
                 );

@@ -15,7 +15,7 @@ ghost use Prim.Native.Nat.{ℕ, _≤_, _<_};
 ghost use lib.ListN.{length, getD};
 ghost use Rattle.rules.specs.Setup.{isAnalyzer, analyzerAmong};
 ghost use Rattle.analysis.specs.Fields.{arrayEntries};
-ghost use Rattle.parser.specs.Measured.{Rowed};
+ghost use Rattle.clauses.specs.Measured.{Rowed};
 ghost use Rattle.parser.specs.Noted.{RowPut, Entered, Noted};
 
 fn is_analyzer(a: u8) -> bool

@@ -1,8 +1,9 @@
 -- `parser::parse::parse_tokens` meets its contract.
 use Rattle.parser.proofs.Delivering.{delivers-as, tokens-fault, tokens-more, tokens-kept, tokens-end, tokens-write}
-use Rattle.parser.proofs.Rows.{place-most}
+use Rattle.clauses.proofs.Rows.{place-most}
 use mathlib.Core.Path.{refl, sym, _∙_}
 use native.Mathlib.Omega.{arith}
+use borrow.Author.Tests.{eq-eqb, ne-eqb}
 use borrow.Author.Needs.{needs}
 use Rattle.parser.proofs.parse.parse_tokens.Statement.{statement}
 use Rattle.parser.proofs.parse.parse_tokens.Tie as tie
@@ -16,8 +17,8 @@ enum-known-e c = search needs
 enum-known-count : tie.Need-enum-known-count
 enum-known-count c = search needs
 
-is-at-requires : tie.Need-is-at-requires
-is-at-requires c κs = (c .before .before .before .before .before .before .before .pre .0 .few, c .before .before .before .before .before .before .before .pre .0 .least)
+kind-at-requires : tie.Need-kind-at-requires
+kind-at-requires c κs = (c .before .before .before .before .before .before .before .pre .0 .few, c .before .before .before .before .before .before .before .pre .0 .least)
 
 query-len-requires : tie.Need-query-len-requires
 query-len-requires c κs = let K = rw (c .before .before .before .count .given .1) at (c .before .before .before .before .before .measure-query .ensures .1) in (omega (arith, K .3, place-most (c .before .before .before .before .before .before .before .before .before .pre .0) (c .before .before .before .count .given .0 .1 .1 .1 .0)), K .4)
@@ -32,13 +33,13 @@ same-length : tie.Need-same-length
 same-length c = c .before .before .write-whole .kept .1 .1 .1 .1 .1 .1 .1 .0
 
 returns : tie.Need-returns
-returns c = λ st T ef. delivers-as (c .before .before .before .before .before .before .before .before .before .before .before .before .before .before .before .args .out .now) _ (c .before .before .write-whole .result) (tokens-end st (c .before .before .before .before .before .before .before .before .before .before .before .before .before .before .before .args .room .now) (c .before .before .before .before .before .before .before .before .before .before .before .before .before .before .before .args .n) (c .before .before .before .before .before .before .before .before .before .before .before .before .before .before .before .args .field .now) ef (c .before .before .before .before .before .before .before .before .before .before .before .measure-query .ensures .0 st T) (c .before .before .before .before .before .before .before .before .before .count .given .1) (sym (c .before .before .before .before .before .before .before .is-at .ensures) ∙ c .before .before .before .before .before .before .if1 .taken)) (c .before .before .write-whole .ensures st (tokens-kept st (c .before .before .before .before .before .before .before .before .before .before .before .before .before .before .before .args .room .now) (c .before .before .before .before .before .before .before .before .before .before .before .before .before .before .before .args .n) (c .before .before .before .before .before .before .before .before .before .before .before .before .before .before .before .args .field .now) ef (c .before .before .before .before .before .before .before .before .before .before .before .measure-query .ensures .0 st T) (c .before .before .before .before .before .before .before .before .before .count .given .1)) (c .before .before .before .before .before .before .before .before .before .count .given .0 .1 .1 .1 .0) (tokens-write st (c .before .before .before .before .before .before .before .before .before .before .before .before .before .before .before .args .room .now) (c .before .before .before .before .before .before .before .before .before .before .before .before .before .before .before .args .n) (c .before .before .before .before .before .before .before .before .before .before .before .before .before .before .before .args .field .now) ef (c .before .before .before .before .before .before .before .before .before .before .before .measure-query .ensures .0 st T) (c .before .before .before .before .before .before .before .before .before .count .given .1) refl T (c .before .before .before .before .is-alone .ensures) (c .before .before .before .before .before .query-len .ensures .0)))
+returns c = λ st T ef. delivers-as (c .before .before .before .before .before .before .before .before .before .before .before .before .before .before .before .args .out .now) _ (c .before .before .write-whole .result) (tokens-end st (c .before .before .before .before .before .before .before .before .before .before .before .before .before .before .before .args .room .now) (c .before .before .before .before .before .before .before .before .before .before .before .before .before .before .before .args .n) (c .before .before .before .before .before .before .before .before .before .before .before .before .before .before .before .args .field .now) ef (c .before .before .before .before .before .before .before .before .before .before .before .measure-query .ensures .0 st T) (c .before .before .before .before .before .before .before .before .before .count .given .1) (eq-eqb _ 0 (sym (c .before .before .before .before .before .before .before .kind-at .ensures) ∙ c .before .before .before .before .before .before .if1 .taken))) (c .before .before .write-whole .ensures st (tokens-kept st (c .before .before .before .before .before .before .before .before .before .before .before .before .before .before .before .args .room .now) (c .before .before .before .before .before .before .before .before .before .before .before .before .before .before .before .args .n) (c .before .before .before .before .before .before .before .before .before .before .before .before .before .before .before .args .field .now) ef (c .before .before .before .before .before .before .before .before .before .before .before .measure-query .ensures .0 st T) (c .before .before .before .before .before .before .before .before .before .count .given .1)) (c .before .before .before .before .before .before .before .before .before .count .given .0 .1 .1 .1 .0) (tokens-write st (c .before .before .before .before .before .before .before .before .before .before .before .before .before .before .before .args .room .now) (c .before .before .before .before .before .before .before .before .before .before .before .before .before .before .before .args .n) (c .before .before .before .before .before .before .before .before .before .before .before .before .before .before .before .args .field .now) ef (c .before .before .before .before .before .before .before .before .before .before .before .measure-query .ensures .0 st T) (c .before .before .before .before .before .before .before .before .before .count .given .1) refl T (c .before .before .before .before .is-alone .ensures) (c .before .before .before .before .before .query-len .ensures .0)))
 
 returns-2 : tie.Need-returns-2
 returns-2 c = λ st T ef. tokens-fault st (c .before .before .before .before .before .before .before .args .room .now) (c .before .before .before .before .before .before .before .args .n) (c .before .before .before .before .before .before .before .args .field .now) ef (c .before .before .before .measure-query .ensures .0 st T) _ (c .before .e .given .1) (c .before .before .before .before .before .before .before .args .out .now)
 
 returns-3 : tie.Need-returns-3
-returns-3 c = λ st T ef. tokens-more st (c .before .before .before .before .before .before .before .before .before .args .room .now) (c .before .before .before .before .before .before .before .before .before .args .n) (c .before .before .before .before .before .before .before .before .before .args .field .now) ef (c .before .before .before .before .before .measure-query .ensures .0 st T) (c .before .before .before .count .given .1) (sym (c .before .is-at .ensures) ∙ c .if1 .left) (c .before .before .before .before .before .before .before .before .before .args .out .now)
+returns-3 c = λ st T ef. tokens-more st (c .before .before .before .before .before .before .before .before .before .args .room .now) (c .before .before .before .before .before .before .before .before .before .args .n) (c .before .before .before .before .before .before .before .before .before .args .field .now) ef (c .before .before .before .before .before .measure-query .ensures .0 st T) (c .before .before .before .count .given .1) (ne-eqb _ 0 (λ e. c .if1 .left (c .before .kind-at .ensures ∙ e))) (c .before .before .before .before .before .before .before .before .before .args .out .now)
 
 pub parse-tokens-spec : {M : Type 1} → statement M
 parse-tokens-spec =
@@ -47,7 +48,7 @@ parse-tokens-spec =
     measure-query-requires
     enum-known-e
     enum-known-count
-    is-at-requires
+    kind-at-requires
     query-len-requires
     is-alone-requires
     write-whole-requires

@@ -1,6 +1,6 @@
 -- `parser::parse::write_whole` meets its contract.
 use Rattle.parser.proofs.Delivering.{none-short, none-fits, some-short, some-fits}
-use Rattle.parser.proofs.Placing.{first-length, mid-length}
+use Rattle.clauses.proofs.Placing.{first-length, mid-length}
 use mathlib.Core.Path.{_∙_}
 use native.Mathlib.Omega.{arith}
 use borrow.Author.Needs.{needs}

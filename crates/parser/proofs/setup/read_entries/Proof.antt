@@ -1,7 +1,7 @@
 -- `parser::setup::read_entries` meets its contract.
 use lib.ListN.{length, take, drop, getD, set}
 use Rattle.parser.proofs.Entries.{Entering, entering-starts, entering-cut, entering-short, entering-many, entering-broken, entering-on, entering-ends, head-broken, name-broken, entry-good, head-short, nine-any}
-use Rattle.parser.proofs.Writing.{slice-length}
+use Rattle.clauses.proofs.Writing.{slice-length}
 use Rattle.rules.proofs.Bools.{told-no, told-yes}
 use borrow.Author.Tests.{not-false}
 use Prim.Native.Nat.{ℕ, _+_, _-_}

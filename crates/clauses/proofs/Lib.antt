@@ -1,0 +1,12 @@
+pub mod Deciding
+pub mod Tallying
+pub mod Keeping
+pub mod Rows
+pub mod Bodies
+pub mod Steps
+pub mod Fuel
+pub mod Fronts
+pub mod Writing
+pub mod Filling
+pub mod Going
+pub mod Placing

@@ -1,0 +1,66 @@
+-- `clauses::measure::with_boost` meets its contract.
+use mathlib.Core.Path.{refl, sym, ap, _∙_}
+use Prim.Native.Nat.{_+_}
+use Rattle.lexer.specs.Row.{tokensOf}
+use Rattle.rules.specs.Numerals.{numeralBits}
+use Rattle.rules.specs.Reading.{numberOf}
+use Rattle.rules.proofs.Refusals.{number-not, number-got}
+use Rattle.clauses.proofs.Bodies.{boost-none, boost-missing, boost-refused, boost-got, boosted-length}
+use Rattle.clauses.proofs.Rows.{kind-in, text-is, place-step-two}
+use native.Mathlib.Omega.{arith}
+use borrow.Author.Needs.{needs}
+use Rattle.clauses.proofs.measure.with_boost.Statement.{statement}
+use Rattle.clauses.proofs.measure.with_boost.Tie as tie
+
+is-at-requires : tie.Need-is-at-requires
+is-at-requires c κs = search needs
+
+add-is-at : tie.Need-add-is-at
+add-is-at c = search needs
+
+is-at-requires-2 : tie.Need-is-at-requires-2
+is-at-requires-2 c κs = search needs
+
+add-text-at : tie.Need-add-text-at
+add-text-at c = search needs
+
+text-at-requires : tie.Need-text-at-requires
+text-at-requires c κs = let z = kind-in (c .before .before .before .before .before .args .room .now) (c .before .before .before .before .before .args .n) 1 (c .before .before .before .before .before .args .i + 1) (λ z. omega arith) (sym (c .before .is-at2 .ensures) ∙ c .if2 .taken) in (omega (arith, c .before .before .before .before .before .pre .0 .few), c .before .before .before .before .before .pre .0 .laid (c .before .before .before .before .before .args .i + 1) (omega arith), c .before .before .before .before .before .pre .0 .least)
+
+fault-requires : tie.Need-fault-requires
+fault-requires c κs = search needs
+
+returns : tie.Need-returns
+returns c = let z = kind-in (c .before .before .before .before .before .before .before .before .args .room .now) (c .before .before .before .before .before .before .before .before .args .n) 1 (c .before .before .before .before .before .before .before .before .args .i + 1) (λ z. omega arith) (sym (c .before .before .before .before .is-at2 .ensures) ∙ c .before .before .before .if2 .taken) in let a = number-not (numeralBits (c .before .before .text-at .result .now)) (λ e. c .if3 .taken (c .before .fault .ensures ∙ e)) in ((λ st m e. (a .0, boost-refused st (tokensOf (c .before .before .before .before .before .before .before .before .args .room .now) (c .before .before .before .before .before .before .before .before .args .n)) (c .before .before .before .before .before .before .before .before .args .i) m (sym (c .before .before .before .before .before .before .is-at .ensures) ∙ c .before .before .before .before .before .if1 .taken) (sym (c .before .before .before .before .is-at2 .ensures) ∙ c .before .before .before .if2 .taken) (ap numeralBits (text-is (c .before .before .before .before .before .before .before .before .args .room .now) (c .before .before .before .before .before .before .before .before .args .n) (c .before .before .before .before .before .before .before .before .args .i + 1) z ∙ sym (c .before .before .text-at .ensures)) ∙ a .1), c .before .fault .ensures ∙ ap numberOf (a .1))), omega arith)
+
+boosted-len-requires : tie.Need-boosted-len-requires
+boosted-len-requires c κs = search needs
+
+add-t12 : tie.Need-add-t12
+add-t12 c = search needs
+
+returns-2 : tie.Need-returns-2
+returns-2 c = let z = kind-in (c .before .before .before .before .before .before .before .before .before .args .room .now) (c .before .before .before .before .before .before .before .before .before .args .n) 1 (c .before .before .before .before .before .before .before .before .before .args .i + 1) (λ z. omega arith) (sym (c .before .before .before .before .before .is-at2 .ensures) ∙ c .before .before .before .before .if2 .taken) in let a = number-got (numeralBits (c .before .before .before .text-at .result .now)) (sym (c .before .before .fault .ensures) ∙ c .before .if3 .left) in ((λ st m e. (_, boost-got st (tokensOf (c .before .before .before .before .before .before .before .before .before .args .room .now) (c .before .before .before .before .before .before .before .before .before .args .n)) (c .before .before .before .before .before .before .before .before .before .args .i) m (sym (c .before .before .before .before .before .before .before .is-at .ensures) ∙ c .before .before .before .before .before .before .if1 .taken) (sym (c .before .before .before .before .before .is-at2 .ensures) ∙ c .before .before .before .before .if2 .taken) (ap numeralBits (text-is (c .before .before .before .before .before .before .before .before .before .args .room .now) (c .before .before .before .before .before .before .before .before .before .args .n) (c .before .before .before .before .before .before .before .before .before .args .i + 1) z ∙ sym (c .before .before .before .text-at .ensures)) ∙ a .1), boosted-length _ m _ _ e (c .boosted-len .ensures))), (omega arith, omega arith, place-step-two (c .before .before .before .before .before .before .before .before .before .pre .0) (c .before .before .before .before .before .before .before .before .before .args .i), c .boosted-len .ensures .0))
+
+returns-3 : tie.Need-returns-3
+returns-3 c = ((λ st m e. (_, boost-missing st (tokensOf (c .before .before .before .before .before .args .room .now) (c .before .before .before .before .before .args .n)) (c .before .before .before .before .before .args .i) m (sym (c .before .before .before .is-at .ensures) ∙ c .before .before .if1 .taken) (sym (c .before .is-at2 .ensures) ∙ c .if2 .left), refl)), omega arith)
+
+returns-4 : tie.Need-returns-4
+returns-4 c = ((λ st m e. (m, boost-none st (tokensOf (c .before .before .before .args .room .now) (c .before .before .before .args .n)) (c .before .before .before .args .i) m (sym (c .before .is-at .ensures) ∙ c .if1 .left), e)), (omega arith, c .before .before .before .pre .1, omega arith, omega arith))
+
+pub with-boost-spec : {M : Type 1} → statement M
+with-boost-spec =
+    tie.close
+    (tie.spec
+    is-at-requires
+    add-is-at
+    is-at-requires-2
+    add-text-at
+    text-at-requires
+    fault-requires
+    returns
+    boosted-len-requires
+    add-t12
+    returns-2
+    returns-3
+    returns-4)

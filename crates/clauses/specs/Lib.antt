@@ -1,0 +1,5 @@
+pub mod Kinds
+pub mod Measured
+pub mod Leaves
+pub mod Starting
+pub mod Written

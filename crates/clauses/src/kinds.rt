@@ -1,0 +1,188 @@
+// Decisions on one token or on numbers alone: what joins clauses, what stands before one, which kind a clause gets.
+// A conjunction is 0 none, 1 AND, 2 OR; a modifier is 0 none, 1 required, 2 prohibited; a clause's kind is its tag.
+use lexer::row::kind_at;
+ghost use mathlib.Core.Path.{_≡_};
+ghost use mathlib.Core.Bool.{not};
+ghost use Prim.Native.Nat.{_+_, _*_, _≤_};
+ghost use lib.ListN.{length};
+ghost use Rattle.rules.specs.Numbers.{textMost};
+ghost use Rattle.rules.specs.Query.{Clauses};
+ghost use Rattle.rules.specs.Parsing.{Made, stopsAt, isAt, conjunctionAt, afterConjunction, modifierAt, afterModifier, touched, kindAfter, operatorKind};
+ghost use Rattle.rules.specs.Stored.{kindTag};
+ghost use Rattle.lexer.specs.Row.{roomLeast, tokensOf};
+ghost use Rattle.clauses.specs.Kinds.{conjunctionOf, modifierOf, isKept, lastTag, madeLength, withMade, Sums};
+ghost use Rattle.clauses.specs.Measured.{isNamed};
+
+pub const TERM: u8 = 1;
+
+pub const QUOTED: u8 = 2;
+
+pub const COLON: u8 = 3;
+
+pub const OPEN: u8 = 9;
+
+pub const CLOSE: u8 = 10;
+
+pub const CARET: u8 = 11;
+
+pub const TILDE: u8 = 12;
+
+// A clause that was read: a refusal, or the length of its query (0 where it analyzes to nothing) and the number of the next token.
+pub enum Measured {
+    Refused(u8),
+    Clause { len: usize, next: usize },
+}
+
+// Kept clauses: how many there are, the last one's tag, how many bytes they take.
+pub struct Sum {
+    pub count: usize,
+    pub tag: u8,
+    pub bytes: usize,
+}
+
+pub fn is_at(room: &[u8], n: usize, kind: u8, i: usize) -> bool
+    requires { ⌜ (n ≤ textMost) × (roomLeast ≤ length (now room)) ⌝ }
+    ensures { λ r. ⌜ r ≡ isAt kind (tokensOf (now (room .entry)) n) i ⌝ }
+{
+    kind_at(room, n, i) == kind
+}
+
+// A clause is to be read at i: no closing bracket and no end stands there.
+pub fn more_at(room: &[u8], n: usize, i: usize) -> bool
+    requires { ⌜ (n ≤ textMost) × (roomLeast ≤ length (now room)) ⌝ }
+    ensures { λ r. ⌜ r ≡ not (stopsAt (tokensOf (now (room .entry)) n) i) ⌝ }
+{
+    let t = kind_at(room, n, i);
+    if t == 10 {
+        return false;
+    }
+    t != 0
+}
+
+// A field name and its colon stand at i.
+pub fn is_named(room: &[u8], n: usize, i: usize) -> bool
+    requires { ⌜ (n ≤ textMost) × (roomLeast ≤ length (now room)) × (i ≤ 4096) ⌝ }
+    ensures { λ r. ⌜ r ≡ isNamed (tokensOf (now (room .entry)) n) i ⌝ }
+{
+    if is_at(room, n, 1, i) {
+        return is_at(room, n, 3, i + 1);
+    }
+    false
+}
+
+// The conjunction at i, looked for only when some clause has been kept.
+pub fn conjunction_at(room: &[u8], n: usize, kept: bool, i: usize) -> u8
+    requires { ⌜ (n ≤ textMost) × (roomLeast ≤ length (now room)) ⌝ }
+    ensures { λ r. ⌜ ((cs : Clauses) → isKept cs ≡ kept → conjunctionAt cs (tokensOf (now (room .entry)) n) i ≡ conjunctionOf r) ⌝ }
+{
+    if kept {
+        let t = kind_at(room, n, i);
+        if t == 7 {
+            return 1;
+        }
+        if t == 8 {
+            return 2;
+        }
+    }
+    0
+}
+
+// The modifier at i.
+pub fn modifier_at(room: &[u8], n: usize, i: usize) -> u8
+    requires { ⌜ (n ≤ textMost) × (roomLeast ≤ length (now room)) ⌝ }
+    ensures { λ r. ⌜ modifierAt (tokensOf (now (room .entry)) n) i ≡ modifierOf r ⌝ }
+{
+    let t = kind_at(room, n, i);
+    if t == 4 {
+        return 1;
+    }
+    if t == 5 {
+        return 2;
+    }
+    if t == 6 { 2 } else { 0 }
+}
+
+// Past the token at i, where it was a conjunction or a modifier.
+pub fn after(x: u8, i: usize) -> usize
+    requires { ⌜ i ≤ 4096 ⌝ }
+    ensures { λ r. ⌜ (r ≡ afterConjunction (conjunctionOf x) i) × (r ≡ afterModifier (modifierOf x) i) ⌝ }
+{
+    if x == 0 {
+        return i;
+    }
+    i + 1
+}
+
+// What a conjunction makes of the tag before it.
+pub fn tag_before(operator: u8, c: u8, tag: u8) -> u8
+    ensures { λ r. ⌜ ((cs : Clauses) → tag ≡ lastTag cs → r ≡ lastTag (touched operator (conjunctionOf c) cs)) ⌝ }
+{
+    if c == 0 {
+        return tag;
+    }
+    if tag == 0 {
+        return tag;
+    }
+    if tag == 0x22 {
+        return tag;
+    }
+    if c == 1 {
+        return 0x20;
+    }
+    if operator == 1 { 0x21 } else { tag }
+}
+
+// The tag of a clause after a conjunction and a modifier.
+pub fn tag_after(operator: u8, c: u8, m: u8) -> u8
+    ensures { λ r. ⌜ r ≡ kindTag (kindAfter operator (conjunctionOf c) (modifierOf m)) ⌝ }
+{
+    if m == 0 {
+        if c == 0 {
+            return operator_tag(operator);
+        }
+        if c == 1 {
+            return 0x20;
+        }
+        return 0x21;
+    }
+    if m == 1 {
+        if c == 0 {
+            return 0x20;
+        }
+        if c == 1 {
+            return 0x20;
+        }
+        if operator == 1 {
+            return 0x21;
+        }
+        return 0x20;
+    }
+    0x22
+}
+
+// The tag of the default operator's kind.
+pub fn operator_tag(operator: u8) -> u8
+    ensures { λ r. ⌜ r ≡ kindTag (operatorKind operator) ⌝ }
+{
+    if operator == 1 { 0x20 } else { 0x21 }
+}
+
+// One clause more, whose query has `len` bytes. One that analyzes to nothing is not kept, yet its conjunction alters the one before.
+pub fn added(s: Sum, operator: u8, c: u8, m: u8, len: usize) -> Sum
+    requires { ⌜ (s .count ≤ 100000) × (s .bytes + len ≤ 1000000) ⌝ }
+    ensures sums { λ r. ⌜ ((cs : Clauses) (q : Made) → Sums cs (s .count) (s .tag) (s .bytes) → len ≡ madeLength q → Sums (withMade operator (conjunctionOf c) (modifierOf m) cs q) (r .count) (r .tag) (r .bytes)) ⌝ }
+    ensures bound { λ r. ⌜ (r .bytes ≤ s .bytes + len + 3) × (3 * s .count ≤ s .bytes → 3 * r .count ≤ r .bytes) ⌝ }
+{
+    if len == 0 {
+        return Sum {
+            count: s.count,
+            tag: tag_before(operator, c, s.tag),
+            bytes: s.bytes,
+        };
+    }
+    Sum {
+        count: s.count + 1,
+        tag: tag_after(operator, c, m),
+        bytes: s.bytes + 3 + len,
+    }
+}

@@ -1,0 +1,212 @@
+// The measuring pass: it follows the grammar and answers a refusal, or lengths. It writes nothing, so that a refusal
+// leaves the output as it was and the length of the whole is known before the first byte is written.
+// The field in force is handed down as a number: 0 for the default field, k + 1 for the text of token k.
+use crate::counted::Counted;
+use crate::counted::query_len;
+use crate::kinds;
+use crate::kinds::Measured;
+use crate::kinds::Sum;
+use crate::kinds::is_at;
+use crate::leaf::leaf_len;
+use crate::start::Start;
+use crate::start::clause_start;
+use crate::start::one_at;
+use boost::numeral::fault;
+use lexer::row::field_part;
+use lexer::row::kind_at;
+use lexer::row::text_at;
+ghost use mathlib.Core.Path.{_≡_};
+ghost use mathlib.Core.Bool.{true};
+ghost use Prim.Native.Nat.{ℕ, suc, _+_, _*_, _-_, _≤_, _<_};
+ghost use lib.ListN.{length};
+ghost use Rattle.rules.specs.Numbers.{textMost, number, Read, onRead, andThen};
+ghost use Rattle.rules.specs.Setup.{Setup};
+ghost use Rattle.rules.specs.Parsing.{Made, Kept, isAt, boostAt, closedAt, queryFound};
+ghost use Rattle.lexer.specs.Row.{tokensOf, nameFrom};
+ghost use Rattle.clauses.specs.Kinds.{madeLength};
+ghost use Rattle.clauses.specs.Leaves.{leafKind, leafFault, leafAt};
+ghost use Rattle.clauses.specs.Measured.{Rowed, Fielded, Tuned, MeansFound, MeansKept, WithinClause, WithinClauses, MeantClause, MeantClauses};
+ghost use Rattle.clauses.specs.Starting.{WithinBoost};
+
+// A boost of what analyzes to nothing is nothing.
+fn boosted_len(len: usize) -> usize
+    requires { ⌜ len ≤ 1000000 ⌝ }
+    ensures { λ r. ⌜ (r ≤ len + 7) × ((len ≡ 0 → r ≡ 0) × ((len ≡ 0 → ⊥) → r ≡ 7 + len)) ⌝ }
+{
+    if len == 0 {
+        return 0;
+    }
+    7 + len
+}
+
+// A boost may follow at i what has `len` bytes.
+fn with_boost(room: &[u8], n: usize, len: usize, i: usize) -> Measured
+    requires { ⌜ (Rowed (now room) n) × (i ≤ n) × (len ≤ 1000000) ⌝ }
+    ensures means { λ r. ⌜ ((st : Setup) (m : Made) → len ≡ madeLength m → MeansFound r (boostAt st (tokensOf (now (room .entry)) n) m i)) ⌝ }
+    ensures within { λ r. ⌜ WithinBoost (tokensOf (now (room .entry)) n) n i len r ⌝ }
+{
+    if is_at(room, n, 11, i) {
+        if is_at(room, n, 1, i + 1) {
+            let e = fault(text_at(room, i + 1));
+            if e != 0 {
+                return Measured::Refused(e);
+            }
+            return Measured::Clause {
+                len: boosted_len(len),
+                next: i + 2,
+            };
+        }
+        return Measured::Refused(14);
+    }
+    Measured::Clause { len: len, next: i }
+}
+
+// The refusal of a tilde behind a term, or behind a quote.
+fn leaf_fault(plain: bool) -> u8
+    ensures { λ r. ⌜ r ≡ number (leafFault plain) ⌝ }
+{
+    if plain {
+        return 8;
+    }
+    9
+}
+
+// The term or the quote at i, in the field in force.
+fn measure_leaf<'a>(
+    room: &'a [u8],
+    n: usize,
+    default: &'a [u8],
+    from: usize,
+    analyzer: u8,
+    plain: bool,
+    i: usize,
+) -> Measured
+    requires { ⌜ (Rowed (now room) n) × (Fielded (now room) n (now default) from) × (isAt (leafKind plain) (tokensOf (now room) n) i ≡ true) × (i ≤ 4000) ⌝ }
+    ensures means { λ r. ⌜ ((st : Setup) (o : ℕ) → Tuned st o (now (room .entry)) n (now (default .entry)) from analyzer → MeansFound r (leafAt plain st (tokensOf (now (room .entry)) n) (nameFrom (now (room .entry)) (now (default .entry)) from) i)) ⌝ }
+    ensures within { λ r. ⌜ WithinClause (tokensOf (now (room .entry)) n) n i r ⌝ }
+{
+    if is_at(room, n, 12, i + 1) {
+        return Measured::Refused(leaf_fault(plain));
+    }
+    let field = field_part(room, default, from);
+    let text = text_at(room, i);
+    let one = one_at(room, n, i, analyzer);
+    let len = leaf_len(plain, one, text, analyzer, field.len());
+    if is_at(room, n, 11, i + 1) {
+        return with_boost(room, n, len, i + 1);
+    }
+    Measured::Clause {
+        len: len,
+        next: i + 1,
+    }
+}
+
+// What a query in brackets gives, from its clauses: the bracket closes, and a boost may follow.
+fn closing(room: &[u8], n: usize, g: Counted) -> Measured
+    requires { ⌜ (Rowed (now room) n) × ((i : ℕ) × WithinClauses (tokensOf (now room) n) n i g) ⌝ }
+    ensures means { λ r. ⌜ ((st : Setup) (o : Read Kept) → MeansKept g o → MeansFound r (andThen (onRead queryFound o) (closedAt st (tokensOf (now (room .entry)) n)))) ⌝ }
+    ensures within { λ r. ⌜ ((i : ℕ) → i < n → WithinClauses (tokensOf (now (room .entry)) n) n (i + 1) g → WithinClause (tokensOf (now (room .entry)) n) n i r) ⌝ }
+{
+    match g {
+        Counted::Fault(e) => Measured::Refused(e),
+        Counted::Clauses {
+            count,
+            tag,
+            bytes,
+            next,
+        } => {
+            if is_at(room, n, 10, next) {
+                return with_boost(room, n, query_len(count, tag, bytes), next + 1);
+            }
+            Measured::Refused(12)
+        }
+    }
+}
+
+// One clause at i, below `depth` open brackets.
+fn measure_clause<'a>(
+    room: &'a [u8],
+    n: usize,
+    default: &'a [u8],
+    operator: u8,
+    from: usize,
+    analyzer: u8,
+    depth: usize,
+    i: usize,
+) -> Measured
+    requires { ⌜ (Rowed (now room) n) × (Fielded (now room) n (now default) from) × (i ≤ 2000) × (depth ≤ 24) ⌝ }
+    ensures means { λ r. ⌜ ((st : Setup) → Tuned st operator (now (room .entry)) n (now (default .entry)) from analyzer → MeantClause st (tokensOf (now (room .entry)) n) n (nameFrom (now (room .entry)) (now (default .entry)) from) depth i r) ⌝ }
+    ensures within { λ r. ⌜ WithinClause (tokensOf (now (room .entry)) n) n i r ⌝ }
+{
+    match clause_start(room, n, from, analyzer, i) {
+        Start::Long => Measured::Refused(15),
+        Start::At { from, analyzer, i } => {
+            let t = kind_at(room, n, i);
+            if t == 1 || t == 2 {
+                return measure_leaf(room, n, default, from, analyzer, t == 1, i);
+            }
+            if t == 9 {
+                if depth < 24 {
+                    let g = measure_query(
+                        room,
+                        n,
+                        default,
+                        operator,
+                        from,
+                        analyzer,
+                        depth + 1,
+                        i + 1,
+                    );
+                    return closing(room, n, g);
+                }
+                return Measured::Refused(16);
+            }
+            if t == 0 {
+                return Measured::Refused(10);
+            }
+            Measured::Refused(11)
+        }
+    }
+}
+
+// The clauses from `at` on, up to a closing bracket or the end.
+pub fn measure_query<'a>(
+    room: &'a [u8],
+    n: usize,
+    default: &'a [u8],
+    operator: u8,
+    from: usize,
+    analyzer: u8,
+    depth: usize,
+    at: usize,
+) -> Counted
+    requires { ⌜ (Rowed (now room) n) × (Fielded (now room) n (now default) from) × (at ≤ n) × (depth ≤ 24) ⌝ }
+    ensures means { λ r. ⌜ ((st : Setup) → Tuned st operator (now (room .entry)) n (now (default .entry)) from analyzer → MeantClauses st (tokensOf (now (room .entry)) n) n (nameFrom (now (room .entry)) (now (default .entry)) from) depth at r) ⌝ }
+    ensures within { λ r. ⌜ WithinClauses (tokensOf (now (room .entry)) n) n at r ⌝ }
+{
+    let mut i = at;
+    let mut s = Sum {
+        count: 0,
+        tag: 0,
+        bytes: 0,
+    };
+    while kinds::more_at(room, n, i) {
+        let c = kinds::conjunction_at(room, n, 0 < s.count, i);
+        let j = kinds::after(c, i);
+        let m = kinds::modifier_at(room, n, j);
+        let k = kinds::after(m, j);
+        match measure_clause(room, n, default, operator, from, analyzer, depth, k) {
+            Measured::Refused(e) => return Counted::Fault(e),
+            Measured::Clause { len, next } => {
+                s = kinds::added(s, operator, c, m, len);
+                i = next;
+            }
+        }
+    }
+    Counted::Clauses {
+        count: s.count,
+        tag: s.tag,
+        bytes: s.bytes,
+        next: i,
+    }
+}

@@ -1,0 +1,315 @@
+// The writing pass, run only when measuring met no fault and the output is long enough. The body of a clause is written
+// first, behind three bytes that are left for its header, and the header afterwards, when its length is known. Only a query in brackets
+// is measured once more: whether it stands alone must be known first, and it is lent the stretch that it fills exactly.
+use crate::counted::Counted;
+use crate::counted::is_alone;
+use crate::counted::query_len;
+use crate::kinds;
+use crate::kinds::is_at;
+use crate::leaf::write_text;
+use crate::measure::measure_query;
+use crate::start::Start;
+use crate::start::clause_start;
+use crate::start::one_at;
+use boost::numeral::Answer;
+use boost::numeral::numeral;
+use lexer::row::field_part;
+use lexer::row::text_at;
+use parts::big::put_big4;
+use parts::write::put_header;
+use parts::write::put_minimum;
+ghost use mathlib.Core.Path.{_≡_};
+ghost use mathlib.Core.Bool.{false};
+ghost use Prim.Native.Nat.{ℕ, _+_, _-_, _≤_, _<_};
+ghost use mathlib.Core.List.{List};
+ghost use lib.ListN.{length};
+ghost use Rattle.rules.specs.Numbers.{textMost, got};
+ghost use Rattle.rules.specs.Query.{Clauses};
+ghost use Rattle.rules.specs.Lexing.{termKind};
+ghost use Rattle.rules.specs.Numerals.{numeralBits};
+ghost use Rattle.rules.specs.Setup.{Setup};
+ghost use Rattle.rules.specs.Parsing.{Made, found, isAt, textAt, boostAt, queryOf};
+ghost use Rattle.parts.specs.Laid.{Put};
+ghost use Rattle.lexer.specs.Row.{roomLeast, tokensOf};
+ghost use Rattle.clauses.specs.Kinds.{madeBytes};
+ghost use Rattle.clauses.specs.Measured.{Rowed, Fielded};
+ghost use Rattle.clauses.specs.Written.{bitsIn, boostSize, bodyStart, boolFront, PutUnless, Touches, LeafToWrite, BracketToWrite, ClauseToWrite, QueryToWrite};
+
+// The bits of the numeral at the token i.
+fn bits_at(room: &[u8], n: usize, i: usize) -> u32
+    requires { ⌜ (Rowed (now room) n) × (i < n) ⌝ }
+    ensures { λ r. ⌜ r ≡ bitsIn (numeralBits (textAt (tokensOf (now (room .entry)) n) i)) ⌝ }
+{
+    match numeral(text_at(room, i)) {
+        Answer::Refused(_) => 0,
+        Answer::Bits(b) => b,
+    }
+}
+
+// Where the bytes of what was written end, and the number of the next token.
+struct Wrote {
+    end: usize,
+    next: usize,
+}
+
+// How many bytes the front of a boost takes, where one stands at i.
+fn boost_size(room: &[u8], n: usize, i: usize) -> usize
+    requires { ⌜ (n ≤ textMost) × (roomLeast ≤ length (now room)) × (i ≤ 4000) ⌝ }
+    ensures { λ r. ⌜ r ≡ boostSize (tokensOf (now (room .entry)) n) i ⌝ }
+{
+    if is_at(room, n, 11, i) {
+        if is_at(room, n, 1, i + 1) {
+            return 7;
+        }
+    }
+    0
+}
+
+// What is boosted was laid from `start` to `end`: the front goes before it, to `at`, if a boost stands at i. A boost of nothing is nothing.
+fn put_boost(
+    room: &[u8],
+    n: usize,
+    i: usize,
+    out: &mut [u8],
+    at: usize,
+    start: usize,
+    end: usize,
+) -> Wrote
+    requires { ⌜ (Rowed (now room) n) × (i ≤ n) × (start ≡ at + boostSize (tokensOf (now room) n) i) × (start ≤ end) × (start < end → end ≤ length (now out)) × (length (now out) ≤ 65000) ⌝ }
+    ensures wrote { λ r. ⌜ ((st : Setup) (m w : Made) (j : ℕ) (before : List ℕ) → boostAt st (tokensOf (now (room .entry)) n) m i ≡ got (found w j) → Put before start (madeBytes m) end (now (out .entry)) → length before ≡ length (now (out .entry)) → (r .next ≡ j) × Put before at (madeBytes w) (r .end) (now (out .exit))) ⌝ }
+    ensures within { λ r. ⌜ (i ≤ r .next) × (r .next ≤ n) ⌝ }
+{
+    if start == at {
+        return Wrote { end: end, next: i };
+    }
+    if end == start {
+        return Wrote {
+            end: at,
+            next: i + 2,
+        };
+    }
+    let b = put_header(out, at, 0x04, end - at - 3);
+    put_big4(out, b, bits_at(room, n, i + 1));
+    Wrote {
+        end: end,
+        next: i + 2,
+    }
+}
+
+// The term or the quote at i.
+fn write_leaf<'a>(
+    room: &'a [u8],
+    n: usize,
+    default: &'a [u8],
+    operator: u8,
+    from: usize,
+    analyzer: u8,
+    plain: bool,
+    i: usize,
+    out: &mut [u8],
+    at: usize,
+) -> Wrote
+    requires { ⌜ (Rowed (now room) n) × (Fielded (now room) n (now default) from) × (i < n) × (at ≤ 65536) × (length (now out) ≤ 65000) × (plain ≡ isAt termKind (tokensOf (now room) n) i) × ((st : Setup) × (m : Made) × (j : ℕ) × LeafToWrite (now room) n (now default) operator from analyzer i at (length (now out)) st m j) ⌝ }
+    ensures wrote { λ r. ⌜ ((st : Setup) (m : Made) (j : ℕ) → LeafToWrite (now (room .entry)) n (now (default .entry)) operator from analyzer i at (length (now (out .entry))) st m j → (r .next ≡ j) × Put (now (out .entry)) at (madeBytes m) (r .end) (now (out .exit))) ⌝ }
+    ensures within { λ r. ⌜ (i < r .next) × (r .next ≤ n) ⌝ }
+{
+    let field = field_part(room, default, from);
+    let text = text_at(room, i);
+    let one = one_at(room, n, i, analyzer);
+    let size = boost_size(room, n, i + 1);
+    if size == 0 {
+        let end = write_text(plain, one, operator, field, analyzer, text, out, at);
+        return Wrote {
+            end: end,
+            next: i + 1,
+        };
+    }
+    let start = at + size;
+    let end = write_text(plain, one, operator, field, analyzer, text, out, start);
+    put_boost(room, n, i + 1, out, at, start, end)
+}
+
+// The front of a Boolean that fills the stretch; none where a query is its one clause.
+fn put_query_front(out: &mut [u8], alone: bool) -> usize
+    requires { ⌜ (alone ≡ false → 8 ≤ length (now out)) × (length (now out) ≤ 65000) ⌝ }
+    ensures { λ r. ⌜ PutUnless alone (now (out .entry)) 0 (boolFront (length (now (out .entry)))) r (now (out .exit)) ⌝ }
+{
+    if alone {
+        return 0;
+    }
+    let len = out.len() - 3;
+    let b = put_header(out, 0, 0x03, len);
+    put_minimum(out, b, 0)
+}
+
+// Where the body of a clause begins: behind its header, and at once where a query is its one clause.
+fn body_start(alone: bool, at: usize) -> usize
+    requires { ⌜ at ≤ 65000 ⌝ }
+    ensures { λ r. ⌜ r ≡ bodyStart alone at ⌝ }
+{
+    if alone {
+        return at;
+    }
+    at + 3
+}
+
+// The conjunction c alters the kind of the clause that was kept last, whose header stands at `last`.
+fn touch_last(out: &mut [u8], kept: bool, last: usize, operator: u8, c: u8)
+    requires { ⌜ last < length (now out) ⌝ }
+    ensures { λ _. ⌜ Touches kept last operator c (now (out .entry)) (now (out .exit)) ⌝ }
+{
+    if kept {
+        let tag = out[last];
+        out[last] = kinds::tag_before(operator, c, tag);
+    }
+}
+
+// The query in brackets from i on, below `depth` open brackets, and a boost behind it.
+fn write_bracket<'a>(
+    room: &'a [u8],
+    n: usize,
+    default: &'a [u8],
+    operator: u8,
+    from: usize,
+    analyzer: u8,
+    depth: usize,
+    i: usize,
+    out: &mut [u8],
+    at: usize,
+) -> Wrote
+    requires { ⌜ (Rowed (now room) n) × (Fielded (now room) n (now default) from) × (i ≤ n) × (depth ≤ 24) × (at ≤ 65536) × (length (now out) ≤ 65000) × ((st : Setup) × (m : Made) × (j : ℕ) × BracketToWrite (now room) n (now default) operator from analyzer depth i at (length (now out)) st m j) ⌝ }
+    ensures wrote { λ r. ⌜ ((st : Setup) (m : Made) (j : ℕ) → BracketToWrite (now (room .entry)) n (now (default .entry)) operator from analyzer depth i at (length (now (out .entry))) st m j → (r .next ≡ j) × Put (now (out .entry)) at (madeBytes m) (r .end) (now (out .exit))) ⌝ }
+    ensures within { λ r. ⌜ (i < r .next) × (r .next ≤ n) ⌝ }
+{
+    match measure_query(room, n, default, operator, from, analyzer, depth, i) {
+        Counted::Fault(_) => Wrote { end: at, next: i },
+        Counted::Clauses {
+            count,
+            tag,
+            bytes,
+            next,
+        } => {
+            let len = query_len(count, tag, bytes);
+            let start = at + boost_size(room, n, next + 1);
+            let end = start + len;
+            if len == 0 {
+                return put_boost(room, n, next + 1, out, at, start, start);
+            }
+            write_query(
+                room,
+                n,
+                default,
+                operator,
+                from,
+                analyzer,
+                depth,
+                i,
+                is_alone(count, tag),
+                &mut out[start..end],
+            );
+            put_boost(room, n, next + 1, out, at, start, end)
+        }
+    }
+}
+
+// One clause at i, below `depth` open brackets: where its bytes end, and the next token. Nothing is written where it analyzes to nothing.
+fn write_clause<'a>(
+    room: &'a [u8],
+    n: usize,
+    default: &'a [u8],
+    operator: u8,
+    from: usize,
+    analyzer: u8,
+    depth: usize,
+    i: usize,
+    out: &mut [u8],
+    at: usize,
+) -> Wrote
+    requires { ⌜ (Rowed (now room) n) × (Fielded (now room) n (now default) from) × (i ≤ 2000) × (depth ≤ 24) × (at ≤ 65536) × (length (now out) ≤ 65000) × ((st : Setup) × (m : Made) × (j : ℕ) × ClauseToWrite (now room) n (now default) operator from analyzer depth i at (length (now out)) st m j) ⌝ }
+    ensures wrote { λ r. ⌜ ((st : Setup) (m : Made) (j : ℕ) → ClauseToWrite (now (room .entry)) n (now (default .entry)) operator from analyzer depth i at (length (now (out .entry))) st m j → (r .next ≡ j) × Put (now (out .entry)) at (madeBytes m) (r .end) (now (out .exit))) ⌝ }
+    ensures within { λ r. ⌜ (i < r .next) × (r .next ≤ n) ⌝ }
+{
+    match clause_start(room, n, from, analyzer, i) {
+        Start::Long => Wrote { end: at, next: i },
+        Start::At { from, analyzer, i } => {
+            if !is_at(room, n, 9, i) {
+                let plain = is_at(room, n, 1, i);
+                return write_leaf(
+                    room,
+                    n,
+                    default,
+                    operator,
+                    from,
+                    analyzer,
+                    plain,
+                    i,
+                    out,
+                    at,
+                );
+            }
+            write_bracket(
+                room,
+                n,
+                default,
+                operator,
+                from,
+                analyzer,
+                depth + 1,
+                i + 1,
+                out,
+                at,
+            )
+        }
+    }
+}
+
+// The clauses from `at` on: one that stands for itself, or a Boolean of all that are kept.
+pub fn write_query<'a>(
+    room: &'a [u8],
+    n: usize,
+    default: &'a [u8],
+    operator: u8,
+    from: usize,
+    analyzer: u8,
+    depth: usize,
+    at: usize,
+    alone: bool,
+    out: &mut [u8],
+)
+    requires { ⌜ (Rowed (now room) n) × (Fielded (now room) n (now default) from) × (at ≤ n) × (depth ≤ 24) × (0 < length (now out)) × (length (now out) ≤ 65000) × ((st : Setup) × (cs : Clauses) × (j : ℕ) × QueryToWrite (now room) n (now default) operator from analyzer depth at alone (length (now out)) st cs j) ⌝ }
+    ensures { λ _. ⌜ ((st : Setup) (cs : Clauses) (j : ℕ) → QueryToWrite (now (room .entry)) n (now (default .entry)) operator from analyzer depth at alone (length (now (out .entry))) st cs j → now (out .exit) ≡ madeBytes (queryOf cs)) ⌝ }
+{
+    let mut w = put_query_front(out, alone);
+    let mut last = 0;
+    let mut i = at;
+    while kinds::more_at(room, n, i) {
+        let c = kinds::conjunction_at(room, n, 8 < w, i);
+        let j = kinds::after(c, i);
+        let m = kinds::modifier_at(room, n, j);
+        let k = kinds::after(m, j);
+        touch_last(out, 8 < w, last, operator, c);
+        let start = body_start(alone, w);
+        let r = write_clause(
+            room,
+            n,
+            default,
+            operator,
+            from,
+            analyzer,
+            depth,
+            k,
+            out,
+            start,
+        );
+        i = r.next;
+        if r.end == start {
+            continue;
+        }
+        if alone {
+            return;
+        }
+        put_header(out, w, kinds::tag_after(operator, c, m), r.end - start);
+        last = w;
+        w = r.end;
+    }
+}
