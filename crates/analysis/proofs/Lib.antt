@@ -1,10 +1,7 @@
-pub mod Tables
-pub mod Comparing
 pub mod Spans
 pub mod Steps
 pub mod Chunks
 pub mod Walks
 pub mod Words
-pub mod Rows
 pub mod Spelling
 pub mod Only

@@ -13,7 +13,7 @@ use Rattle.rules.specs.Analysis.{front, after, isLetter, lowercase, tokenTexts}
 use Rattle.rules.proofs.Pieces.{outside, front-nil, front-yes, after-nil, after-no, all-nil, all-cons, all-one}
 use Rattle.rules.proofs.Tokens.{inWord, whitespace-none, whitespace-step, simple-none, simple-step, keyword-step}
 use Rattle.analysis.specs.Tokens.{spelled, OneWord}
-use Rattle.analysis.proofs.Comparing.{letter-in-word}
+use Rattle.classes.proofs.Comparing.{letter-in-word}
 
 module _ (P : ℕ → Bool) where
   front-whole : (t : List ℕ) → all P t ≡ true → front P t ≡ t

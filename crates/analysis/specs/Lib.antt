@@ -1,3 +1,1 @@
-pub mod Classes
 pub mod Tokens
-pub mod Fields

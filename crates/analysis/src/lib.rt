@@ -1,4 +1,2 @@
-// Text analysis: the classes of bytes, the tokens of a text under an analyzer, and the analyzer of a field.
-pub mod classes;
-pub mod fields;
+// Text analysis: the tokens of a text under an analyzer.
 pub mod tokens;

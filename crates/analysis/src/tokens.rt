@@ -1,5 +1,4 @@
 // Tokens of a text, one after the other and without a copy: a token is a part of the text, lowercased where it is written out.
-use crate::classes;
 ghost use mathlib.Core.Path.{_≡_};
 ghost use Prim.Native.Nat.{_≤_, _+_, _-_, min};
 ghost use mathlib.Core.Bool.{true, false};

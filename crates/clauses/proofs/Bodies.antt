@@ -17,16 +17,16 @@ use Rattle.rules.specs.Numerals.{numeralBits}
 use Rattle.rules.specs.Setup.{Setup, analyzerOf}
 use Rattle.rules.specs.Parsing.{Made, nothing, made, Found, found, onMade, Kept, kept, tokenOf, isAt, textAt, termOf, phraseOf, boostAt, plainAt, quotedAt, closedAt, bracketAt, bodyAt, clauseAt, queryFound, queryOf, parseClauses}
 use Rattle.rules.proofs.Sizes.{length-boost, length-encode}
-use Rattle.lexer.specs.Row.{tokenAt, tokensOf, nameFrom}
+use Rattle.row.specs.Row.{tokenAt, tokensOf, nameFrom}
 use Rattle.clauses.specs.Leaves.{leafOf, leafKind, leafFault, leafAt}
-use Rattle.clauses.specs.Kinds.{madeLength}
+use Rattle.counted.specs.Kinds.{madeLength}
 use Rattle.clauses.specs.Measured.{Says, placeAt, Rowed, isNamed, noteAt, MeansFound, WithinClause, WithinClauses, MeantClause}
 use Rattle.clauses.specs.Starting.{Started, WithinBoost}
 use Rattle.boost.specs.Numeral.{answerOf}
 use Rattle.boost.specs.declared.numeral.Answer.the-variants as answer
 use Rattle.clauses.specs.declared.kinds.Measured.{Measured}
 use Rattle.clauses.specs.declared.kinds.Measured.the-variants.{Refused, Clause}
-use Rattle.clauses.specs.declared.counted.Counted.the-variants.{Clauses as Many}
+use Rattle.counted.specs.declared.Counted.the-variants.{Clauses as Many}
 use Rattle.clauses.proofs.Rows.{text-is, named-in, place-up, place-on, place-text}
 
 -- ---- where a clause begins

@@ -18,13 +18,13 @@ use Rattle.rules.specs.Parsing.{Made, nothing, made, Found, found, Kept, kept, 
 use Rattle.rules.proofs.Bools.{clash}
 use Rattle.rules.proofs.Refusals.{no-got}
 use Rattle.rules.proofs.Sizes.{length-boolean}
-use Rattle.parts.specs.Laid.{laid, Put, header}
-use Rattle.parts.proofs.Laying.{laid-front, laid-all, laid-over, put-then}
-use Rattle.clauses.specs.Kinds.{conjunctionOf, modifierOf, isKept, lastTag, bytesOf, isAlone, madeBytes, madeLength, withMade}
+use Rattle.numbers.specs.Laid.{laid, Put, header}
+use Rattle.numbers.proofs.Laying.{laid-front, laid-all, laid-over, put-then}
+use Rattle.counted.specs.Kinds.{conjunctionOf, modifierOf, isKept, lastTag, bytesOf, isAlone, madeBytes, madeLength, withMade}
 use Rattle.clauses.specs.Measured.{clauseRun, clausesRun}
 use Rattle.clauses.specs.Written.{Eventually, boolFront, Touches}
-use Rattle.clauses.proofs.Deciding.{length-touched}
-use Rattle.clauses.proofs.Keeping.{all-in-order, several-is}
+use Rattle.counted.proofs.Deciding.{length-touched}
+use Rattle.counted.proofs.Keeping.{all-in-order, several-is}
 use Rattle.clauses.proofs.Steps.{Lead, run-is, added-is}
 use Rattle.clauses.proofs.Fuel.{clause-fuel}
 use Rattle.clauses.proofs.Fronts.{head-before}

@@ -19,9 +19,9 @@ use Rattle.rules.proofs.Bools.{split, and-l, and-r, both, clash}
 use Rattle.rules.proofs.Bigs.{length-big}
 use Rattle.rules.proofs.Refusals.{no-got}
 use Rattle.rules.proofs.Sizes.{length-encode, length-boost}
-use Rattle.parts.specs.Laid.{laid, Put, header}
-use Rattle.parts.proofs.Laying.{before-laid, from-laid, laid-none, put-then}
-use Rattle.clauses.specs.Kinds.{madeBytes, madeLength}
+use Rattle.numbers.specs.Laid.{laid, Put, header}
+use Rattle.numbers.proofs.Laying.{before-laid, from-laid, laid-none, put-then}
+use Rattle.counted.specs.Kinds.{madeBytes, madeLength}
 use Rattle.clauses.specs.Written.{bitsIn, isBoosted, boostSize, HasRoom}
 use Rattle.clauses.proofs.Bodies.{boost-none, boost-missing, boost-refused, boost-got}
 

@@ -15,12 +15,12 @@ use Rattle.rules.specs.Setup.{Setup}
 use Rattle.rules.specs.Parsing.{Made, nothing, made, found, kept, stopsAt, kindAfter, queryOf}
 use Rattle.rules.proofs.Bools.{clash}
 use Rattle.rules.proofs.Sizes.{length-encode}
-use Rattle.parts.specs.Laid.{laid, Put, header}
-use Rattle.parts.proofs.Laying.{laid-all}
-use Rattle.clauses.specs.Kinds.{conjunctionOf, modifierOf, isKept, bytesOf, isAlone, madeBytes, madeLength}
+use Rattle.numbers.specs.Laid.{laid, Put, header}
+use Rattle.numbers.proofs.Laying.{laid-all}
+use Rattle.counted.specs.Kinds.{conjunctionOf, modifierOf, isKept, bytesOf, isAlone, madeBytes, madeLength}
 use Rattle.clauses.specs.Measured.{clauseRun, clausesRun}
 use Rattle.clauses.specs.Written.{Eventually, HasRoom, boolFront, PutUnless, bodyStart, Touches}
-use Rattle.clauses.proofs.Keeping.{alone-is}
+use Rattle.counted.proofs.Keeping.{alone-is}
 use Rattle.clauses.proofs.Steps.{Lead}
 use Rattle.clauses.proofs.Filling.{Filling, grows, ev-clause, filled-wide, filled-last, several-size, several-bytes, filling-start, filling-clause, filling-room, filling-nothing, filling-made, filling-ends, first-none, first-nothing, first-made}
 use Rattle.clauses.proofs.Fronts.{put-nothing}

@@ -1,6 +1,4 @@
-pub mod Deciding
 pub mod Tallying
-pub mod Keeping
 pub mod Rows
 pub mod Bodies
 pub mod Steps

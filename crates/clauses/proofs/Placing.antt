@@ -20,16 +20,16 @@ use Rattle.rules.specs.Setup.{Setup, analyzerOf}
 use Rattle.rules.specs.Parsing.{Made, Found, found, Kept, kept, isAt, textAt, boostAt, plainAt, quotedAt, closedAt, bracketAt, bodyAt, queryFound, queryOf, parseClauses}
 use Rattle.rules.proofs.Bools.{clash, split}
 use Rattle.rules.proofs.Refusals.{no-got}
-use Rattle.lexer.specs.Row.{tokensOf, nameFrom}
-use Rattle.parts.specs.Laid.{laid, Put}
-use Rattle.parts.proofs.Laying.{lent, length-laid}
-use Rattle.clauses.specs.Kinds.{isAlone, madeLength, Sums}
+use Rattle.row.specs.Row.{tokensOf, nameFrom}
+use Rattle.numbers.specs.Laid.{laid, Put}
+use Rattle.numbers.proofs.Laying.{lent, length-laid}
+use Rattle.counted.specs.Kinds.{isAlone, madeLength, Sums}
 use Rattle.clauses.specs.Leaves.{leafOf, leafAt}
 use Rattle.clauses.specs.Measured.{clausesRun, MeansKept, MeantClauses}
 use Rattle.clauses.specs.Starting.{Started}
 use Rattle.clauses.specs.Written.{Eventually, LeafToWrite, BracketToWrite, ClauseToWrite, QueryToWrite}
-use Rattle.clauses.specs.declared.counted.Counted.{Counted}
-use Rattle.clauses.specs.declared.counted.Counted.the-variants.{Fault, Clauses as Many}
+use Rattle.counted.specs.declared.Counted.{Counted}
+use Rattle.counted.specs.declared.Counted.the-variants.{Fault, Clauses as Many}
 use Rattle.clauses.proofs.Rows.{kind-in}
 use Rattle.clauses.proofs.Bodies.{leaf-faulty, leaf-goes, close-fault, close-missing, close-goes}
 

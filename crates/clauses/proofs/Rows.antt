@@ -15,7 +15,7 @@ use Rattle.rules.specs.Numbers.{textMost}
 use Rattle.rules.specs.Lexing.{Token, endKind}
 use Rattle.rules.specs.Parsing.{tokenOf, isAt, textAt, stopsAt}
 use Rattle.rules.proofs.Bools.{clash, split, and-l, neither, or-r}
-use Rattle.lexer.specs.Row.{tokenAt, tokensOf, nameFrom}
+use Rattle.row.specs.Row.{tokenAt, tokensOf, nameFrom}
 use Rattle.clauses.specs.Measured.{placeAt, Spaced, Rowed, isNamed}
 
 pub tokens-length : (room : List ℕ) (n : ℕ) → length (tokensOf room n) ≡ n

@@ -12,13 +12,13 @@ use Rattle.rules.specs.Query.{Clauses, none, clause}
 use Rattle.rules.specs.Lexing.{Token}
 use Rattle.rules.specs.Setup.{Setup}
 use Rattle.rules.specs.Parsing.{Made, nothing, made, Found, found, Kept, kept, isAt, stopsAt, Conjunction, unjoined, joinedByAnd, joinedByOr, Modifier, unmodified, required, prohibited, conjunctionAt, afterConjunction, modifierAt, afterModifier, touched, kindAfter, addClause, queryFound, clauseAt, parseClauses}
-use Rattle.clauses.specs.Kinds.{conjunctionOf, modifierOf, isKept, countOf, bytesOf, madeLength, withMade, Sums}
-use Rattle.lexer.specs.Row.{tokensOf}
+use Rattle.counted.specs.Kinds.{conjunctionOf, modifierOf, isKept, countOf, bytesOf, madeLength, withMade, Sums}
+use Rattle.row.specs.Row.{tokensOf}
 use Rattle.clauses.specs.Measured.{Says, placeAt, Rowed, clauseRun, clausesRun, MeansFound, MeansKept, WithinClause, WithinClauses, MeantClause, MeantClauses}
 use Rattle.clauses.specs.declared.kinds.Measured.{Measured}
 use Rattle.clauses.specs.declared.kinds.Measured.the-variants.{Refused, Clause}
-use Rattle.clauses.specs.declared.counted.Counted.{Counted}
-use Rattle.clauses.specs.declared.counted.Counted.the-variants.{Fault, Clauses as Many}
+use Rattle.counted.specs.declared.Counted.{Counted}
+use Rattle.counted.specs.declared.Counted.the-variants.{Fault, Clauses as Many}
 use Rattle.clauses.proofs.Rows.{kind-in, goes-in, place-near, place-most}
 
 -- ---- what was read before a clause

@@ -17,7 +17,7 @@ use Rattle.rules.proofs.Sizes.{length-word, length-term, length-phrase, length-
 use Rattle.rules.proofs.Pieces.{total}
 use Rattle.rules.proofs.Tokens.{tokens-total, tokens-most}
 use Rattle.analysis.specs.Tokens.{Found, spelled}
-use Rattle.clauses.specs.Kinds.{madeBytes, madeLength}
+use Rattle.counted.specs.Kinds.{madeBytes, madeLength}
 use Rattle.clauses.specs.Leaves.{tallied, Tallied, leafOf}
 
 -- ---- a token at a time

@@ -18,9 +18,9 @@ use Rattle.rules.specs.Parsing.{Made, nothing, made, operatorKind, termClauses,
 use Rattle.rules.proofs.Bigs.{length-big}
 use Rattle.rules.proofs.Sizes.{length-term, length-phrase, length-boolean, length-encode}
 use Rattle.analysis.specs.Tokens.{Found, spelled, writtenByte}
-use Rattle.parts.specs.Laid.{Put, header}
-use Rattle.parts.proofs.Laying.{laid-none, put-then, put-body, copy-turn, copy-end}
-use Rattle.clauses.specs.Kinds.{madeBytes, madeLength}
+use Rattle.numbers.specs.Laid.{Put, header}
+use Rattle.numbers.proofs.Laying.{laid-none, put-then, put-body, copy-turn, copy-end}
+use Rattle.counted.specs.Kinds.{madeBytes, madeLength}
 use Rattle.clauses.specs.Leaves.{termRow, leafOf}
 use Rattle.clauses.specs.Written.{HasRoom}
 use Rattle.clauses.proofs.Tallying.{spelled-length}

@@ -1,4 +1,3 @@
-pub mod Kinds
 pub mod Measured
 pub mod Leaves
 pub mod Starting

@@ -9,12 +9,12 @@ use Rattle.rules.specs.Query.{Clauses, none}
 use Rattle.rules.specs.Lexing.{Token, endKind, termKind, colonKind}
 use Rattle.rules.specs.Setup.{Setup, analyzerOf}
 use Rattle.rules.specs.Parsing.{Made, Found, found, Kept, kept, isAt, textAt, queryFound, clauseAt, parseClauses}
-use Rattle.lexer.specs.Row.{roomLeast, noteIn, tokensOf, Laid, Worded, nameFrom}
-use Rattle.clauses.specs.Kinds.{Sums, madeLength}
+use Rattle.row.specs.Row.{roomLeast, noteIn, tokensOf, Laid, Worded, nameFrom}
+use Rattle.counted.specs.Kinds.{Sums, madeLength}
 use Rattle.clauses.specs.declared.kinds.Measured.{Measured}
 use Rattle.clauses.specs.declared.kinds.Measured.the-variants.{Refused, Clause}
-use Rattle.clauses.specs.declared.counted.Counted.{Counted}
-use Rattle.clauses.specs.declared.counted.Counted.the-variants.{Fault, Clauses as Many}
+use Rattle.counted.specs.declared.Counted.{Counted}
+use Rattle.counted.specs.declared.Counted.the-variants.{Fault, Clauses as Many}
 
 -- every fuel from m on gives r
 abbrev pub Says : {A : Type 0} → (ℕ → Read A) → ℕ → Read A → Type 0

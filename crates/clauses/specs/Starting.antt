@@ -6,7 +6,7 @@ use Rattle.rules.specs.Numbers.{Read, refused, longField}
 use Rattle.rules.specs.Lexing.{Token}
 use Rattle.rules.specs.Setup.{Setup}
 use Rattle.rules.specs.Parsing.{Found, clauseAt, bodyAt}
-use Rattle.lexer.specs.Row.{tokensOf, nameFrom}
+use Rattle.row.specs.Row.{tokensOf, nameFrom}
 use Rattle.clauses.specs.Measured.{placeAt, Fielded, Tuned}
 use Rattle.clauses.specs.declared.kinds.Measured.{Measured}
 use Rattle.clauses.specs.declared.kinds.Measured.the-variants.{Refused, Clause}

@@ -10,9 +10,9 @@ use Rattle.rules.specs.Query.{Clauses, none}
 use Rattle.rules.specs.Lexing.{Token, termKind, caretKind}
 use Rattle.rules.specs.Setup.{Setup}
 use Rattle.rules.specs.Parsing.{Made, Found, found, kept, isAt, closedAt, queryFound, queryOf, touched, parseClauses}
-use Rattle.parts.specs.Laid.{Put, header}
-use Rattle.lexer.specs.Row.{tokensOf, nameFrom}
-use Rattle.clauses.specs.Kinds.{conjunctionOf, lastTag, isAlone, madeLength}
+use Rattle.numbers.specs.Laid.{Put, header}
+use Rattle.row.specs.Row.{tokensOf, nameFrom}
+use Rattle.counted.specs.Kinds.{conjunctionOf, lastTag, isAlone, madeLength}
 use Rattle.clauses.specs.Leaves.{leafAt}
 use Rattle.clauses.specs.Measured.{Says, Tuned, clauseRun, clausesRun}
 

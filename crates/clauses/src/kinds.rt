@@ -1,6 +1,6 @@
 // Decisions on one token or on numbers alone: what joins clauses, what stands before one, which kind a clause gets.
 // A conjunction is 0 none, 1 AND, 2 OR; a modifier is 0 none, 1 required, 2 prohibited; a clause's kind is its tag.
-use lexer::row::kind_at;
+use row::kind_at;
 ghost use mathlib.Core.Path.{_≡_};
 ghost use mathlib.Core.Bool.{not};
 ghost use Prim.Native.Nat.{_+_, _*_, _≤_};
@@ -9,8 +9,8 @@ ghost use Rattle.rules.specs.Numbers.{textMost};
 ghost use Rattle.rules.specs.Query.{Clauses};
 ghost use Rattle.rules.specs.Parsing.{Made, stopsAt, isAt, conjunctionAt, afterConjunction, modifierAt, afterModifier, touched, kindAfter, operatorKind};
 ghost use Rattle.rules.specs.Stored.{kindTag};
-ghost use Rattle.lexer.specs.Row.{roomLeast, tokensOf};
-ghost use Rattle.clauses.specs.Kinds.{conjunctionOf, modifierOf, isKept, lastTag, madeLength, withMade, Sums};
+ghost use Rattle.row.specs.Row.{roomLeast, tokensOf};
+ghost use Rattle.counted.specs.Kinds.{conjunctionOf, modifierOf, isKept, lastTag, madeLength, withMade, Sums};
 ghost use Rattle.clauses.specs.Measured.{isNamed};
 
 pub const TERM: u8 = 1;

@@ -1,7 +1,7 @@
 // Terms and phrases: how long the query of a text is, and its bytes.
 use crate::kinds::operator_tag;
 use analysis::tokens;
-use parts::big::put_big4;
+use numbers::put_big4;
 use parts::write::put_header;
 use parts::write::put_minimum;
 use parts::write::put_part;
@@ -18,8 +18,8 @@ ghost use Rattle.rules.specs.Stored.{encode, encodeWords};
 ghost use Rattle.rules.specs.Analysis.{tokenTexts, tokenize};
 ghost use Rattle.rules.specs.Parsing.{operatorKind, termClauses, termOf, phraseOf};
 ghost use Rattle.analysis.specs.Tokens.{spelled};
-ghost use Rattle.parts.specs.Laid.{Put};
-ghost use Rattle.clauses.specs.Kinds.{madeLength, madeBytes};
+ghost use Rattle.numbers.specs.Laid.{Put};
+ghost use Rattle.counted.specs.Kinds.{madeLength, madeBytes};
 ghost use Rattle.clauses.specs.Leaves.{Tallied, termRow, leafOf};
 ghost use Rattle.clauses.specs.Written.{HasRoom};
 

@@ -1,8 +1,8 @@
 // The measuring pass: it follows the grammar and answers a refusal, or lengths. It writes nothing, so that a refusal
 // leaves the output as it was and the length of the whole is known before the first byte is written.
 // The field in force is handed down as a number: 0 for the default field, k + 1 for the text of token k.
-use crate::counted::Counted;
-use crate::counted::query_len;
+use counted::Counted;
+use counted::query_len;
 use crate::kinds;
 use crate::kinds::Measured;
 use crate::kinds::Sum;
@@ -12,9 +12,9 @@ use crate::start::Start;
 use crate::start::clause_start;
 use crate::start::one_at;
 use boost::numeral::fault;
-use lexer::row::field_part;
-use lexer::row::kind_at;
-use lexer::row::text_at;
+use row::field_part;
+use row::kind_at;
+use row::text_at;
 ghost use mathlib.Core.Path.{_≡_};
 ghost use mathlib.Core.Bool.{true};
 ghost use Prim.Native.Nat.{ℕ, suc, _+_, _*_, _-_, _≤_, _<_};
@@ -22,8 +22,8 @@ ghost use lib.ListN.{length};
 ghost use Rattle.rules.specs.Numbers.{textMost, number, Read, onRead, andThen};
 ghost use Rattle.rules.specs.Setup.{Setup};
 ghost use Rattle.rules.specs.Parsing.{Made, Kept, isAt, boostAt, closedAt, queryFound};
-ghost use Rattle.lexer.specs.Row.{tokensOf, nameFrom};
-ghost use Rattle.clauses.specs.Kinds.{madeLength};
+ghost use Rattle.row.specs.Row.{tokensOf, nameFrom};
+ghost use Rattle.counted.specs.Kinds.{madeLength};
 ghost use Rattle.clauses.specs.Leaves.{leafKind, leafFault, leafAt};
 ghost use Rattle.clauses.specs.Measured.{Rowed, Fielded, Tuned, MeansFound, MeansKept, WithinClause, WithinClauses, MeantClause, MeantClauses};
 ghost use Rattle.clauses.specs.Starting.{WithinBoost};

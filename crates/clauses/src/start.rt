@@ -1,16 +1,16 @@
 // Where a clause begins behind a field name, and whether the text of its token is known to be one token: both passes ask.
 use crate::kinds::is_named;
 use crate::leaf::is_one;
-use lexer::row::is_word_at;
-use lexer::row::note_at;
-use lexer::row::text_at;
+use row::is_word_at;
+use row::note_at;
+use row::text_at;
 ghost use mathlib.Core.Path.{_≡_};
 ghost use mathlib.Core.Bool.{true};
 ghost use mathlib.Core.List.{[], _∷_};
 ghost use Prim.Native.Nat.{_≤_, _<_};
 ghost use Rattle.rules.specs.Analysis.{tokenTexts};
 ghost use Rattle.analysis.specs.Tokens.{spelled};
-ghost use Rattle.lexer.specs.Row.{tokenAt};
+ghost use Rattle.row.specs.Row.{tokenAt};
 ghost use Rattle.clauses.specs.Measured.{Rowed};
 ghost use Rattle.clauses.specs.Starting.{Starts};
 

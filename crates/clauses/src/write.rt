@@ -1,9 +1,9 @@
 // The writing pass, run only when measuring met no fault and the output is long enough. The body of a clause is written
 // first, behind three bytes that are left for its header, and the header afterwards, when its length is known. Only a query in brackets
 // is measured once more: whether it stands alone must be known first, and it is lent the stretch that it fills exactly.
-use crate::counted::Counted;
-use crate::counted::is_alone;
-use crate::counted::query_len;
+use counted::Counted;
+use counted::is_alone;
+use counted::query_len;
 use crate::kinds;
 use crate::kinds::is_at;
 use crate::leaf::write_text;
@@ -13,9 +13,9 @@ use crate::start::clause_start;
 use crate::start::one_at;
 use boost::numeral::Answer;
 use boost::numeral::numeral;
-use lexer::row::field_part;
-use lexer::row::text_at;
-use parts::big::put_big4;
+use row::field_part;
+use row::text_at;
+use numbers::put_big4;
 use parts::write::put_header;
 use parts::write::put_minimum;
 ghost use mathlib.Core.Path.{_≡_};
@@ -29,9 +29,9 @@ ghost use Rattle.rules.specs.Lexing.{termKind};
 ghost use Rattle.rules.specs.Numerals.{numeralBits};
 ghost use Rattle.rules.specs.Setup.{Setup};
 ghost use Rattle.rules.specs.Parsing.{Made, found, isAt, textAt, boostAt, queryOf};
-ghost use Rattle.parts.specs.Laid.{Put};
-ghost use Rattle.lexer.specs.Row.{roomLeast, tokensOf};
-ghost use Rattle.clauses.specs.Kinds.{madeBytes};
+ghost use Rattle.numbers.specs.Laid.{Put};
+ghost use Rattle.row.specs.Row.{roomLeast, tokensOf};
+ghost use Rattle.counted.specs.Kinds.{madeBytes};
 ghost use Rattle.clauses.specs.Measured.{Rowed, Fielded};
 ghost use Rattle.clauses.specs.Written.{bitsIn, boostSize, bodyStart, boolFront, PutUnless, Touches, LeafToWrite, BracketToWrite, ClauseToWrite, QueryToWrite};
 

@@ -16,7 +16,7 @@ use Rattle.rules.specs.Answers.{Answer, Left, Reply, storedReply, fitting, leav
 use Rattle.rules.proofs.Refusals.{number-some}
 use Rattle.rules.proofs.rewriting.Measures.{weight-length}
 use Rattle.rules.proofs.Weights.{weight-some}
-use Rattle.parts.specs.Laid.{Put}
+use Rattle.numbers.specs.Laid.{Put}
 use Rattle.parser.specs.Parsed.{answerOf, leftOf, Parses}
 use Rattle.parser.specs.declared.parse.Parsed.{Parsed}
 use Rattle.parser.specs.declared.parse.Parsed.the-variants.{Refused, Bytes}

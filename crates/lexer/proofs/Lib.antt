@@ -1,5 +1,3 @@
-pub mod Rows
-pub mod Noting
 mod Words
 mod Flags
 mod Unescaped

@@ -16,7 +16,7 @@ use Rattle.rules.specs.Bytes.{ascii, some}
 use Rattle.rules.specs.Analysis.{isLetter}
 use Rattle.rules.specs.Lexing.{Piece, piece, Lexed, lexed, endKind, termKind, quotedKind, andKind, orKind, isQuote, isBracket, isWildcard, termText, quotedText, wordKind, wordLexed, termEnd, quotedEnd, termFrom, quotedFrom, signKind, doubled, tokenAt}
 use Rattle.rules.proofs.Bools.{clash, and-l, and-r, and-no-r}
-use Rattle.lexer.specs.Row.{wordNote}
+use Rattle.row.specs.Row.{wordNote}
 use Rattle.lexer.specs.Texts.{Spelled, Reads}
 use Rattle.lexer.specs.declared.texts.Ended.{Ended}
 use Rattle.lexer.specs.declared.texts.Ended.the-variants.{At}

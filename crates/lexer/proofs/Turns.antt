@@ -14,13 +14,13 @@ use Rattle.rules.specs.Lexing as lexing
 use Rattle.rules.proofs.Tokenizing.{tokensLeft, lex-left, left-none, left-space, left-refused, left-token, token-shorter, lex-few, lex-standing, Standing}
 use Rattle.rules.proofs.Refusals.{got-same}
 use Rattle.analysis.specs.Tokens.{OneWord}
-use Rattle.lexer.specs.Row.{roomLeast, entryAt, entry, tokensOf, LaidBelow, Laid, wordNote, Worded, Kept}
+use Rattle.row.specs.Row.{roomLeast, entryAt, entry, tokensOf, LaidBelow, Laid, wordNote, Worded, Kept}
 use Rattle.lexer.specs.Tokens.{Makes}
 use Rattle.lexer.specs.declared.tokens.Step.{Step}
 use Rattle.lexer.specs.declared.tokens.Step.the-variants as step
 use Rattle.lexer.specs.Lexing.{answerOf, Row}
 use Rattle.lexer.specs.declared.Lexed.the-variants.{Refused, Tokens}
-use Rattle.lexer.proofs.Rows.{length-tokens, read-tokens, read-laid, read-worded, put-tokens, put-laid, put-worded}
+use Rattle.row.proofs.Rows.{length-tokens, read-tokens, read-laid, read-worded, put-tokens, put-laid, put-worded}
 
 -- ---- the loop
 

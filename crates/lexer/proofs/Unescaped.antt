@@ -15,7 +15,7 @@ use Rattle.rules.specs.Bytes.{all}
 use Rattle.rules.specs.Analysis.{endsTerm, isLetter}
 use Rattle.rules.proofs.Bools.{split, clash, both, and-l, and-r}
 use Rattle.rules.proofs.Tokenizing.{Unescaping, term-unescapes, term-stop, quoted-stop}
-use Rattle.lexer.specs.Row.{roomLeast, Kept}
+use Rattle.row.specs.Row.{roomLeast, Kept}
 use Rattle.lexer.specs.Texts.{onFront, Letters, Reads}
 use Rattle.lexer.specs.declared.texts.Ended.{Ended}
 use Rattle.lexer.specs.declared.texts.Ended.the-variants.{Refused, At}

@@ -7,7 +7,7 @@ use Rattle.rules.specs.Numbers.{number, Read, got, refused}
 use Rattle.rules.specs.Lexing.{Token}
 use Rattle.lexer.specs.declared.Lexed.{Lexed}
 use Rattle.lexer.specs.declared.Lexed.the-variants.{Refused, Tokens}
-use Rattle.lexer.specs.Row.{tokensOf, Laid, Worded}
+use Rattle.row.specs.Row.{tokensOf, Laid, Worded}
 
 abbrev pub answerOf : Read (List Token) → Lexed
 answerOf (refused f) = Refused (number f)

@@ -1,4 +1,3 @@
-pub mod Row
 pub mod Texts
 pub mod Tokens
 pub mod Lexing

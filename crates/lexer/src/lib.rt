@@ -7,12 +7,10 @@ ghost use lib.ListN.{length, take, drop};
 ghost use Rattle.rules.specs.Numbers.{textMost};
 ghost use Rattle.rules.specs.Bytes.{isText};
 ghost use Rattle.rules.specs.Lexing.{lex};
-ghost use Rattle.lexer.specs.Row.{roomLeast, entryAt, entry};
+ghost use Rattle.row.specs.Row.{roomLeast, entryAt, entry};
 ghost use Rattle.lexer.specs.Lexing.{answerOf, Row};
-use analysis::classes;
 use tokens::Step;
 
-pub mod row;
 mod texts;
 mod tokens;
 

@@ -7,9 +7,8 @@ ghost use Rattle.rules.specs.Numbers.{onRead, textMost};
 ghost use Rattle.rules.specs.Bytes.{isText};
 ghost use Rattle.rules.specs.Analysis.{classes};
 ghost use Rattle.rules.specs.Lexing.{isBackslash, termText, quotedText};
-ghost use Rattle.lexer.specs.Row.{roomLeast, Kept};
+ghost use Rattle.row.specs.Row.{roomLeast, Kept};
 ghost use Rattle.lexer.specs.Texts.{onFront, Letters, Reads};
-use analysis::classes;
 
 // Where a text ended in the input, how many bytes it has in the room, and if it is a word: a term of letters only.
 pub enum Ended {

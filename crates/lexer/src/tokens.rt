@@ -9,11 +9,10 @@ ghost use Rattle.rules.specs.Numbers.{textMost};
 ghost use Rattle.rules.specs.Bytes.{isText};
 ghost use Rattle.rules.specs.Analysis.{classes};
 ghost use Rattle.rules.specs.Lexing.{termKind, signKind, isWildcard, wordKind, termFrom, quotedFrom, tokenAt};
-ghost use Rattle.lexer.specs.Row.{roomLeast, Kept};
+ghost use Rattle.row.specs.Row.{roomLeast, Kept};
 ghost use Rattle.lexer.specs.Tokens.{Makes, noteOf, doubleKind, badStart};
 use crate::texts;
 use crate::texts::Ended;
-use analysis::classes;
 
 // A token: its kind, its note, how many bytes its text has in the room from its place on, and where it ended in the input.
 pub enum Step {

@@ -1,6 +1,6 @@
 // An entry of a record: its kind, its field, and its text and position or the bits of its number.
-use parts::big::big4;
-use parts::big::big8;
+use numbers::big4;
+use numbers::big8;
 use parts::part::body;
 use parts::part::rest;
 use parts::part::tag_of;

@@ -3,7 +3,7 @@
 // y + p == o + x. Positions have 32 bits, so that neither sum overflows, and no sign is needed.
 use super::entry::position;
 use super::term::is_here;
-use parts::big::big4;
+use numbers::big4;
 use parts::part::body;
 use parts::part::rest;
 ghost use mathlib.Core.Path.{_≡_};

@@ -2,7 +2,7 @@
 use super::entry::field;
 use super::entry::is_place;
 use super::entry::text;
-use parts::bytes::same;
+use stretches::same;
 use parts::part::body;
 use parts::part::rest;
 use parts::part::size_of;

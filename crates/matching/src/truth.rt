@@ -9,7 +9,7 @@ use super::level::unpacked;
 use super::phrase::phrase_true;
 use super::range::range_true;
 use super::term::term_true;
-use parts::big::big2;
+use numbers::big2;
 use parts::part::size_of;
 use parts::part::tag_of;
 ghost use mathlib.Core.Path.{_≡_};

@@ -19,21 +19,21 @@ use Rattle.rules.specs.Answers.{storedReply, fitting, zeros, leave, call, parse
 use Rattle.rules.proofs.Bools.{clash, both, and-l, and-r}
 use Rattle.rules.proofs.Sizes.{length-match-none, length-encode}
 use Rattle.rules.proofs.Tokenizing.{Standing, placeOf, lex-few, lex-standing}
-use Rattle.parts.specs.Laid.{laid, Put, header}
-use Rattle.parts.proofs.Laying.{laid-front, lent}
-use Rattle.lexer.specs.Row.{roomLeast, tokensOf, Laid, nameFrom}
+use Rattle.numbers.specs.Laid.{laid, Put, header}
+use Rattle.numbers.proofs.Laying.{laid-front, lent}
+use Rattle.row.specs.Row.{roomLeast, tokensOf, Laid, nameFrom}
 use Rattle.lexer.specs.Lexing.{Row, answerOf as lexedOf}
 use Rattle.lexer.specs.declared.Lexed.the-variants as lexed
-use Rattle.clauses.specs.Kinds.{isAlone, madeBytes, madeLength, Sums}
+use Rattle.counted.specs.Kinds.{isAlone, madeBytes, madeLength, Sums}
 use Rattle.clauses.specs.Measured.{Says, placeAt, Spaced, Rowed, Fielded, Tuned, clausesRun, MeansKept, MeantClauses}
 use Rattle.clauses.specs.Written.{QueryToWrite}
 use Rattle.parser.specs.Noted.{Entered, Noted}
 use Rattle.parser.specs.Parsed.{answerOf, leftOf, fit, Delivers, Parses}
 use Rattle.parser.specs.declared.parse.Parsed.{Parsed}
 use Rattle.parser.specs.declared.parse.Parsed.the-variants.{Refused, Bytes}
-use Rattle.clauses.specs.declared.counted.Counted.{Counted}
-use Rattle.clauses.specs.declared.counted.Counted.the-variants.{Fault, Clauses as Many}
-use Rattle.clauses.proofs.Deciding.{made-some}
+use Rattle.counted.specs.declared.Counted.{Counted}
+use Rattle.counted.specs.declared.Counted.the-variants.{Fault, Clauses as Many}
+use Rattle.counted.proofs.Deciding.{made-some}
 use Rattle.clauses.proofs.Rows.{tokens-length}
 
 -- ---- the whole answer

@@ -13,8 +13,8 @@ use Rattle.rules.specs.Lexing.{Token}
 use Rattle.rules.specs.Setup.{FieldEntry, fieldEntry, isAnalyzer, isFieldEntry, analyzerAmong}
 use Rattle.rules.specs.Parsing.{tokenOf, isAt, textAt}
 use Rattle.rules.proofs.Bools.{clash, and-l, and-r, and-no-l, and-no-r}
-use Rattle.lexer.specs.Row.{tokenAt, tokensOf, wordNote, Renoted}
-use Rattle.lexer.proofs.Noting.{worded-noted}
+use Rattle.row.specs.Row.{tokenAt, tokensOf, wordNote, Renoted}
+use Rattle.row.proofs.Noting.{worded-noted}
 use Rattle.clauses.specs.Measured.{Spaced, Rowed, isNamed, noteAt}
 use Rattle.parser.specs.Noted.{Noted}
 use Rattle.clauses.proofs.Rows.{text-is, named-in}

@@ -8,8 +8,8 @@ use Rattle.rules.specs.Numbers.{Read, got, refused, badSetup}
 use Rattle.rules.specs.Bytes.{isText, all}
 use Rattle.rules.specs.Setup.{FieldEntry, isFieldEntry, analyzerAmong, entriesIn, readSetup}
 use Rattle.rules.specs.Parsing.{textAt}
-use Rattle.analysis.specs.Fields.{rowText, arrayEntries}
-use Rattle.lexer.specs.Row.{tokensOf}
+use Rattle.fields.specs.Fields.{rowText, arrayEntries}
+use Rattle.row.specs.Row.{tokensOf}
 use Rattle.clauses.specs.Measured.{Rowed, isNamed, noteAt}
 
 -- the k-th row alone is changed, and holds the name where the answer b is that the name is ASCII

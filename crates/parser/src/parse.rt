@@ -1,16 +1,16 @@
 // The public call: a text under a setup becomes the stored form of its query, or a refusal leaves the output as it was.
 // The first half measures, so that what does not fit is refused before a byte is written. The room ends all zeros in every case.
 use crate::setup;
-use analysis::fields::analyzer_among;
-use clauses::counted::Counted;
-use clauses::counted::is_alone;
-use clauses::counted::query_len;
+use fields::analyzer_among;
+use counted::Counted;
+use counted::is_alone;
+use counted::query_len;
 use clauses::measure::measure_query;
 use clauses::write::write_query;
 use lexer::Lexed;
-use lexer::row::kind_at;
-use parts::bytes::clear;
-use parts::bytes::is_text;
+use row::kind_at;
+use stretches::clear;
+use stretches::is_text;
 use parts::write::put_header;
 ghost use mathlib.Core.Path.{_≡_};
 ghost use mathlib.Core.List.{List};
@@ -20,7 +20,7 @@ ghost use Rattle.rules.specs.Numbers.{fieldMost, got, andThen};
 ghost use Rattle.rules.specs.Query.{Clauses};
 ghost use Rattle.rules.specs.Setup.{Setup, readSetup};
 ghost use Rattle.rules.specs.Parsing.{queryOf, orMatchNone, parse, parseTokens};
-ghost use Rattle.lexer.specs.Row.{roomLeast, tokensOf};
+ghost use Rattle.row.specs.Row.{roomLeast, tokensOf};
 ghost use Rattle.clauses.specs.Measured.{Rowed, Fielded, Tuned};
 ghost use Rattle.parser.specs.Parsed.{Delivers, Parses};
 ghost use Rattle.clauses.specs.Written.{QueryToWrite};

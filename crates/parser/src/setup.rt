@@ -1,10 +1,10 @@
 // The setup of a call: its entries are tested and read into arrays, and the analyzer of each field that the text names is noted
 // at the name's token, so that the parser hands down a number.
-use analysis::fields::analyzer_among;
-use lexer::row::kind_at;
-use lexer::row::put_note;
-use lexer::row::text_at;
-use parts::bytes::is_field;
+use fields::analyzer_among;
+use row::kind_at;
+use row::put_note;
+use row::text_at;
+use stretches::is_field;
 ghost use mathlib.Core.Path.{_≡_};
 ghost use mathlib.Core.Bool.{true, _&&_};
 ghost use lib.Dec.{leb};
@@ -14,7 +14,7 @@ ghost use mathlib.Core.List.{List, []};
 ghost use Prim.Native.Nat.{ℕ, _≤_, _<_};
 ghost use lib.ListN.{length, getD};
 ghost use Rattle.rules.specs.Setup.{isAnalyzer, analyzerAmong};
-ghost use Rattle.analysis.specs.Fields.{arrayEntries};
+ghost use Rattle.fields.specs.Fields.{arrayEntries};
 ghost use Rattle.clauses.specs.Measured.{Rowed};
 ghost use Rattle.parser.specs.Noted.{RowPut, Entered, Noted};
 

@@ -1,3 +1,1 @@
-pub mod Joining
-pub mod Laying
 pub mod Plainly

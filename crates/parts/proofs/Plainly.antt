@@ -11,7 +11,7 @@ use Rattle.rules.specs.Bytes.{isText, sizeOf, bodyOf, restOf, isPart}
 use Rattle.rules.proofs.Bools.{both}
 use Rattle.rules.proofs.Parts.{part-is, body-shorter, less-empty}
 use Rattle.parts.specs.Part.{Plain}
-use Rattle.parts.proofs.Joining.{text-first, text-later}
+use Rattle.stretches.proofs.Joining.{text-first, text-later}
 
 text-body : (s : List ℕ) → isText s ≡ true → isText (bodyOf s) ≡ true
 unfolding bodyOf

@@ -1,6 +1,4 @@
-// Parts of the stored form, shared by all that reads or writes it: numbers of every width, stretches of bytes, a part's header, body and
-// rest, and the writers. Proved once over the tag.
-pub mod big;
-pub mod bytes;
+// Parts of the stored form, shared by all that reads or writes it: a part's header, body and rest, and the writers. Proved once over the
+// tag.
 pub mod part;
 pub mod write;

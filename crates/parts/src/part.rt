@@ -1,7 +1,7 @@
 // A part at the front of a slice: a tag, a length of two bytes and a body. What holds of it is proved once, over the tag.
-use super::big::wide;
-use super::bytes::is_field;
-use super::bytes::is_middle_text;
+use numbers::wide;
+use stretches::is_field;
+use stretches::is_middle_text;
 ghost use mathlib.Core.Path.{_≡_};
 ghost use Prim.Native.Nat.{_≤_, _<_};
 ghost use mathlib.Core.Bool.{true, _&&_};

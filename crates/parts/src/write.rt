@@ -1,12 +1,12 @@
 // Parts written into an output. Each writer lays its bytes at a place and gives the place behind them; all other bytes stay as they were.
 // Lengths are known before the first byte, so a caller tests once that all of it fits, and no writer refuses.
-use super::big::put_big2;
-use super::bytes::copy;
+use numbers::put_big2;
+use stretches::copy;
 ghost use Prim.Native.Nat.{_+_, _≤_, _<_};
 ghost use lib.ListN.{length};
 ghost use Rattle.rules.specs.Numbers.{minimumTag};
 ghost use Rattle.rules.specs.Bytes.{big, part};
-ghost use Rattle.parts.specs.Laid.{Put, header};
+ghost use Rattle.numbers.specs.Laid.{Put, header};
 
 // The header of a part whose body has n bytes: the body is laid behind it, or stands there already.
 pub fn put_header(out: &mut [u8], at: usize, tag: u8, n: usize) -> usize

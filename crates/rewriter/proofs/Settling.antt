@@ -23,8 +23,8 @@ use Rattle.rules.proofs.Sound.{read-sound}
 use Rattle.rules.proofs.rewriting.Measures.{bulk, bulk-is, measured, weight-length, clauseCount}
 use Rattle.rules.proofs.rewriting.Rounds.{resultOf, countOf}
 use Rattle.rules.proofs.rewriting.Weights.{valid-once, any-fuel}
-use Rattle.parts.specs.Laid.{laid, Put}
-use Rattle.parts.proofs.Laying.{laid-front}
+use Rattle.numbers.specs.Laid.{laid, Put}
+use Rattle.numbers.proofs.Laying.{laid-front}
 use Rattle.round.specs.Within.{within, Stands}
 use Rattle.round.specs.Once.{Room}
 use Rattle.rewriter.specs.Rounds.{Ready, Settled, left}

@@ -1,7 +1,7 @@
 // Rounds, until one changes nothing; and the call.
-use parts::bytes::clear;
-use parts::bytes::copy;
-use parts::bytes::same;
+use stretches::clear;
+use stretches::copy;
+use stretches::same;
 use round::once::rewrite_once;
 use round::place::shift;
 use stored::read::for_rewriting;

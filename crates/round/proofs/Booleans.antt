@@ -21,7 +21,7 @@ use Rattle.rules.proofs.rewriting.Measures.{bulk, bulks, bulks-are}
 use Rattle.rules.proofs.rewriting.Bounds.{Bounded, BoundedAll, bounds-law}
 use Rattle.rules.proofs.rewriting.Walk.{merged-law}
 use Rattle.rules.proofs.rewriting.Places.{boolean-by-place}
-use Rattle.parts.specs.Laid.{laid, Put, header}
+use Rattle.numbers.specs.Laid.{laid, Put, header}
 use Rattle.round.specs.Within.{within, Stands}
 use Rattle.round.specs.Clauses.{isOneClause}
 use Rattle.round.specs.Merge.{Mergeable}

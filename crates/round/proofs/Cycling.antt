@@ -15,7 +15,7 @@ use Rattle.rules.proofs.Bools.{fails}
 use Rattle.rules.proofs.rewriting.Measures.{bulk, bulks, bulks-are}
 use Rattle.rules.proofs.rewriting.Weights.{valid-once}
 use Rattle.rules.proofs.rewriting.Walk.{join, join-none, none-is}
-use Rattle.parts.specs.Laid.{laid, Put, header}
+use Rattle.numbers.specs.Laid.{laid, Put, header}
 use Rattle.round.specs.Within.{within, Stands}
 use Rattle.round.specs.Once.{Room, Rooms, Ended, Went}
 use Rattle.round.proofs.Standing.{within-same, joined, lower, stands-before}

@@ -17,8 +17,8 @@ use Rattle.rules.proofs.Bigs.{read-big}
 use Rattle.rules.proofs.Inverse.{boost-below}
 use Rattle.rules.proofs.Sizes.{length-encode}
 use Rattle.rules.proofs.Views.{View, v-boost, v-constantScore, at-tag}
-use Rattle.parts.specs.Laid.{laid, Put, header}
-use Rattle.parts.proofs.Laying.{length-laid, there-laid, laid-over, laid-inside, put-then, put-body}
+use Rattle.numbers.specs.Laid.{laid, Put, header}
+use Rattle.numbers.proofs.Laying.{length-laid, there-laid, laid-over, laid-inside, put-then, put-body}
 use Rattle.round.specs.Within.{within, Stands}
 use Rattle.round.specs.Over.{Inner}
 use Rattle.round.proofs.Standing.{stands-laid, stands-put, stands-here, stands-before, within-length}

@@ -15,8 +15,8 @@ use Rattle.rules.specs.Rewriting.{scores, summable, base, boostOf, reboosted}
 use Rattle.rules.specs.ByPlace.{held, total, sumFrom}
 use Rattle.rules.proofs.Bools.{split}
 use Rattle.rules.proofs.rewriting.Boosts.{one-one}
-use Rattle.parts.specs.Laid.{laid, Put, header}
-use Rattle.parts.proofs.Laying.{before-laid, length-laid, put-then, put-body}
+use Rattle.numbers.specs.Laid.{laid, Put, header}
+use Rattle.numbers.proofs.Laying.{before-laid, length-laid, put-then, put-body}
 use Rattle.round.specs.Within.{within}
 use Rattle.round.specs.Merge.{reboostedBytes}
 use Rattle.round.proofs.Standing.{within-laid, within-length}

@@ -15,8 +15,8 @@ use Rattle.rules.specs.Checked.{Is, Are, Stored, StoredClauses}
 use Rattle.rules.specs.Rewriting.{reboosted}
 use Rattle.rules.specs.ByPlace.{held, seen, sumFrom, snoc, mergedByPlace}
 use Rattle.rules.proofs.rewriting.Walk.{join, join-none}
-use Rattle.parts.specs.Laid.{laid, Put}
-use Rattle.parts.proofs.Laying.{there-laid}
+use Rattle.numbers.specs.Laid.{laid, Put}
+use Rattle.numbers.proofs.Laying.{there-laid}
 use Rattle.round.specs.Within.{within, Stands}
 use Rattle.round.specs.Merge.{MergedIs, reboostedBytes, Mergeable}
 use Rattle.round.proofs.Standing.{within-length, joined, second, lower}

@@ -19,7 +19,7 @@ use Rattle.rules.proofs.rewriting.Measures.{bulk, bulks, bulk-is, bulks-are, me
 use Rattle.rules.proofs.rewriting.Bounds.{Bounded, BoundedAll, bounds-law}
 use Rattle.rules.proofs.rewriting.Weights.{Lightens, LightensAll, weight-law, valid-once}
 use Rattle.rules.proofs.rewriting.Walk.{once-law, each-law, live-law}
-use Rattle.parts.specs.Laid.{Put, header}
+use Rattle.numbers.specs.Laid.{Put, header}
 use Rattle.round.specs.Within.{within, Stands}
 use Rattle.round.specs.Over.{Inner, Phrase, Live}
 use Rattle.round.specs.Once.{Room, Rooms, Ended, Went}

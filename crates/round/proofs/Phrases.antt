@@ -11,7 +11,7 @@ use Rattle.rules.specs.Query.{Word, word, Query, phrase, term, matchNone}
 use Rattle.rules.specs.Stored.{encode, encodeWords}
 use Rattle.rules.specs.Checked.{Is}
 use Rattle.rules.specs.Rewriting.{phrased}
-use Rattle.parts.specs.Laid.{header, Put}
+use Rattle.numbers.specs.Laid.{header, Put}
 use Rattle.round.specs.Within.{within, Stands}
 use Rattle.round.specs.Over.{Phrase}
 use Rattle.round.proofs.Standing.{split-at, first, second, both-length, within-length, stands-put}

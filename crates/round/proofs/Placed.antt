@@ -11,7 +11,7 @@ use Rattle.rules.specs.Query.{Kind, Query, Clauses, none, clause}
 use Rattle.rules.specs.Stored.{kindTag, encode, encodes, Valid, Valids}
 use Rattle.rules.specs.Checked.{Is, Are}
 use Rattle.rules.proofs.Parts.{whole-part, size-part}
-use Rattle.parts.specs.Laid.{header}
+use Rattle.numbers.specs.Laid.{header}
 use Rattle.round.specs.Within.{within}
 use Rattle.round.proofs.Standing.{split-at, first, second, both-length, joined}
 

@@ -7,8 +7,8 @@ use native.Mathlib.Omega.{arith}
 use native.Mathlib.Nat.{add-sub-cancel-left}
 use lib.ListN.{length, getD, take, drop, set, length-append, length-drop, take-append-drop}
 use lib.Seq.{take-at, drop-at, take-nil, take-add, take-take, drop-drop, take-append-add, length-take-le, getD-take, getD-drop, paste, take-paste, drop-paste}
-use Rattle.parts.specs.Laid.{laid, Put}
-use Rattle.parts.proofs.Laying.{before-laid, from-laid, length-laid, there-laid, copy-turn, copy-end}
+use Rattle.numbers.specs.Laid.{laid, Put}
+use Rattle.numbers.proofs.Laying.{before-laid, from-laid, length-laid, there-laid, copy-turn, copy-end}
 use Rattle.round.specs.Within.{within, Stands}
 
 -- ---- the loop that moves bytes

@@ -2,7 +2,7 @@
 ghost use mathlib.Core.Logic.{_⊎_};
 ghost use Prim.Native.Nat.{_+_, _≤_};
 ghost use lib.ListN.{length, take, drop};
-ghost use Rattle.parts.specs.Laid.{Put};
+ghost use Rattle.numbers.specs.Laid.{Put};
 
 // Lays the n bytes that stand at `from` at `to`, lower down or behind them, and gives the place behind what was laid.
 pub fn shift(room: &mut [u8], to: usize, from: usize, n: usize) -> usize

@@ -24,7 +24,7 @@ use Rattle.rules.proofs.Parts.{part-is, less-empty, more-empty, rest-shorter}
 use Rattle.rules.proofs.Rows.{first, others, each-done, each-next, Row, done, next, row}
 use Rattle.rules.proofs.Accepted.{Accepted, accepted, Listed, listed as list-accepted}
 use Rattle.rules.proofs.Choices.{selection, selected-is, chosen-few}
-use Rattle.parts.specs.Laid.{laid, Put}
+use Rattle.numbers.specs.Laid.{laid, Put}
 use Rattle.selection.specs.declared.select.Selected.the-variants.{Refused, Chosen}
 use Rattle.matching.specs.Truth.{Truth, StoredFor}
 use Rattle.selection.specs.Select.{listed, within, answerOf, rowsAfter, Selects, told, SelectsBytes}

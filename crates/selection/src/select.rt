@@ -1,8 +1,8 @@
 // Selection: the numbers, from 0, of the records that a query is true of, into rows that the caller lends. The query and the list are checked
 // once. Whether the rows are long enough is known at once where they hold every record; only else is it counted before anything is written.
 use matching::truth::holds;
-use parts::big::put_big4;
-use parts::bytes::clear;
+use numbers::put_big4;
+use stretches::clear;
 use parts::part::body;
 use parts::part::rest;
 use stored::list::check_list;
@@ -18,7 +18,7 @@ ghost use Rattle.rules.specs.Reading.{numberOf};
 ghost use Rattle.rules.specs.Lists.{isRecord, recordOf};
 ghost use Rattle.rules.specs.Matching.{bit};
 ghost use Rattle.rules.specs.Answers.{selected, rowBytes};
-ghost use Rattle.parts.specs.Laid.{Put};
+ghost use Rattle.numbers.specs.Laid.{Put};
 ghost use Rattle.selection.specs.Select.{listed, Selects, SelectsBytes};
 
 // A refusal by its number, or how many records were chosen.

@@ -28,8 +28,8 @@ use Rattle.rules.proofs.rewriting.Measures.{weight-length}
 use Rattle.rules.proofs.rewriting.Rounds.{resultOf, countOf}
 use Rattle.rules.proofs.rewriting.Weights.{few-rounds, valid-rewrite}
 use Rattle.rules.proofs.rewriting.Bounds.{within-bytes}
-use Rattle.parts.specs.Laid.{laid}
-use Rattle.parts.proofs.Laying.{laid-front}
+use Rattle.numbers.specs.Laid.{laid}
+use Rattle.numbers.proofs.Laying.{laid-front}
 use Rattle.parser.specs.Parsed.{leftOf as parsedLeft}
 use Rattle.parser.specs.declared.parse.Parsed.{Parsed as parsed-type}
 use Rattle.parser.specs.declared.parse.Parsed.the-variants as parsed

@@ -4,8 +4,8 @@ use Prim.Native.Nat.{ℕ, _+_, _≤_, _<_}
 use mathlib.Core.List.{List, [], _∷_, _++_, append-assoc, append-nil}
 use native.Mathlib.Omega.{arith}
 use lib.ListN.{length, set, length-append}
-use Rattle.parts.specs.Laid.{laid, Put}
-use Rattle.parts.proofs.Laying.{length-laid, laid-none, laid-more, laid-sets}
+use Rattle.numbers.specs.Laid.{laid, Put}
+use Rattle.numbers.proofs.Laying.{length-laid, laid-none, laid-more, laid-sets}
 use Rattle.show.specs.Lays.{Lays, placeMost}
 
 -- ---- one stretch

@@ -6,7 +6,7 @@ use mathlib.Core.Bool.{cond}
 use lib.ListN.{length}
 use Rattle.rules.specs.Bytes.{ascii}
 use Rattle.rules.specs.Show.{digit, hex, isPlain}
-use Rattle.parts.specs.Laid.{laid}
+use Rattle.numbers.specs.Laid.{laid}
 
 -- no place is beyond it: sums of places do not overflow, and no text is as long
 abbrev pub placeMost : ℕ

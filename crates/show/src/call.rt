@@ -1,7 +1,7 @@
 // The public call: an input of two lines becomes the show text. What does not fit is refused before a byte is written.
 use crate::answer::make;
 use crate::answer::put_answer;
-use parts::bytes::clear;
+use stretches::clear;
 ghost use mathlib.Core.Path.{_≡_};
 ghost use Prim.Native.Nat.{_≤_};
 ghost use mathlib.Core.List.{[]};

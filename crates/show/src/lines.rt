@@ -1,7 +1,7 @@
 // The two lines of an input: operator and default field, and the text. They are parsed here.
 use parser::parse::Parsed;
 use parser::parse::parse;
-use parts::bytes::same;
+use stretches::same;
 ghost use mathlib.Core.Path.{_≡_};
 ghost use Prim.Native.Nat.{_≤_};
 ghost use lib.ListN.{length, drop};

@@ -1,5 +1,5 @@
 // Bytes laid into an output where they fit, and only counted where they do not: the same writers measure a text and write it.
-use parts::bytes::copy;
+use stretches::copy;
 ghost use mathlib.Core.Path.{_≡_};
 ghost use mathlib.Core.List.{[], _∷_};
 ghost use Prim.Native.Nat.{_≤_};

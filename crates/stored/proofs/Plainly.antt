@@ -10,7 +10,7 @@ use Rattle.rules.specs.Bytes.{bodyOf, restOf}
 use Rattle.rules.specs.Lists.{isFieldWith}
 use Rattle.rules.proofs.Bools.{both}
 use Rattle.parts.specs.Part.{Plain}
-use Rattle.parts.proofs.Joining.{text-later}
+use Rattle.stretches.proofs.Joining.{text-later}
 use Rattle.stored.specs.List.{isHeld}
 use Rattle.stored.specs.Read.{isTerm}
 

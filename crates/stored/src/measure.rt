@@ -1,6 +1,6 @@
 // Measures of a stored query that was checked: its weight and its largest minimum_should_match.
 // Both go over the headers in reading order, into each part that holds a query and past each that holds none: one loop and no stack.
-use parts::big::big2;
+use numbers::big2;
 use parts::part::size_of;
 ghost use mathlib.Core.Path.{_≡_};
 ghost use Prim.Native.Nat.{_+_, _≤_, _<_, max};

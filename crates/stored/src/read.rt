@@ -1,8 +1,8 @@
 // The reader of stored queries, for both limits: 0 where the bytes are one query's stored form, else 19, 20 or 21 in reading order.
 // No function here calls itself: a scheduler's thread has little stack, and a query may nest 192 records.
-use parts::big::big4;
-use parts::bytes::is_field;
-use parts::bytes::is_text;
+use numbers::big4;
+use stretches::is_field;
+use stretches::is_text;
 use parts::part::body;
 use parts::part::is_field_part;
 use parts::part::is_part;

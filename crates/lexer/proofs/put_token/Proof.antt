@@ -1,7 +1,7 @@
 -- `put_token` meets its contract: four stores in a row lay the token's four bytes, and nothing else changes. Assumes nothing.
 use Prim.Native.Nat.{_+_, _*_}
 use lib.ListN.{length-set}
-use Rattle.lexer.proofs.Rows.{four}
+use Rattle.row.proofs.Rows.{four}
 use native.Mathlib.Omega.{arith}
 use borrow.Author.Needs.{needs}
 use Rattle.lexer.proofs.put_token.Statement.{statement}

@@ -1,6 +1,6 @@
 -- `clauses::kinds::added` meets its contract.
 use mathlib.Core.Path.{sym, _∙_}
-use Rattle.clauses.proofs.Deciding.{added-nothing, added-made}
+use Rattle.counted.proofs.Deciding.{added-nothing, added-made}
 use native.Mathlib.Omega.{arith}
 use borrow.Author.Needs.{needs}
 use Rattle.clauses.proofs.kinds.added.Statement.{statement}

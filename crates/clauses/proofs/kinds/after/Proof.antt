@@ -1,5 +1,5 @@
 -- `clauses::kinds::after` meets its contract.
-use Rattle.clauses.proofs.Deciding.{after-none, after-some}
+use Rattle.counted.proofs.Deciding.{after-none, after-some}
 use borrow.Author.Needs.{needs}
 use Rattle.clauses.proofs.kinds.after.Statement.{statement}
 use Rattle.clauses.proofs.kinds.after.Tie as tie

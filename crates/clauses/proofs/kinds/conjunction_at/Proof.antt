@@ -1,6 +1,6 @@
 -- `clauses::kinds::conjunction_at` meets its contract.
-use Rattle.lexer.specs.Row.{tokensOf}
-use Rattle.clauses.proofs.Deciding.{joins-and, joins-or, joins-not, unkept}
+use Rattle.row.specs.Row.{tokensOf}
+use Rattle.counted.proofs.Deciding.{joins-and, joins-or, joins-not, unkept}
 use mathlib.Core.Path.{_∙_}
 use borrow.Author.Needs.{needs}
 use Rattle.clauses.proofs.kinds.conjunction_at.Statement.{statement}

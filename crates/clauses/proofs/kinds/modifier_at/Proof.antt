@@ -1,6 +1,6 @@
 -- `clauses::kinds::modifier_at` meets its contract.
-use Rattle.lexer.specs.Row.{tokensOf}
-use Rattle.clauses.proofs.Deciding.{mod-plus, mod-minus, mod-not, mod-none}
+use Rattle.row.specs.Row.{tokensOf}
+use Rattle.counted.proofs.Deciding.{mod-plus, mod-minus, mod-not, mod-none}
 use borrow.Author.Needs.{needs}
 use Rattle.clauses.proofs.kinds.modifier_at.Statement.{statement}
 use Rattle.clauses.proofs.kinds.modifier_at.Tie as tie

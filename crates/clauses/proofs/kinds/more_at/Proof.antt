@@ -1,6 +1,6 @@
 -- `clauses::kinds::more_at` meets its contract.
-use Rattle.lexer.specs.Row.{tokensOf}
-use Rattle.clauses.proofs.Deciding.{stops-close, stops-end}
+use Rattle.row.specs.Row.{tokensOf}
+use Rattle.counted.proofs.Deciding.{stops-close, stops-end}
 use borrow.Author.Needs.{needs}
 use Rattle.clauses.proofs.kinds.more_at.Statement.{statement}
 use Rattle.clauses.proofs.kinds.more_at.Tie as tie

@@ -1,5 +1,5 @@
 -- `clauses::kinds::tag_before` meets its contract.
-use Rattle.clauses.proofs.Deciding.{before-unjoined, before-first, before-not, before-and, before-or-and, before-or}
+use Rattle.counted.proofs.Deciding.{before-unjoined, before-first, before-not, before-and, before-or-and, before-or}
 use Rattle.clauses.proofs.kinds.tag_before.Statement.{statement}
 use Rattle.clauses.proofs.kinds.tag_before.Tie as tie
 

@@ -1,6 +1,6 @@
 -- `clauses::leaf::put_clause` meets its contract.
 use Rattle.clauses.proofs.Tallying.{spelled-length}
-use Rattle.parts.proofs.Laying.{put-body}
+use Rattle.numbers.proofs.Laying.{put-body}
 use Rattle.analysis.specs.Tokens.{spelled}
 use Rattle.rules.proofs.Sizes.{length-term}
 use native.Mathlib.Omega.{arith}

@@ -4,7 +4,7 @@ use mathlib.Core.Path.{ap}
 use lib.ListN.{length, take, drop}
 use Rattle.analysis.specs.Tokens.{spelled}
 use Rattle.rules.proofs.Sizes.{length-term}
-use Rattle.clauses.specs.Kinds.{madeLength}
+use Rattle.counted.specs.Kinds.{madeLength}
 use Rattle.clauses.proofs.Fronts.{put-empty}
 use Rattle.clauses.proofs.Tallying.{spelled-length}
 use Rattle.clauses.proofs.Writing.{text-one, text-many, leaf-none, leaf-one, leaf-boolean, leaf-phrase, made-room, made-put, slice-length}

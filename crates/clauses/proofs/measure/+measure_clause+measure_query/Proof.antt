@@ -3,7 +3,7 @@ use Rattle.clauses.proofs.Steps.{past-one, Bounds, Turn, led, bounds-st
 use Rattle.clauses.proofs.Bodies.{leaf-at, body-leaf, body-open, body-deep, body-end, body-other, meant-start, within-start}
 use Rattle.clauses.proofs.Rows.{kind-in, goes-in}
 use Rattle.clauses.specs.Measured.{Tuned}
-use Rattle.lexer.specs.Row.{tokensOf, nameFrom}
+use Rattle.row.specs.Row.{tokensOf, nameFrom}
 use Rattle.clauses.specs.Leaves.{leafAt}
 use Rattle.rules.specs.Parsing.{closedAt, queryFound}
 use Rattle.rules.specs.Setup.{Setup}
@@ -23,7 +23,7 @@ use Rattle.clauses.proofs.measure.+measure_clause+measure_query.Lts-mea
 use Rattle.clauses.proofs.measure.measure_query.Reads as measure-query
 use Rattle.clauses.proofs.measure.measure_query.Kinds as measure-query-kinds
 use Rattle.clauses.proofs.measure.+measure_clause+measure_query.Lts-measure_query as measure-query-lts
-use Rattle.lexer.proofs.row.kind_at.Reads as kind-at-reads
+use Rattle.row.proofs.kind_at.Reads as kind-at-reads
 use Rattle.clauses.proofs.kinds.added.Reads as added-reads
 use Rattle.clauses.proofs.kinds.after.Reads as after-reads
 use Rattle.clauses.proofs.kinds.conjunction_at.Reads as conjunction-at-reads

@@ -1,7 +1,7 @@
 -- `clauses::measure::closing` meets its contract.
 use Rattle.clauses.proofs.Bodies.{close-fault, close-missing, close-goes, bracket-within}
 use Rattle.clauses.proofs.Rows.{kind-in, place-most}
-use Rattle.lexer.specs.Row.{tokensOf}
+use Rattle.row.specs.Row.{tokensOf}
 use Rattle.rules.specs.Parsing.{queryOf}
 use mathlib.Core.Path.{refl, sym, _∙_}
 use native.Mathlib.Omega.{arith}

@@ -1,7 +1,7 @@
 -- `clauses::measure::measure_leaf` meets its contract.
 use Rattle.clauses.proofs.Bodies.{leaf-some, leaf-faulty, leaf-goes, boost-none, leaf-same, leaf-within}
 use Rattle.clauses.proofs.Rows.{kind-in, text-is, place-text, place-most}
-use Rattle.lexer.specs.Row.{tokensOf, nameFrom}
+use Rattle.row.specs.Row.{tokensOf, nameFrom}
 use Rattle.clauses.specs.Leaves.{leafOf, leafKind}
 use Rattle.rules.specs.Analysis.{tokenize}
 use Rattle.rules.proofs.Bools.{clash}

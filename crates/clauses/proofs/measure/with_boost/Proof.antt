@@ -1,7 +1,7 @@
 -- `clauses::measure::with_boost` meets its contract.
 use mathlib.Core.Path.{refl, sym, ap, _∙_}
 use Prim.Native.Nat.{_+_}
-use Rattle.lexer.specs.Row.{tokensOf}
+use Rattle.row.specs.Row.{tokensOf}
 use Rattle.rules.specs.Numerals.{numeralBits}
 use Rattle.rules.specs.Reading.{numberOf}
 use Rattle.rules.proofs.Refusals.{number-not, number-got}

@@ -9,12 +9,12 @@ use native.Mathlib.Omega.{arith}
 use borrow.Author.Needs.{needs}
 use Rattle.clauses.proofs.Writing.{slice-length}
 use Rattle.clauses.proofs.Steps.{led, past-one}
-use Rattle.clauses.specs.Kinds.{madeBytes}
+use Rattle.counted.specs.Kinds.{madeBytes}
 use Rattle.rules.proofs.Refusals.{no-got}
 use Rattle.rules.specs.Parsing.{queryOf}
 use Rattle.rules.specs.Setup.{Setup}
 use Rattle.rules.specs.Query.{Clauses}
-use Rattle.lexer.specs.Row.{tokensOf, nameFrom}
+use Rattle.row.specs.Row.{tokensOf, nameFrom}
 use borrow.Author.Tests.{not-true, not-false}
 use lib.ListN.{length}
 use mathlib.Core.Path.{_≡_, refl, sym, ap, _∙_}
@@ -32,11 +32,11 @@ use Rattle.clauses.proofs.write.write_query.Kinds as write-query-kinds
 use Rattle.clauses.proofs.write.+write_bracket+write_clause+write_query.Lts-write_query as write-query-lts
 use Rattle.clauses.proofs.kinds.after.Reads as after-reads
 use Rattle.clauses.proofs.kinds.conjunction_at.Reads as conjunction-at-reads
-use Rattle.clauses.proofs.counted.is_alone.Reads as is-alone-reads
+use Rattle.counted.proofs.is_alone.Reads as is-alone-reads
 use Rattle.clauses.proofs.kinds.is_at.Reads as is-at-reads
 use Rattle.clauses.proofs.kinds.modifier_at.Reads as modifier-at-reads
 use Rattle.clauses.proofs.kinds.more_at.Reads as more-at-reads
-use Rattle.clauses.proofs.counted.query_len.Reads as query-len-reads
+use Rattle.counted.proofs.query_len.Reads as query-len-reads
 use Rattle.clauses.proofs.kinds.tag_after.Reads as tag-after-reads
 use Rattle.clauses.proofs.start.clause_start.Reads as clause-start-reads
 use Rattle.clauses.proofs.measure.measure_query.Reads as measure-query-reads

@@ -1,7 +1,7 @@
 -- `clauses::write::boost_size` meets its contract.
 use Prim.Native.Nat.{_+_}
 use mathlib.Core.Path.{sym, _∙_}
-use Rattle.lexer.specs.Row.{tokensOf}
+use Rattle.row.specs.Row.{tokensOf}
 use Rattle.rules.proofs.Bools.{both, and-no-l, and-no-r}
 use Rattle.rules.specs.Parsing.{isAt}
 use native.Mathlib.Omega.{arith}

@@ -1,7 +1,7 @@
 -- `clauses::write::put_boost` meets its contract.
 use Prim.Native.Nat.{_+_, _-_}
 use mathlib.Core.Path.{refl, _∙_}
-use Rattle.lexer.specs.Row.{tokensOf}
+use Rattle.row.specs.Row.{tokensOf}
 use Rattle.rules.proofs.Bools.{and-r}
 use Rattle.rules.specs.Parsing.{isAt}
 use Rattle.clauses.specs.Written.{isBoosted}
@@ -9,7 +9,7 @@ use Rattle.clauses.proofs.Rows.{kind-in}
 use Rattle.clauses.proofs.Fronts.{size-none, size-some, boost-bare, boost-empty, boost-front}
 use native.Mathlib.Omega.{arith}
 use Rattle.clauses.proofs.write.bits_at.Reads as bits-at-reads
-use Rattle.parts.proofs.big.put_big4.Reads as put-big4-reads
+use Rattle.numbers.proofs.put_big4.Reads as put-big4-reads
 use Rattle.parts.proofs.write.put_header.Reads as put-header-reads
 use Rattle.clauses.proofs.write.put_boost.Statement.{statement}
 use Rattle.clauses.proofs.write.put_boost.Tie as tie

@@ -1,6 +1,6 @@
 -- `clauses::write::put_query_front` meets its contract.
 use mathlib.Core.Path.{refl, _∙_}
-use Rattle.parts.proofs.Laying.{put-then}
+use Rattle.numbers.proofs.Laying.{put-then}
 use native.Mathlib.Omega.{arith}
 use Rattle.clauses.proofs.write.put_query_front.Statement.{statement}
 use Rattle.clauses.proofs.write.put_query_front.Tie as tie

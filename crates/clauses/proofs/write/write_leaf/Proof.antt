@@ -3,7 +3,7 @@ use Rattle.clauses.proofs.Placing.{leaf-boost}
 use Rattle.clauses.proofs.Fronts.{boost-room, size-most, size-none, boost-bare}
 use Rattle.clauses.proofs.Rows.{text-is, place-text, place-most}
 use Rattle.clauses.specs.Written.{isBoosted}
-use Rattle.lexer.specs.Row.{tokensOf}
+use Rattle.row.specs.Row.{tokensOf}
 use lib.ListN.{length}
 use Prim.Native.Nat.{ℕ, _+_}
 use mathlib.Core.Path.{refl, sym, ap, _∙_}

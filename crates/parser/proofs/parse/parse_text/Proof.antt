@@ -1,14 +1,14 @@
 -- `parser::parse::parse_text` meets its contract.
 use Rattle.parser.proofs.Delivering.{refuses, delivers-as, plain-analyzer, setup-refused, theSetup, setup-plain, setup-got, plain-field, text-long, text-other, text-fault, text-tokens, row-of, lexed-refused, lexed-tokens}
 use Rattle.lexer.specs.Lexing.{Row}
-use Rattle.lexer.specs.Row.{tokensOf}
+use Rattle.row.specs.Row.{tokensOf}
 use Rattle.rules.proofs.Bools.{told-no, told-yes}
 use Rattle.parser.proofs.Notes.{among-analyzers}
 use Rattle.rules.specs.Parsing.{parse, parseTokens}
 use Rattle.rules.specs.Setup.{Setup}
 use Rattle.rules.specs.Lexing.{Token}
 use Rattle.rules.specs.Numbers.{Read, andThen, badSetup, longText, notAscii}
-use Rattle.analysis.specs.Fields.{arrayEntries}
+use Rattle.fields.specs.Fields.{arrayEntries}
 use mathlib.Core.List.{List, []}
 use lib.ListN.{length, replicate, getD-replicate}
 use mathlib.Core.Path.{refl, sym, ap, subst, _∙_}

@@ -1,8 +1,8 @@
 -- `parser::setup::note_fields` meets its contract.
 use Rattle.parser.proofs.Notes.{Noting, noting-starts, noting-skips, noting-notes, noting-ends, no-colon, no-name, analyzer-small}
 use Rattle.rules.specs.Setup.{isAnalyzer, analyzerAmong}
-use Rattle.analysis.specs.Fields.{arrayEntries}
-use Rattle.lexer.specs.Row.{tokensOf}
+use Rattle.fields.specs.Fields.{arrayEntries}
+use Rattle.row.specs.Row.{tokensOf}
 use Prim.Native.Nat.{_-_}
 use mathlib.Core.Path.{ap, _∙_}
 use native.Mathlib.Omega.{arith}

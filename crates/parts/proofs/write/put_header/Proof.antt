@@ -4,7 +4,7 @@ use native.Mathlib.Omega.{arith}
 use lib.ListN.{length-set}
 use denote.Ref.{now}
 use borrow.Author.Needs.{needs}
-use Rattle.parts.proofs.Laying as laying
+use Rattle.numbers.proofs.Laying as laying
 use Rattle.parts.proofs.write.put_header.Statement.{statement}
 use Rattle.parts.proofs.write.put_header.Tie as tie
 

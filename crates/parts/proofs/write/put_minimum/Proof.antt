@@ -2,7 +2,7 @@
 use mathlib.Core.Path.{refl}
 use native.Mathlib.Omega.{arith}
 use borrow.Author.Needs.{needs}
-use Rattle.parts.proofs.Laying as laying
+use Rattle.numbers.proofs.Laying as laying
 use Rattle.parts.proofs.write.put_minimum.Statement.{statement}
 use Rattle.parts.proofs.write.put_minimum.Tie as tie
 

@@ -12,8 +12,8 @@ use borrow.Fn.PlainCycle.{Measures, is, falls, and}
 use Rattle.rules.proofs.Parts as parts
 use Rattle.rules.specs.Bytes.{ofBig}
 use Rattle.floats.proofs.sums.is_one_bits.Reads as is-one-bits-reads
-use Rattle.parts.proofs.big.big2.Reads as big2-reads
-use Rattle.parts.proofs.big.big4.Reads as big4-reads
+use Rattle.numbers.proofs.big2.Reads as big2-reads
+use Rattle.numbers.proofs.big4.Reads as big4-reads
 use Rattle.parts.proofs.write.put_header.Reads as put-header-reads
 use Rattle.round.proofs.Cycling as cycling
 use Rattle.round.proofs.Nested as nested

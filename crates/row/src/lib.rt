@@ -1,0 +1,88 @@
+// The row of tokens in the room, for who parses it: kind, place, text and note of a token, and the field in force.
+ghost use mathlib.Core.Path.{_≡_};
+ghost use Prim.Native.Nat.{_≤_, _<_};
+ghost use lib.ListN.{length};
+ghost use lib.Dec.{eqb};
+ghost use Rattle.rules.specs.Numbers.{textMost};
+ghost use Rattle.rules.specs.Parsing.{tokenOf};
+ghost use Rattle.row.specs.Row.{roomLeast, placeIn, sizeIn, noteIn, wordNote, tokenAt, tokensOf, Below, Laid, nameFrom, Renoted};
+
+// Where the token at i starts in the text, and its own text in the room.
+fn start_at(room: &[u8], i: usize) -> usize
+    requires { ⌜ (i < textMost) × (roomLeast ≤ length (now room)) ⌝ }
+    ensures { λ r. ⌜ r ≡ placeIn (now (room .entry)) i ⌝ }
+{
+    let at = 1024 + 4 * i;
+    room[at + 1] as usize % 32 * 32 + room[at + 2] as usize / 8
+}
+
+// How long its text is.
+fn size_at(room: &[u8], i: usize) -> usize
+    requires { ⌜ (i < textMost) × (roomLeast ≤ length (now room)) ⌝ }
+    ensures { λ r. ⌜ r ≡ sizeIn (now (room .entry)) i ⌝ }
+{
+    let at = 1024 + 4 * i;
+    room[at + 2] as usize % 8 * 256 + room[at + 3] as usize
+}
+
+// The kind of the token at i of n, and 0 past the last.
+pub fn kind_at(room: &[u8], n: usize, i: usize) -> u8
+    requires { ⌜ (n ≤ textMost) × (roomLeast ≤ length (now room)) ⌝ }
+    ensures { λ r. ⌜ r ≡ tokenOf (tokensOf (now (room .entry)) n) i .kind ⌝ }
+{
+    if i < n { room[1024 + 4 * i] } else { 0 }
+}
+
+// Where the token at i of n starts in the text.
+pub fn place_at(room: &[u8], n: usize, i: usize) -> usize
+    requires { ⌜ (i < n) × (n ≤ textMost) × (roomLeast ≤ length (now room)) ⌝ }
+    ensures { λ r. ⌜ r ≡ tokenOf (tokensOf (now (room .entry)) n) i .place ⌝ }
+{
+    start_at(room, i)
+}
+
+// The unescaped text of the token at i.
+pub fn text_at(room: &[u8], i: usize) -> &[u8]
+    requires { ⌜ (i < textMost) × (Below textMost (now room) i) × (roomLeast ≤ length (now room)) ⌝ }
+    ensures { λ r. ⌜ now r ≡ tokenAt (now (room .entry)) i .text ⌝ }
+{
+    let at = start_at(room, i);
+    let end = at + size_at(room, i);
+    &room[at..end]
+}
+
+// The part that names the field: the default field for 0, the text of token k for k + 1.
+pub fn field_part<'a>(room: &'a [u8], default: &'a [u8], from: usize) -> &'a [u8]
+    requires { ⌜ (from ≤ textMost) × (Laid (now room) from) × (roomLeast ≤ length (now room)) ⌝ }
+    ensures { λ r. ⌜ now r ≡ nameFrom (now (room .entry)) (now (default .entry)) from ⌝ }
+{
+    if from == 0 {
+        return default;
+    }
+    text_at(room, from - 1)
+}
+
+// The note of the token at i.
+pub fn note_at(room: &[u8], i: usize) -> u8
+    requires { ⌜ (i < textMost) × (roomLeast ≤ length (now room)) ⌝ }
+    ensures { λ r. ⌜ r ≡ noteIn (now (room .entry)) i ⌝ }
+{
+    room[1024 + 4 * i + 1] / 32
+}
+
+// That the lexer found it to be a word.
+pub fn is_word_at(room: &[u8], i: usize) -> bool
+    requires { ⌜ (i < textMost) × (roomLeast ≤ length (now room)) ⌝ }
+    ensures { λ r. ⌜ r ≡ eqb (noteIn (now (room .entry)) i) wordNote ⌝ }
+{
+    room[1024 + 4 * i + 1] / 32 == 6
+}
+
+// Notes a at the token at i. Its place, in the same byte, stays.
+pub fn put_note(room: &mut [u8], i: usize, a: u8)
+    requires { ⌜ (i < textMost) × (roomLeast ≤ length (now room)) × (a < 8) ⌝ }
+    ensures { λ _. ⌜ Renoted i a (now (room .entry)) (now (room .exit)) ⌝ }
+{
+    let at = 1024 + 4 * i + 1;
+    room[at] = room[at] % 32 + a * 32;
+}
