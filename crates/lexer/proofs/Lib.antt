@@ -1,5 +1,5 @@
 mod Words
-mod Flags
-mod Unescaped
+pub mod Flags
+pub mod Unescaped
 mod Starts
 pub mod Turns

@@ -1,5 +1,5 @@
 -- `stored::list::is_place` meets its contract.
-use Rattle.stored.proofs.Plainly as plainly
+use Rattle.stored.proofs.Lister as lister
 use denote.Ref.{now}
 use mathlib.Core.Path.{sym}
 use borrow.Author.Needs.{needs}
@@ -10,7 +10,7 @@ is-plain-requires : tie.Need-is-plain-requires
 is-plain-requires c κs = search needs
 
 returns : tie.Need-returns
-returns c = sym (plainly.plain-place (now (c .before .before .before .args .b)) (c .before .is-plain .ensures (c .if1 .taken)))
+returns c = sym (lister.plain-place (now (c .before .before .before .args .b)) (c .before .is-plain .ensures (c .if1 .taken)))
 
 is-fielded-requires : tie.Need-is-fielded-requires
 is-fielded-requires c κs = search needs
