@@ -1,8 +1,6 @@
 // The measuring pass: it follows the grammar and answers a refusal, or lengths. It writes nothing, so that a refusal
 // leaves the output as it was and the length of the whole is known before the first byte is written.
 // The field in force is handed down as a number: 0 for the default field, k + 1 for the text of token k.
-use counted::Counted;
-use counted::query_len;
 use crate::kinds;
 use crate::kinds::Measured;
 use crate::kinds::Sum;
@@ -12,6 +10,8 @@ use crate::start::Start;
 use crate::start::clause_start;
 use crate::start::one_at;
 use boost::numeral::fault;
+use counted::Counted;
+use counted::query_len;
 use row::field_part;
 use row::kind_at;
 use row::text_at;

@@ -1,9 +1,6 @@
 // The writing pass, run only when measuring met no fault and the output is long enough. The body of a clause is written
 // first, behind three bytes that are left for its header, and the header afterwards, when its length is known. Only a query in brackets
 // is measured once more: whether it stands alone must be known first, and it is lent the stretch that it fills exactly.
-use counted::Counted;
-use counted::is_alone;
-use counted::query_len;
 use crate::kinds;
 use crate::kinds::is_at;
 use crate::leaf::write_text;
@@ -13,11 +10,14 @@ use crate::start::clause_start;
 use crate::start::one_at;
 use boost::numeral::Answer;
 use boost::numeral::numeral;
-use row::field_part;
-use row::text_at;
+use counted::Counted;
+use counted::is_alone;
+use counted::query_len;
 use numbers::put_big4;
 use parts::write::put_header;
 use parts::write::put_minimum;
+use row::field_part;
+use row::text_at;
 ghost use mathlib.Core.Path.{_≡_};
 ghost use mathlib.Core.Bool.{false};
 ghost use Prim.Native.Nat.{ℕ, _+_, _-_, _≤_, _<_};

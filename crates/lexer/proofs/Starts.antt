@@ -17,14 +17,14 @@ use Rattle.rules.specs.Analysis.{isLetter}
 use Rattle.rules.specs.Lexing.{Piece, piece, Lexed, lexed, endKind, termKind, quotedKind, andKind, orKind, isQuote, isBracket, isWildcard, termText, quotedText, wordKind, wordLexed, termEnd, quotedEnd, termFrom, quotedFrom, signKind, doubled, tokenAt}
 use Rattle.rules.proofs.Bools.{clash, and-l, and-r, and-no-r}
 use Rattle.row.specs.Row.{wordNote}
-use Rattle.lexer.specs.Texts.{Spelled, Reads}
-use Rattle.lexer.specs.declared.texts.Ended.{Ended}
-use Rattle.lexer.specs.declared.texts.Ended.the-variants.{At}
-use Rattle.lexer.specs.declared.texts.Ended.the-variants as ended
+use Rattle.texts.specs.Texts.{Spelled, Reads}
+use Rattle.texts.specs.declared.Ended.{Ended}
+use Rattle.texts.specs.declared.Ended.the-variants.{At}
+use Rattle.texts.specs.declared.Ended.the-variants as ended
 use Rattle.lexer.specs.Tokens.{Noted, Makes, noteOf, doubleKind, badStart}
 use Rattle.lexer.specs.declared.tokens.Step.{Step}
 use Rattle.lexer.specs.declared.tokens.Step.the-variants.{Refused, Token}
-use Rattle.lexer.proofs.Flags.{letter-other}
+use Rattle.texts.proofs.Flags.{letter-other}
 
 -- ---- which token begins with c
 

@@ -8,7 +8,7 @@ use lib.Dec.{leb, eqb}
 use Rattle.rules.specs.Numbers.{Refusal, number, rangeBracket, wildcard, Read, got, refused, chunkMost}
 use Rattle.rules.specs.Lexing.{Lexed, lexed, endKind, termKind, andKind, orKind, isBracket, isWildcard}
 use Rattle.row.specs.Row.{wordNote}
-use Rattle.lexer.specs.Texts.{Spelled}
+use Rattle.texts.specs.Texts.{Spelled}
 use Rattle.lexer.specs.declared.tokens.Step.{Step}
 use Rattle.lexer.specs.declared.tokens.Step.the-variants.{Refused, Token}
 

@@ -11,7 +11,6 @@ ghost use Rattle.row.specs.Row.{roomLeast, entryAt, entry};
 ghost use Rattle.lexer.specs.Lexing.{answerOf, Row};
 use tokens::Step;
 
-mod texts;
 mod tokens;
 
 pub enum Lexed {

@@ -2,10 +2,10 @@
 use super::entry::field;
 use super::entry::is_place;
 use super::entry::text;
-use stretches::same;
 use parts::part::body;
 use parts::part::rest;
 use parts::part::size_of;
+use stretches::same;
 ghost use mathlib.Core.Path.{_≡_};
 ghost use mathlib.Core.Bool.{true};
 ghost use Rattle.rules.specs.Bytes.{every, each};

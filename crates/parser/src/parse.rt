@@ -1,17 +1,17 @@
 // The public call: a text under a setup becomes the stored form of its query, or a refusal leaves the output as it was.
 // The first half measures, so that what does not fit is refused before a byte is written. The room ends all zeros in every case.
 use crate::setup;
-use fields::analyzer_among;
+use clauses::measure::measure_query;
+use clauses::write::write_query;
 use counted::Counted;
 use counted::is_alone;
 use counted::query_len;
-use clauses::measure::measure_query;
-use clauses::write::write_query;
+use fields::analyzer_among;
 use lexer::Lexed;
+use parts::write::put_header;
 use row::kind_at;
 use stretches::clear;
 use stretches::is_text;
-use parts::write::put_header;
 ghost use mathlib.Core.Path.{_≡_};
 ghost use mathlib.Core.List.{List};
 ghost use Prim.Native.Nat.{ℕ, _+_, _*_, _≤_, _<_};

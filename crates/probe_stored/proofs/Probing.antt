@@ -8,7 +8,7 @@ use Rattle.rules.specs.Checked.{Stored}
 use Rattle.rules.specs.Reading.{numberOf, readForSelection}
 use Rattle.rules.proofs.Refusals.{number-not}
 use Rattle.rules.proofs.Accepted.{Accepted, accepted, stored}
-use Rattle.stored.specs.Measure.{Weighs, Largest}
+use Rattle.measures.specs.Measure.{Weighs, Largest}
 use Rattle.probe_stored.specs.Probe.{weightRead, largestRead}
 
 module _ (s : List ℕ) (r : ℕ) (e : r ≡ numberOf (readForSelection s)) where

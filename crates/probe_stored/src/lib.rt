@@ -1,7 +1,7 @@
 // The checks of `stored` for programs in other languages: for tests alone, which link this crate's archive.
-use stored::list::check_list;
-use stored::measure::largest;
-use stored::measure::weight;
+use lists::check_list;
+use measures::largest;
+use measures::weight;
 use stored::read::for_rewriting;
 use stored::read::for_selection;
 ghost use mathlib.Core.Path.{_≡_};

@@ -1,10 +1,10 @@
 // Rounds, until one changes nothing; and the call.
-use stretches::clear;
-use stretches::copy;
-use stretches::same;
 use round::once::rewrite_once;
 use round::place::shift;
 use stored::read::for_rewriting;
+use stretches::clear;
+use stretches::copy;
+use stretches::same;
 ghost use mathlib.Core.Path.{_≡_};
 ghost use Rattle.rules.specs.Query.{Query};
 ghost use Rattle.rules.specs.Checked.{Is};

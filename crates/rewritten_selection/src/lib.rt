@@ -1,9 +1,9 @@
 // Selection with what the rewriter makes of a query, in one call: what it lists is said of the query as written. The rewritten query is held in
 // a room of its own, since two parts of one slice cannot be lent for writing at the same time.
-use stretches::clear;
 use rewriter::rounds::rewrite;
 use selection::select::Selected;
 use selection::select::select;
+use stretches::clear;
 ghost use mathlib.Core.Path.{_≡_};
 ghost use Rattle.rewritten_selection.specs.Choice.{left, choiceLeft, Demanded};
 

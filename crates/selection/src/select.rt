@@ -1,12 +1,12 @@
 // Selection: the numbers, from 0, of the records that a query is true of, into rows that the caller lends. The query and the list are checked
 // once. Whether the rows are long enough is known at once where they hold every record; only else is it counted before anything is written.
+use lists::check_list;
 use matching::truth::holds;
 use numbers::put_big4;
-use stretches::clear;
 use parts::part::body;
 use parts::part::rest;
-use stored::list::check_list;
 use stored::read::for_selection;
+use stretches::clear;
 ghost use mathlib.Core.Path.{_≡_};
 ghost use Prim.Native.Nat.{_+_, _≤_};
 ghost use mathlib.Core.Bool.{true, cond};

@@ -1,7 +1,5 @@
-pub mod Lister
 pub mod Opening
 pub mod Plainly
 pub mod Reader
 pub mod Rowing
 pub mod Stepping
-pub mod Walking

@@ -1,3 +1,1 @@
-pub mod List
-pub mod Measure
 pub mod Read

@@ -1,4 +1,2 @@
-// The stored form of queries and of catalogue lists: the readers and the measures, proved equal to the definitions of `rules`.
-pub mod list;
-pub mod measure;
+// The reader of stored queries, proved equal to the definitions of `rules`.
 pub mod read;

@@ -1,8 +1,6 @@
 // The reader of stored queries, for both limits: 0 where the bytes are one query's stored form, else 19, 20 or 21 in reading order.
 // No function here calls itself: a scheduler's thread has little stack, and a query may nest 192 records.
 use numbers::big4;
-use stretches::is_field;
-use stretches::is_text;
 use parts::part::body;
 use parts::part::is_field_part;
 use parts::part::is_part;
@@ -12,6 +10,8 @@ use parts::part::is_within;
 use parts::part::rest;
 use parts::part::size_of;
 use parts::part::whole;
+use stretches::is_field;
+use stretches::is_text;
 ghost use mathlib.Core.Path.{_≡_};
 ghost use Prim.Native.Nat.{_≤_, _<_};
 ghost use lib.ListN.{length};

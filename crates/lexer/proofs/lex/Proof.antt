@@ -4,7 +4,7 @@ use Rattle.rules.specs.Analysis.{classes}
 use Prim.Native.Nat.{_-_}
 use lib.ListN.{length, getD}
 use Rattle.lexer.proofs.Turns.{Lexing, lexing-none, lexing-space, lexing-refused, lexing-token, lexing-over, ends-behind}
-use Rattle.lexer.proofs.Flags.{text-byte, space-told, no-space-told}
+use Rattle.texts.proofs.Flags.{text-byte, space-told, no-space-told}
 use native.Mathlib.Omega.{arith}
 use borrow.Author.Needs.{needs}
 use Rattle.lexer.proofs.lex.Statement.{statement}

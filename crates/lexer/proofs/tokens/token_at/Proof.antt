@@ -3,7 +3,7 @@ use mathlib.Core.Path.{refl, sym, ap, _∙_}
 use lib.ListN.{getD}
 use borrow.Author.Tests.{eq-eqb, ne-eqb}
 use Rattle.lexer.specs.Tokens.{doubleKind}
-use Rattle.lexer.proofs.Flags.{text-byte, letter-told}
+use Rattle.texts.proofs.Flags.{text-byte, letter-told}
 use Rattle.lexer.proofs.Starts.{made-letter, made-sign, made-double, made-quoted, made-bad, made-term}
 use borrow.Author.Needs.{needs}
 use Rattle.lexer.proofs.tokens.token_at.Statement.{statement}

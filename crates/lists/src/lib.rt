@@ -1,0 +1,112 @@
+// The reader of catalogue lists, by the same parts: 0 where every record and every entry in it is sound, else 22 or 23.
+use parts::part::body;
+use parts::part::is_field_part;
+use parts::part::is_part;
+use parts::part::is_part_of;
+use parts::part::is_plain;
+use parts::part::rest;
+use parts::part::whole;
+use stored::read::is_word;
+ghost use mathlib.Core.Path.{_≡_};
+ghost use Rattle.rules.specs.Numbers.{placeTag};
+ghost use Rattle.rules.specs.Bytes.{every};
+ghost use Rattle.rules.specs.Reading.{numberOf};
+ghost use Rattle.rules.specs.Lists.{isValue, isFieldWith, isEntry, isRecord, readList};
+ghost use Rattle.lists.specs.List.{isHeld};
+
+fn is_value(s: &[u8]) -> bool
+    ensures { λ r. ⌜ r ≡ isValue (now (s .entry)) ⌝ }
+{
+    is_part_of(s, 0x14, 8)
+}
+
+// What stands behind the field of an entry with this tag: a position with a text, or a number.
+fn is_held(tag: u8, s: &[u8]) -> bool
+    ensures { λ r. ⌜ r ≡ isHeld tag (now (s .entry)) ⌝ }
+{
+    if tag == 0x41 { is_word(s) } else { is_value(s) }
+}
+
+fn is_fielded(tag: u8, b: &[u8]) -> bool
+    ensures { λ r. ⌜ r ≡ isFieldWith (isHeld tag) (now (b .entry)) ⌝ }
+{
+    if !is_field_part(b) {
+        return false;
+    }
+    let w = rest(b);
+    if !is_held(tag, w) {
+        return false;
+    }
+    rest(w).len() == 0
+}
+
+// A position with a text behind the field, short ones first.
+fn is_place(b: &[u8]) -> bool
+    ensures { λ r. ⌜ r ≡ isFieldWith (isHeld placeTag) (now (b .entry)) ⌝ }
+{
+    if is_plain(b, 0x12, 4) {
+        return true;
+    }
+    is_fielded(0x41, b)
+}
+
+fn is_entry(s: &[u8]) -> bool
+    ensures { λ r. ⌜ r ≡ isEntry (now (s .entry)) ⌝ }
+{
+    if !whole(s) {
+        return false;
+    }
+    let b = body(s);
+    match s[0] {
+        0x41 => is_place(b),
+        0x44 => is_fielded(0x44, b),
+        0x45 => is_fielded(0x45, b),
+        _ => false,
+    }
+}
+
+fn is_entries(s: &[u8]) -> bool
+    ensures { λ r. ⌜ r ≡ every isEntry (now (s .entry)) ⌝ }
+{
+    let mut t = s;
+    while t.len() > 0 {
+        if !is_entry(t) {
+            return false;
+        }
+        let u = rest(t);
+        t = u;
+    }
+    true
+}
+
+fn is_record(s: &[u8]) -> bool
+    ensures { λ r. ⌜ r ≡ isRecord (now (s .entry)) ⌝ }
+{
+    if !is_part(s, 0x40) {
+        return false;
+    }
+    is_entries(body(s))
+}
+
+fn is_records(s: &[u8]) -> bool
+    ensures { λ r. ⌜ r ≡ every isRecord (now (s .entry)) ⌝ }
+{
+    let mut t = s;
+    while t.len() > 0 {
+        if !is_record(t) {
+            return false;
+        }
+        let u = rest(t);
+        t = u;
+    }
+    true
+}
+
+pub fn check_list(l: &[u8]) -> u8
+    ensures { λ r. ⌜ r ≡ numberOf (readList (now (l .entry))) ⌝ }
+{
+    if l.len() > 65536 {
+        return 22;
+    }
+    if is_records(l) { 0 } else { 23 }
+}
