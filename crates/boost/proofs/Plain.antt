@@ -10,7 +10,7 @@ use lib.ListN.{length, drop, getD, drop-of-length-le}
 use Rattle.rules.specs.Numbers.{Read, got, refused, number}
 use Rattle.rules.specs.Reading.{numberOf}
 use Rattle.rules.specs.Analysis.{front}
-use Rattle.rules.specs.Numerals.{Numeral, decimal, isDigit, isMinus, afterSign, afterDigits, unsigned, bitsOf, numeralBits}
+use Rattle.rules.specs.Numerals.{decimal, isDigit, afterSign, afterDigits, unsigned, bitsOf, numeralBits}
 use Rattle.rules.proofs.Refusals.{number-read}
 use Rattle.rules.proofs.NearestOrder.{tri}
 use Rattle.boost.specs.declared.numeral.Answer.the-variants.{Refused, Bits}

@@ -1,6 +1,5 @@
 // The 32-bit pattern nearest to a fraction of two rows. The fraction is compared with the middle between two neighbouring patterns, over whole
 // numbers, so that no digit is ever lost.
-ghost use mathlib.Core.Path.{_≡_};
 ghost use Prim.Native.Nat.{_+_, _*_, _<_};
 ghost use Rattle.rules.specs.Numerals.{unitsOf};
 ghost use Rattle.boost.specs.Row.{value, limit, Row, Times};

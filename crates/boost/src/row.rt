@@ -1,7 +1,7 @@
 // Large whole numbers as rows of 18 limbs of 32 bits, lowest first: for numerals too long for the short way.
 // 576 bits hold 40 digits times 10^38 in half units, and the largest middle between two patterns times 10^85.
 ghost use mathlib.Core.Path.{_≡_};
-ghost use Prim.Native.Nat.{_+_, _*_, _%_, _^_, _<_, _≤_};
+ghost use Prim.Native.Nat.{_+_, _*_, _%_, _^_, _<_};
 ghost use Rattle.boost.specs.Row.{value, limit, Row, Scaled, Ordered, ByLimb, Times};
 
 pub type Limbs = [u32; 18];

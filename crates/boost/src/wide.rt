@@ -1,7 +1,7 @@
 // The middle way, for up to 18 digits over a power of ten below 10^12: one division of 64-bit whole numbers, rounded once. leading_zeros brings the
 // number to 63 bits, so that the quotient has more than the 24 bits of a significand.
 ghost use mathlib.Core.Path.{_≡_};
-ghost use Prim.Native.Nat.{_*_, _^_, _<_, _≤_};
+ghost use Prim.Native.Nat.{_*_, _^_, _<_};
 ghost use lib.Ieee.Nearest.{closest};
 ghost use Rattle.rules.specs.Numerals.{nearest};
 

@@ -1,22 +1,20 @@
 -- The tokens in the room: how many there are, which stands where, and how their places rise. Assumes nothing.
 use mathlib.Core.Path.{_≡_, refl, sym, ap, subst, _∙_}
-use mathlib.Core.Logic.{_⊎_, inl, inr, ⊎-elim}
-use mathlib.Core.Bool.{Bool, true, false, not, _&&_, _||_}
+use mathlib.Core.Bool.{Bool, true, false, _&&_}
 use Prim.Native.Nat.{ℕ, zero, suc, _+_, _≤_, _<_}
 use mathlib.Core.List.{List, [], _∷_, _++_}
 use native.Mathlib.Decide.{decLt}
 use native.Mathlib.Omega.{arith}
 use native.Mathlib.Numerals.{add-one}
-use lib.Dec.{eqb}
 use lib.ListN.{length, getD, length-append, List·getD-append, List·getD-eq-default}
 use lib.Seq.{getD-at}
 use borrow.Author.Tests.{eqb-true}
 use Rattle.rules.specs.Numbers.{textMost}
-use Rattle.rules.specs.Lexing.{Token, endKind}
+use Rattle.rules.specs.Lexing.{Token}
 use Rattle.rules.specs.Parsing.{tokenOf, isAt, textAt, stopsAt}
-use Rattle.rules.proofs.Bools.{clash, split, and-l, neither, or-r}
-use Rattle.row.specs.Row.{tokenAt, tokensOf, nameFrom}
-use Rattle.clauses.specs.Measured.{placeAt, Spaced, Rowed, isNamed}
+use Rattle.rules.proofs.Bools.{clash, or-r}
+use Rattle.row.specs.Row.{tokenAt, tokensOf}
+use Rattle.clauses.specs.Measured.{placeAt, Rowed, isNamed}
 
 pub tokens-length : (room : List ℕ) (n : ℕ) → length (tokensOf room n) ≡ n
 unfolding tokensOf

@@ -1,25 +1,23 @@
 -- The clauses of a query, a turn at a time, whatever the fuel. Assumes nothing.
-use mathlib.Core.Path.{_≡_, refl, sym, ap, subst, _∙_}
-use mathlib.Core.Bool.{Bool, true, false, not, cond}
+use mathlib.Core.Path.{_≡_, refl, sym, subst, _∙_}
+use mathlib.Core.Bool.{true, false}
 use Prim.Native.Nat.{ℕ, zero, suc, _+_, _-_, _*_, _≤_, _<_}
-use mathlib.Core.List.{List, []}
+use mathlib.Core.List.{List}
 use native.Mathlib.Omega.{arith}
-use lib.ListN.{length}
-use lib.Dec.{eqb, ltb}
+use lib.Dec.{ltb}
 use borrow.Author.Tests.{lt-ltb}
-use Rattle.rules.specs.Numbers.{Refusal, number, Read, got, refused, onRead, andThen}
+use Rattle.rules.specs.Numbers.{Refusal, Read, got, refused, andThen}
 use Rattle.rules.specs.Query.{Clauses, none, clause}
 use Rattle.rules.specs.Lexing.{Token}
 use Rattle.rules.specs.Setup.{Setup}
-use Rattle.rules.specs.Parsing.{Made, nothing, made, Found, found, Kept, kept, isAt, stopsAt, Conjunction, unjoined, joinedByAnd, joinedByOr, Modifier, unmodified, required, prohibited, conjunctionAt, afterConjunction, modifierAt, afterModifier, touched, kindAfter, addClause, queryFound, clauseAt, parseClauses}
+use Rattle.rules.specs.Parsing.{Made, nothing, made, found, Kept, kept, stopsAt, Conjunction, unjoined, joinedByAnd, joinedByOr, Modifier, unmodified, required, prohibited, conjunctionAt, afterConjunction, modifierAt, afterModifier, addClause, parseClauses}
 use Rattle.counted.specs.Kinds.{conjunctionOf, modifierOf, isKept, countOf, bytesOf, madeLength, withMade, Sums}
 use Rattle.row.specs.Row.{tokensOf}
-use Rattle.clauses.specs.Measured.{Says, placeAt, Rowed, clauseRun, clausesRun, MeansFound, MeansKept, WithinClause, WithinClauses, MeantClause, MeantClauses}
+use Rattle.clauses.specs.Measured.{Says, placeAt, Rowed, clauseRun, clausesRun, MeansFound, WithinClause, MeantClause, MeantClauses}
 use Rattle.clauses.specs.declared.kinds.Measured.{Measured}
 use Rattle.clauses.specs.declared.kinds.Measured.the-variants.{Refused, Clause}
-use Rattle.counted.specs.declared.Counted.{Counted}
 use Rattle.counted.specs.declared.Counted.the-variants.{Fault, Clauses as Many}
-use Rattle.clauses.proofs.Rows.{kind-in, goes-in, place-near, place-most}
+use Rattle.clauses.proofs.Rows.{place-near, place-most}
 
 -- ---- what was read before a clause
 

@@ -1,23 +1,21 @@
 -- The tokens of a text counted one after the other, and how long a term's and a phrase's query is. Assumes nothing.
-use mathlib.Core.Path.{_≡_, refl, sym, ap, _∙_}
+use mathlib.Core.Path.{_≡_, refl, ap, _∙_}
 use mathlib.Core.Bool.{Bool, true, false, cond}
 use Prim.Native.Nat.{ℕ, suc, _+_, _-_, _*_, _≤_, _<_}
-use mathlib.Core.List.{List, [], _∷_, _++_}
+use mathlib.Core.List.{List, [], _∷_}
 use native.Mathlib.Omega.{arith}
 use lib.Dec.{eqb}
-use lib.ListN.{length, take, drop, length-append, length-drop, length-map}
+use lib.ListN.{length, take, drop, length-drop, length-map}
 use lib.Seq.{length-take-le}
-use Rattle.rules.specs.Numbers.{fieldMost}
-use Rattle.rules.specs.Bytes.{part}
 use Rattle.rules.specs.Analysis.{tokenTexts, placedFrom, tokenize, lower, lowercase}
-use Rattle.rules.specs.Query.{Kind, Word, word, term, phrase, boolean, Clauses}
-use Rattle.rules.specs.Stored.{encode, encodes, encodeWords, kindTag}
-use Rattle.rules.specs.Parsing.{Made, made, nothing, operatorKind, termClauses, termOf, phraseOf}
+use Rattle.rules.specs.Query.{Kind, term}
+use Rattle.rules.specs.Stored.{encodes, encodeWords}
+use Rattle.rules.specs.Parsing.{operatorKind, termClauses, termOf, phraseOf}
 use Rattle.rules.proofs.Sizes.{length-word, length-term, length-phrase, length-boolean, length-none, length-clause}
 use Rattle.rules.proofs.Pieces.{total}
 use Rattle.rules.proofs.Tokens.{tokens-total, tokens-most}
 use Rattle.analysis.specs.Tokens.{Found, spelled}
-use Rattle.counted.specs.Kinds.{madeBytes, madeLength}
+use Rattle.counted.specs.Kinds.{madeLength}
 use Rattle.clauses.specs.Leaves.{tallied, Tallied, leafOf}
 
 -- ---- a token at a time

@@ -1,6 +1,6 @@
 -- Terms and phrases as the code measures and writes them: by the tokens' texts, one after the other.
 use mathlib.Core.Path.{_≡_}
-use Prim.Native.Nat.{ℕ, suc, _+_}
+use Prim.Native.Nat.{ℕ, _+_}
 use mathlib.Core.List.{List, [], _∷_, _++_}
 use lib.ListN.{length}
 use mathlib.Core.Bool.{Bool, true, false}

@@ -1,6 +1,6 @@
 -- Where a clause begins behind a field name, and how a boost behind it is bounded.
 use mathlib.Core.Path.{_≡_}
-use Prim.Native.Nat.{ℕ, suc, _+_, _≤_}
+use Prim.Native.Nat.{ℕ, _+_, _≤_}
 use mathlib.Core.List.{List}
 use Rattle.rules.specs.Numbers.{Read, refused, longField}
 use Rattle.rules.specs.Lexing.{Token}

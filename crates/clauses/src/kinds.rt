@@ -13,20 +13,6 @@ ghost use Rattle.row.specs.Row.{roomLeast, tokensOf};
 ghost use Rattle.counted.specs.Kinds.{conjunctionOf, modifierOf, isKept, lastTag, madeLength, withMade, Sums};
 ghost use Rattle.clauses.specs.Measured.{isNamed};
 
-pub const TERM: u8 = 1;
-
-pub const QUOTED: u8 = 2;
-
-pub const COLON: u8 = 3;
-
-pub const OPEN: u8 = 9;
-
-pub const CLOSE: u8 = 10;
-
-pub const CARET: u8 = 11;
-
-pub const TILDE: u8 = 12;
-
 // A clause that was read: a refusal, or the length of its query (0 where it analyzes to nothing) and the number of the next token.
 pub enum Measured {
     Refused(u8),

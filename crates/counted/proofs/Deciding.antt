@@ -1,20 +1,19 @@
 -- What the decisions on one token or on numbers alone come to, case by case. Assumes nothing.
-use mathlib.Core.Path.{_≡_, refl, sym, ap, _∙_}
-use mathlib.Core.Bool.{Bool, true, false, not, _||_, _&&_, cond}
-use Prim.Native.Nat.{ℕ, suc, _+_, _≤_, _<_}
-use mathlib.Core.List.{List, [], _∷_, _++_}
+use mathlib.Core.Path.{_≡_, refl, sym, _∙_}
+use mathlib.Core.Bool.{Bool, true, false, not, cond}
+use Prim.Native.Nat.{ℕ, _+_}
+use mathlib.Core.List.{List}
 use native.Mathlib.Omega.{arith}
 use lib.ListN.{length, length-append}
 use lib.Dec.{eqb, ltb}
 use borrow.Author.Tests.{eq-eqb, ne-eqb}
-use Rattle.rules.specs.Bytes.{part}
 use Rattle.rules.specs.Query.{Kind, must, should, mustNot, filter, Query, Clauses, none, clause}
-use Rattle.rules.specs.Stored.{kindTag, encode}
+use Rattle.rules.specs.Stored.{kindTag}
 use Rattle.rules.specs.Lexing.{Token}
-use Rattle.rules.specs.Parsing.{Made, nothing, made, tokenOf, isAt, stopsAt, Conjunction, unjoined, joinedByAnd, joinedByOr, Modifier, unmodified, required, prohibited, conjunctionAt, afterConjunction, modifierAt, afterModifier, kindBefore, kindAfter, touched, operatorKind}
+use Rattle.rules.specs.Parsing.{Made, nothing, made, tokenOf, isAt, stopsAt, Conjunction, unjoined, joinedByAnd, joinedByOr, required, prohibited, conjunctionAt, afterConjunction, modifierAt, afterModifier, kindBefore, kindAfter, touched}
 use Rattle.rules.proofs.Bools.{clash}
 use Rattle.rules.proofs.Sizes.{length-encode}
-use Rattle.counted.specs.Kinds.{conjunctionOf, modifierOf, isKept, countOf, lastTag, bytesOf, isAlone, madeBytes, madeLength, withMade, Sums}
+use Rattle.counted.specs.Kinds.{conjunctionOf, modifierOf, isKept, countOf, lastTag, bytesOf, isAlone, madeLength, withMade, Sums}
 
 -- ---- past a conjunction or a modifier
 

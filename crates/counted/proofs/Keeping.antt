@@ -1,17 +1,17 @@
 -- Kept clauses: their bytes in the order of the text, and the query that they make. Assumes nothing.
 use mathlib.Core.Path.{_≡_, refl, sym, ap, _∙_}
-use mathlib.Core.Bool.{Bool, true, false}
-use Prim.Native.Nat.{ℕ, suc, _+_, _-_, _*_, _≤_, _<_}
-use mathlib.Core.List.{List, [], _∷_, _++_, append-assoc, append-nil}
+use mathlib.Core.Bool.{true, false}
+use Prim.Native.Nat.{ℕ, _+_, _-_}
+use mathlib.Core.List.{_++_, append-assoc, append-nil}
 use native.Mathlib.Omega.{arith}
-use lib.ListN.{length, length-append}
+use lib.ListN.{length}
 use Rattle.rules.specs.Bytes.{part}
 use Rattle.rules.specs.Query.{Kind, must, should, mustNot, filter, Query, boolean, Clauses, none, clause}
 use Rattle.rules.specs.Stored.{kindTag, encode, encodes}
-use Rattle.rules.specs.Parsing.{Made, nothing, made, inOrderBefore, alone, queryOf}
+use Rattle.rules.specs.Parsing.{made, inOrderBefore, queryOf}
 use Rattle.rules.proofs.Bools.{clash}
 use Rattle.rules.proofs.Sizes.{length-boolean}
-use Rattle.counted.specs.Kinds.{isKept, countOf, bytesOf, isAlone, madeBytes, madeLength, Sums}
+use Rattle.counted.specs.Kinds.{isKept, countOf, bytesOf, isAlone, madeLength, Sums}
 
 pub in-order : (ds cs : Clauses) → encodes (inOrderBefore ds cs) ≡ bytesOf cs ++ encodes ds
 unfolding inOrderBefore encodes bytesOf

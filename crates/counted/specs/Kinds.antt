@@ -1,12 +1,12 @@
 -- Conjunctions, modifiers and kept clauses as the code holds them: by numbers, a tag, and lengths.
 use mathlib.Core.Path.{_≡_}
-use Prim.Native.Nat.{ℕ, zero, suc, _+_}
+use Prim.Native.Nat.{ℕ, suc, _+_}
 use mathlib.Core.List.{List, [], _++_}
-use mathlib.Core.Bool.{Bool, true, false, not, cond}
+use mathlib.Core.Bool.{Bool, true, false, cond}
 use lib.ListN.{length}
 use lib.Dec.{eqb}
 use Rattle.rules.specs.Bytes.{part}
-use Rattle.rules.specs.Query.{Kind, must, should, mustNot, filter, Query, Clauses, none, clause}
+use Rattle.rules.specs.Query.{must, should, mustNot, filter, Clauses, none, clause}
 use Rattle.rules.specs.Stored.{kindTag, encode}
 use Rattle.rules.specs.Parsing.{Made, nothing, made, Conjunction, unjoined, joinedByAnd, joinedByOr, Modifier, unmodified, required, prohibited, touched, kindAfter}
 

@@ -1,23 +1,23 @@
 -- No second answer: two answers that meet a public contract for the same input are one, and so is every byte that was lent. Section 'Proof obligations on answers'.
 -- A law for each form that a contract has; docs/ANSWERS.md says which function has which.
 use mathlib.Core.Path.{_≡_, refl, sym, ap, subst, _∙_}
-use Prim.Native.Nat.{ℕ, _≤_, _<_}
+use Prim.Native.Nat.{ℕ, _<_}
 use mathlib.Core.List.{List}
 use mathlib.Core.Bool.{Bool, true, false}
 use native.Mathlib.Omega.{arith}
 use lib.ListN.{length}
 use lib.Dec.{leb}
-use Rattle.rules.specs.Numbers.{Refusal, number, Read, got, refused, need, onRead, andThen, longAnswer, shortRoom, parseRoom}
+use Rattle.rules.specs.Numbers.{Read, got, refused, need, onRead, andThen, longAnswer, shortRoom, parseRoom}
 use Rattle.rules.specs.Query.{Query}
 use Rattle.rules.specs.Stored.{encode}
-use Rattle.rules.specs.Setup.{Setup, readSetup}
+use Rattle.rules.specs.Setup.{readSetup}
 use Rattle.rules.specs.Parsing.{parse}
-use Rattle.rules.specs.Answers.{Answer, Left, Reply, storedReply, fitting, leave, call, parseReply, parseLeft}
+use Rattle.rules.specs.Answers.{Answer, Left, storedReply, fitting, leave, call, parseReply, parseLeft}
 use Rattle.rules.proofs.Refusals.{number-some}
 use Rattle.rules.proofs.rewriting.Measures.{weight-length}
 use Rattle.rules.proofs.Weights.{weight-some}
 use Rattle.numbers.specs.Laid.{Put}
-use Rattle.parser.specs.Parsed.{answerOf, leftOf, Parses}
+use Rattle.parser.specs.Parsed.{answerOf, Parses}
 use Rattle.parser.specs.declared.parse.Parsed.{Parsed}
 use Rattle.parser.specs.declared.parse.Parsed.the-variants.{Refused, Bytes}
 use Rattle.selection.specs.Select.{Selects, SelectsBytes}

@@ -1,8 +1,8 @@
 -- One token, by the byte that it begins with: the definition's cases, in the order in which code tests them.
-use mathlib.Core.Path.{_≡_, refl, sym, ap, subst, _∙_}
-use Prim.Native.Nat.{ℕ, suc, _+_, _-_, _≤_, _<_}
+use mathlib.Core.Path.{_≡_, refl, sym, subst, _∙_}
+use Prim.Native.Nat.{ℕ, _+_, _-_, _≤_, _<_}
 use mathlib.Core.List.{List, [], _∷_}
-use mathlib.Core.Bool.{Bool, true, false, not, _&&_, cond}
+use mathlib.Core.Bool.{Bool, true, false, _&&_, cond}
 use native.Mathlib.Omega.{arith}
 use native.Mathlib.Decide.{decLt}
 use native.Mathlib.Nat.{add-zero, add-sub-cancel-left}
@@ -11,10 +11,10 @@ use lib.ListN.{length, getD, take, drop, List·getD-eq-default}
 use lib.Seq.{drop-cons, drop-drop, getD-drop}
 use lib.Dec.{leb, eqb}
 use borrow.Author.Tests.{eq-eqb, ne-eqb, leb-true}
-use Rattle.rules.specs.Numbers.{Refusal, number, rangeBracket, wildcard, chunkMost, Read, got, refused, andThen, onRead}
+use Rattle.rules.specs.Numbers.{Refusal, number, rangeBracket, wildcard, chunkMost, Read, got, refused}
 use Rattle.rules.specs.Bytes.{ascii, some}
 use Rattle.rules.specs.Analysis.{isLetter}
-use Rattle.rules.specs.Lexing.{Piece, piece, Lexed, lexed, endKind, termKind, quotedKind, andKind, orKind, isQuote, isBracket, isWildcard, termText, quotedText, wordKind, wordLexed, termEnd, quotedEnd, termFrom, quotedFrom, signKind, doubled, tokenAt}
+use Rattle.rules.specs.Lexing.{Piece, piece, Lexed, lexed, endKind, termKind, andKind, orKind, isQuote, isBracket, isWildcard, termText, quotedText, wordKind, wordLexed, termEnd, termFrom, quotedFrom, signKind, doubled, tokenAt}
 use Rattle.rules.proofs.Bools.{clash, and-l, and-r, and-no-r}
 use Rattle.row.specs.Row.{wordNote}
 use Rattle.texts.specs.Texts.{Spelled, Reads}

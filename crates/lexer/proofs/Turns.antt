@@ -1,6 +1,6 @@
 -- The whole text, a turn at a time: the tokens in the row, and what is still to be read. And what a caller learns of the answer.
 use mathlib.Core.Path.{_≡_, refl, sym, ap, subst, _∙_}
-use Prim.Native.Nat.{ℕ, suc, _+_, _-_, _≤_, _<_}
+use Prim.Native.Nat.{ℕ, _+_, _-_, _≤_, _<_}
 use mathlib.Core.List.{List, [], _∷_, _++_, append-nil, append-assoc}
 use mathlib.Core.Bool.{true, false}
 use native.Mathlib.Omega.{arith}
@@ -9,7 +9,7 @@ use lib.ListN.{length, getD, take, drop, length-drop, drop-of-length-le}
 use lib.Seq.{drop-cons, length-take-le}
 use Rattle.rules.specs.Numbers.{Refusal, number, textMost, Read, got, refused, onRead}
 use Rattle.rules.specs.Analysis.{isSpace}
-use Rattle.rules.specs.Lexing.{Token, Lexed, lexed, lex}
+use Rattle.rules.specs.Lexing.{Token, lex}
 use Rattle.rules.specs.Lexing as lexing
 use Rattle.rules.proofs.Tokenizing.{tokensLeft, lex-left, left-none, left-space, left-refused, left-token, token-shorter, lex-few, lex-standing, Standing}
 use Rattle.rules.proofs.Refusals.{got-same}

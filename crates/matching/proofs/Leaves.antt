@@ -9,7 +9,7 @@ use lib.Seq.{take-all}
 use lib.Dec.{leb, eqb}
 use borrow.Author.Tests.{leb-true}
 use Rattle.rules.specs.Numbers.{termTag, phraseTag, matchAllTag, wholeRangeTag, floatRangeTag, fieldTag, textTag, wordTag, openTag, includedTag, excludedTag}
-use Rattle.rules.specs.Bytes.{ofBig, isText, tagOf, bodyOf, restOf, wholeOf, isPart, every, each, some, all}
+use Rattle.rules.specs.Bytes.{ofBig, isText, tagOf, bodyOf, restOf, wholeOf, isPart, every, each, some}
 use Rattle.rules.specs.Query.{Numbers, Query}
 use Rattle.rules.specs.Stored.{rangeTag}
 use Rattle.rules.specs.Reading.{isWord, wordOf, isBound, boundOf}

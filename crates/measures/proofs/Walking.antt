@@ -8,10 +8,10 @@ use lib.ListN.{length, drop, length-append, length-drop}
 use lib.Seq.{drop-drop}
 use lib.Dec.{leb, eqb}
 use borrow.Author.Tests.{ne-eqb}
-use Rattle.rules.specs.Numbers.{termTag, phraseTag, booleanTag, boostTag, constantScoreTag, matchAllTag, matchNoneTag, wholeRangeTag, floatRangeTag, fieldTag, textTag, minimumTag, mustTag}
-use Rattle.rules.specs.Bytes.{big, isEmpty, part, tagOf, sizeOf, restOf}
-use Rattle.rules.specs.Query.{Kind, must, should, mustNot, filter, Numbers, whole, float, Query, term, phrase, boolean, boost, constantScore, matchAll, matchNone, range, Clauses, none, clause}
-use Rattle.rules.specs.Stored.{kindTag, rangeTag, encodeBound, encodeWords, encode, encodes, Valid, Valids}
+use Rattle.rules.specs.Numbers.{termTag, phraseTag, booleanTag, boostTag, constantScoreTag, matchAllTag, matchNoneTag, wholeRangeTag, floatRangeTag, fieldTag, textTag, mustTag}
+use Rattle.rules.specs.Bytes.{isEmpty, part, tagOf, sizeOf, restOf}
+use Rattle.rules.specs.Query.{Kind, must, should, mustNot, filter, whole, float, Query, term, phrase, boolean, boost, constantScore, matchAll, matchNone, range, Clauses, none, clause}
+use Rattle.rules.specs.Stored.{kindTag, encodeBound, encodeWords, encode, encodes, Valid, Valids}
 use Rattle.rules.specs.Checked.{Is, Stored}
 use Rattle.rules.specs.Rewriting.{weight, weights, largest, largests}
 use Rattle.rules.proofs.Bools.{clash}

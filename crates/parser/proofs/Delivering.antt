@@ -1,33 +1,32 @@
 -- From what is read to what the public call answers and leaves. Assumes nothing.
 use mathlib.Core.Path.{_≡_, refl, sym, ap, subst, _∙_}
-use mathlib.Core.Bool.{Bool, true, false, not, _&&_, cond}
-use Prim.Native.Nat.{ℕ, zero, suc, _+_, _-_, _*_, _≤_, _<_}
+use mathlib.Core.Bool.{Bool, true, false, _&&_}
+use Prim.Native.Nat.{ℕ, zero, suc, _+_, _-_, _≤_, _<_}
 use mathlib.Core.List.{List, [], _∷_, _++_}
 use native.Mathlib.Decide.{decLt}
 use native.Mathlib.Omega.{arith}
 use lib.Dec.{leb}
 use lib.ListN.{length, take, drop, getD, replicate, List·getD-eq-default}
 use borrow.Author.Tests.{le-leb, lt-leb, leb-true}
-use Rattle.rules.specs.Numbers.{Refusal, number, Read, got, refused, need, onRead, andThen, longText, notAscii, badSetup, unexpectedToken, longAnswer, textMost, fieldMost, selectionBytes}
+use Rattle.rules.specs.Numbers.{Refusal, number, Read, got, refused, need, onRead, andThen, longText, notAscii, badSetup, unexpectedToken, longAnswer, fieldMost, selectionBytes}
 use Rattle.rules.specs.Bytes.{isText, isField, all}
 use Rattle.rules.specs.Query.{Query, matchNone, Clauses, none}
 use Rattle.rules.specs.Stored.{encode}
 use Rattle.rules.specs.Lexing.{Token, lex}
 use Rattle.rules.specs.Setup.{FieldEntry, isAnalyzer, isFieldEntry, Setup, isSetup, entriesIn, setupWith, readSetup}
-use Rattle.rules.specs.Parsing.{Made, nothing, made, Found, found, Kept, kept, tokenOf, isAt, queryFound, queryOf, orMatchNone, wholeQuery, parseClauses, parseTokens, parse}
-use Rattle.rules.specs.Answers.{storedReply, fitting, zeros, leave, call, parseReply, parseLeft}
+use Rattle.rules.specs.Parsing.{Made, nothing, made, Kept, tokenOf, isAt, queryFound, queryOf, orMatchNone, wholeQuery, parseClauses, parseTokens, parse}
+use Rattle.rules.specs.Answers.{storedReply, fitting, leave, call, parseReply, parseLeft}
 use Rattle.rules.proofs.Bools.{clash, both, and-l, and-r}
-use Rattle.rules.proofs.Sizes.{length-match-none, length-encode}
+use Rattle.rules.proofs.Sizes.{length-match-none}
 use Rattle.rules.proofs.Tokenizing.{Standing, placeOf, lex-few, lex-standing}
 use Rattle.numbers.specs.Laid.{laid, Put, header}
-use Rattle.numbers.proofs.Laying.{laid-front, lent}
-use Rattle.row.specs.Row.{roomLeast, tokensOf, Laid, nameFrom}
+use Rattle.numbers.proofs.Laying.{laid-front}
+use Rattle.row.specs.Row.{roomLeast, tokensOf}
 use Rattle.lexer.specs.Lexing.{Row, answerOf as lexedOf}
 use Rattle.lexer.specs.declared.Lexed.the-variants as lexed
 use Rattle.counted.specs.Kinds.{isAlone, madeBytes, madeLength, Sums}
-use Rattle.clauses.specs.Measured.{Says, placeAt, Spaced, Rowed, Fielded, Tuned, clausesRun, MeansKept, MeantClauses}
+use Rattle.clauses.specs.Measured.{placeAt, Spaced, Rowed, Tuned, MeansKept, MeantClauses}
 use Rattle.clauses.specs.Written.{QueryToWrite}
-use Rattle.parser.specs.Noted.{Entered, Noted}
 use Rattle.parser.specs.Parsed.{answerOf, leftOf, fit, Delivers, Parses}
 use Rattle.parser.specs.declared.parse.Parsed.{Parsed}
 use Rattle.parser.specs.declared.parse.Parsed.the-variants.{Refused, Bytes}

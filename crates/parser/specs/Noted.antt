@@ -4,7 +4,7 @@ use Prim.Native.Nat.{ℕ, _≤_, _<_}
 use mathlib.Core.List.{List}
 use mathlib.Core.Bool.{Bool, true}
 use lib.ListN.{length, set}
-use Rattle.rules.specs.Numbers.{Read, got, refused, badSetup}
+use Rattle.rules.specs.Numbers.{got, refused, badSetup}
 use Rattle.rules.specs.Bytes.{isText, all}
 use Rattle.rules.specs.Setup.{FieldEntry, isFieldEntry, analyzerAmong, entriesIn, readSetup}
 use Rattle.rules.specs.Parsing.{textAt}

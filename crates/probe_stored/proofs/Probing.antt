@@ -1,5 +1,5 @@
 -- What a probe says of a query that was read, and of one that was not.
-use mathlib.Core.Path.{_≡_, refl, sym, ap, _∙_}
+use mathlib.Core.Path.{_≡_, sym, ap, _∙_}
 use Prim.Native.Nat.{ℕ}
 use mathlib.Core.List.{List}
 use Rattle.rules.specs.Numbers.{selectionBytes, selectionDepth}

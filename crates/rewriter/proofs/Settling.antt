@@ -1,26 +1,25 @@
 -- The rounds: each is counted, and the last one changes nothing. And the call's answer.
-use mathlib.Core.Path.{_≡_, refl, sym, ap, _∙_, subst}
-use Prim.Native.Nat.{ℕ, zero, suc, _+_, _-_, _*_, _≤_, _<_}
-use mathlib.Core.List.{List, [], _∷_, _++_}
+use mathlib.Core.Path.{_≡_, refl, sym, ap, _∙_}
+use Prim.Native.Nat.{ℕ, suc, _+_, _-_, _*_, _≤_, _<_}
+use mathlib.Core.List.{List, _++_}
 use mathlib.Core.Bool.{Bool, true, false, cond}
 use native.Mathlib.Omega.{arith}
 use native.Mathlib.Nat.{add-sub-cancel-left}
-use native.Mathlib.Numerals.{add-one}
 use lib.ListN.{length, take, drop, replicate}
 use lib.Dec.{leb}
 use borrow.Author.Tests.{le-leb, lt-leb}
-use Rattle.rules.specs.Numbers.{Refusal, number, Read, got, refused, need, onRead, andThen, longAnswer, shortRoom, rewriteRoom, rewriterBytes, rewriterDepth}
+use Rattle.rules.specs.Numbers.{Refusal, number, Read, got, refused, need, onRead, andThen, shortRoom, rewriteRoom, rewriterBytes, rewriterDepth}
 use Rattle.rules.specs.Bytes.{Bytes, same}
 use Rattle.rules.specs.Query.{Query, equal}
-use Rattle.rules.specs.Stored.{encode, Valid}
+use Rattle.rules.specs.Stored.{encode}
 use Rattle.rules.specs.Checked.{Is}
 use Rattle.rules.specs.Reading.{numberOf, readForRewriting}
-use Rattle.rules.specs.Rewriting.{weight, rewriteOnce, Rewritten, rewritten, oneRoundMore, rounds, rewrite}
-use Rattle.rules.specs.Answers.{Reply, Left, zeros, leave, fitting, call, rewrittenReply, rewriteReply, rewriteLeft}
+use Rattle.rules.specs.Rewriting.{rewriteOnce, Rewritten, rewritten, oneRoundMore, rounds, rewrite}
+use Rattle.rules.specs.Answers.{zeros, leave, fitting, call, rewrittenReply, rewriteReply, rewriteLeft}
 use Rattle.rules.proofs.Equal.{equal-eq, equal-bytes, same-eq, same-refl}
 use Rattle.rules.proofs.Refusals.{number-got, number-not}
 use Rattle.rules.proofs.Sound.{read-sound}
-use Rattle.rules.proofs.rewriting.Measures.{bulk, bulk-is, measured, weight-length, clauseCount}
+use Rattle.rules.proofs.rewriting.Measures.{bulk, bulk-is, measured, weight-length}
 use Rattle.rules.proofs.rewriting.Rounds.{resultOf, countOf}
 use Rattle.rules.proofs.rewriting.Weights.{valid-once, any-fuel}
 use Rattle.numbers.specs.Laid.{laid, Put}

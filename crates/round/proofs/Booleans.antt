@@ -2,26 +2,24 @@
 use mathlib.Core.Path.{_≡_, refl, sym, ap, _∙_, subst}
 use mathlib.Core.Logic.{_⊎_, inl, inr}
 use Prim.Native.Nat.{ℕ, _+_, _-_, _≤_, _<_}
-use mathlib.Core.List.{List, [], _∷_, _++_, append-nil}
-use mathlib.Core.Bool.{Bool, true, false, cond}
+use mathlib.Core.List.{List, [], _++_, append-nil}
+use mathlib.Core.Bool.{true, false}
 use native.Mathlib.Omega.{arith}
 use lib.ListN.{length, getD, take, drop, length-append}
-use lib.Dec.{leb, ltb}
 use borrow.Author.Tests.{lt-ltb, le-ltb, le-leb, lt-leb}
 use Rattle.rules.specs.Numbers.{booleanTag, minimumTag}
 use Rattle.rules.specs.Bytes.{big, part}
 use Rattle.rules.specs.Query.{Kind, Query, boolean, matchNone, Clauses, none, clause}
 use Rattle.rules.specs.Stored.{kindTag, encode, encodes}
-use Rattle.rules.specs.Checked.{Is, Are}
+use Rattle.rules.specs.Checked.{Are}
 use Rattle.rules.specs.Rewriting.{mergedBoolean, lone, loneOrMerged, shouldCount, onlyMustNot, ofLive}
 use Rattle.rules.specs.ByPlace.{mergedByPlace}
 use Rattle.rules.proofs.Bools.{clash}
-use Rattle.rules.proofs.Sizes.{length-clause}
 use Rattle.rules.proofs.rewriting.Measures.{bulk, bulks, bulks-are}
 use Rattle.rules.proofs.rewriting.Bounds.{Bounded, BoundedAll, bounds-law}
 use Rattle.rules.proofs.rewriting.Walk.{merged-law}
 use Rattle.rules.proofs.rewriting.Places.{boolean-by-place}
-use Rattle.numbers.specs.Laid.{laid, Put, header}
+use Rattle.numbers.specs.Laid.{Put, header}
 use Rattle.round.specs.Within.{within, Stands}
 use Rattle.round.specs.Clauses.{isOneClause}
 use Rattle.round.specs.Merge.{Mergeable}

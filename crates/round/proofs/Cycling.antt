@@ -1,13 +1,13 @@
 -- The loop over the clauses of a Boolean: each is rewritten into its own stretch, behind those before it.
-use mathlib.Core.Path.{_≡_, refl, sym, ap, _∙_, subst}
+use mathlib.Core.Path.{_≡_, refl, sym, ap, _∙_}
 use Prim.Native.Nat.{ℕ, _+_, _-_, _*_, _≤_, _<_}
-use mathlib.Core.List.{List, [], _∷_, _++_, append-assoc}
+use mathlib.Core.List.{List, _++_}
 use mathlib.Core.Bool.{Bool, true, false, _&&_, _||_, cond}
 use native.Mathlib.Omega.{arith}
-use lib.ListN.{length, getD, take, drop, length-append}
+use lib.ListN.{length, getD, take, drop}
 use Rattle.rules.specs.Bytes.{part, tagOf, sizeOf}
-use Rattle.rules.specs.Query.{Kind, Query, matchNone, Clauses, none, clause}
-use Rattle.rules.specs.Stored.{kindTag, encode, encodes, Valid, Valids}
+use Rattle.rules.specs.Query.{Kind, Query, Clauses, none, clause}
+use Rattle.rules.specs.Stored.{kindTag, encode, encodes}
 use Rattle.rules.specs.Checked.{Is, Are}
 use Rattle.rules.specs.Rewriting.{isNone, isNeeded, isDead, live, rewriteOnce, rewriteEach}
 use Rattle.rules.specs.ByPlace.{snoc}
@@ -15,7 +15,7 @@ use Rattle.rules.proofs.Bools.{fails}
 use Rattle.rules.proofs.rewriting.Measures.{bulk, bulks, bulks-are}
 use Rattle.rules.proofs.rewriting.Weights.{valid-once}
 use Rattle.rules.proofs.rewriting.Walk.{join, join-none, none-is}
-use Rattle.numbers.specs.Laid.{laid, Put, header}
+use Rattle.numbers.specs.Laid.{Put, header}
 use Rattle.round.specs.Within.{within, Stands}
 use Rattle.round.specs.Once.{Room, Rooms, Ended, Went}
 use Rattle.round.proofs.Standing.{within-same, joined, lower, stands-before}

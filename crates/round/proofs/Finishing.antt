@@ -1,16 +1,15 @@
 -- The last step of a round: a boost, a constant score, a phrase and a lone clause, finished in place.
 use mathlib.Core.Path.{_≡_, refl, sym, ap, _∙_, subst}
 use Prim.Native.Nat.{ℕ, _+_, _-_, _≤_, _<_}
-use mathlib.Core.List.{List, [], _∷_, _++_, append-assoc}
-use mathlib.Core.Bool.{Bool, true, false}
+use mathlib.Core.List.{List, _++_}
 use native.Mathlib.Omega.{arith}
 use lib.ListN.{length, getD, take, drop, length-append, length-take, length-drop, take-append-drop}
 use lib.Seq.{getD-take, getD-drop, drop-drop, length-take-le}
 use Rattle.rules.specs.Numbers.{termTag, textTag, boostTag}
 use Rattle.rules.specs.Bytes.{ofBig, big, part, tagOf}
-use Rattle.rules.specs.Query.{Word, word, Kind, must, should, mustNot, filter, Numbers, whole, float, Query, term, phrase, boolean, boost, constantScore, matchAll, matchNone, range, Clauses, none, clause}
-use Rattle.rules.specs.Stored.{kindTag, encode, encodes, Valid}
-use Rattle.rules.specs.Checked.{Is, Are}
+use Rattle.rules.specs.Query.{Kind, must, should, mustNot, filter, Query, term, phrase, boolean, boost, constantScore, matchAll, matchNone, range}
+use Rattle.rules.specs.Stored.{kindTag, encode, Valid}
+use Rattle.rules.specs.Checked.{Is}
 use Rattle.rules.specs.Rewriting.{boosted, scored, lone}
 use Rattle.rules.specs.Floats.{times}
 use Rattle.rules.proofs.Bigs.{read-big}
@@ -22,7 +21,7 @@ use Rattle.numbers.proofs.Laying.{length-laid, there-laid, laid-over, laid-insi
 use Rattle.round.specs.Within.{within, Stands}
 use Rattle.round.specs.Over.{Inner}
 use Rattle.round.proofs.Standing.{stands-laid, stands-put, stands-here, stands-before, within-length}
-use Rattle.round.proofs.Forms.{long-of, is-same, kind-is}
+use Rattle.round.proofs.Forms.{long-of, kind-is}
 use Rattle.round.proofs.Laid.{put-long, put-below}
 
 -- ---- what stands at a place, by its tag

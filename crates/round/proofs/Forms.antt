@@ -1,24 +1,23 @@
 -- What checked bytes are: their query is one alone, and an outer boost and what it holds are read off. Kinds by their tags.
 use mathlib.Core.Path.{_≡_, refl, sym, ap, _∙_, subst}
 use mathlib.Core.Logic.{_⊎_, inl, inr}
-use Prim.Native.Nat.{ℕ, _+_, _-_, _≤_, _<_}
-use mathlib.Core.List.{List, [], _∷_, _++_}
-use mathlib.Core.Bool.{Bool, true, false}
+use Prim.Native.Nat.{ℕ, _-_, _≤_, _<_}
+use mathlib.Core.List.{List}
+use mathlib.Core.Bool.{true, false}
 use native.Mathlib.Omega.{arith}
-use lib.ListN.{length, getD, take, drop}
+use lib.ListN.{length, take, drop}
 use lib.Dec.{leb, eqb}
 use borrow.Author.Tests.{eqb-true, eq-eqb}
 use Rattle.rules.specs.Bytes.{ofBig, tagOf, bodyOf, restOf, wholeOf}
-use Rattle.rules.specs.Query.{Kind, must, should, mustNot, filter, Query, term, phrase, boolean, boost, constantScore, matchAll, matchNone, range, Numbers, whole, float, Clauses, none, clause}
-use Rattle.rules.specs.Stored.{kindTag, encode, encodes, Valid, Valids}
-use Rattle.rules.specs.Checked.{Is, Are, Stored, StoredClauses}
+use Rattle.rules.specs.Query.{Kind, must, should, mustNot, filter, Query, term, phrase, boolean, boost, constantScore, matchAll, matchNone, range, whole, float, Clauses, none}
+use Rattle.rules.specs.Stored.{kindTag, encode, Valid}
+use Rattle.rules.specs.Checked.{Is, Are, Stored}
 use Rattle.rules.specs.Reading.{kindOf}
-use Rattle.rules.specs.Floats.{one, widened}
+use Rattle.rules.specs.Floats.{widened}
 use Rattle.rules.specs.Rewriting.{isNeeded, ifShould, summable, standsFor, base, boostOf}
-use Rattle.rules.specs.ByPlace.{held}
 use Rattle.rules.proofs.Bools.{fails, alike}
 use Rattle.rules.proofs.Bigs.{read-big}
-use Rattle.rules.proofs.Parts.{more-empty, less-empty, whole-le}
+use Rattle.rules.proofs.Parts.{more-empty, less-empty}
 use Rattle.rules.proofs.Tags.{kind-back}
 use Rattle.rules.proofs.Inverse.{boost-below}
 use Rattle.rules.proofs.Equal.{encode-injective, encodes-injective}

@@ -1,7 +1,7 @@
 -- Clauses laid behind what they are made of: one clause, with and without a boost, and a merged one.
 use mathlib.Core.Path.{_≡_, refl, sym, ap, _∙_}
-use Prim.Native.Nat.{ℕ, _+_, _-_, _≤_, _<_}
-use mathlib.Core.List.{List, [], _∷_, _++_}
+use Prim.Native.Nat.{ℕ, _+_, _-_, _≤_}
+use mathlib.Core.List.{List, _++_}
 use mathlib.Core.Bool.{Bool, true, false, not, _&&_, cond}
 use native.Mathlib.Omega.{arith}
 use lib.ListN.{length, take, drop, length-append}
@@ -13,9 +13,8 @@ use Rattle.rules.specs.Stored.{encode}
 use Rattle.rules.specs.Floats.{one, narrowed, isOne}
 use Rattle.rules.specs.Rewriting.{scores, summable, base, boostOf, reboosted}
 use Rattle.rules.specs.ByPlace.{held, total, sumFrom}
-use Rattle.rules.proofs.Bools.{split}
 use Rattle.rules.proofs.rewriting.Boosts.{one-one}
-use Rattle.numbers.specs.Laid.{laid, Put, header}
+use Rattle.numbers.specs.Laid.{Put, header}
 use Rattle.numbers.proofs.Laying.{before-laid, length-laid, put-then, put-body}
 use Rattle.round.specs.Within.{within}
 use Rattle.round.specs.Merge.{reboostedBytes}

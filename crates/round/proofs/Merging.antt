@@ -1,25 +1,24 @@
 -- The loop that lays the merged clauses behind those that they are made of.
 use mathlib.Core.Path.{_≡_, refl, sym, ap, _∙_, subst}
 use Prim.Native.Nat.{ℕ, _+_, _-_, _≤_, _<_}
-use mathlib.Core.List.{List, [], _∷_, _++_, append-assoc, append-nil}
+use mathlib.Core.List.{List, _++_, append-assoc, append-nil}
 use mathlib.Core.Bool.{Bool, true, false, cond}
 use native.Mathlib.Omega.{arith}
-use native.Mathlib.Nat.{add-sub-cancel-left}
-use lib.ListN.{length, getD, take, drop, length-append, length-take, take-append-drop}
+use lib.ListN.{length, getD, take, drop, length-append, take-append-drop}
 use lib.Seq.{length-take-le}
 use lib.Ieee.{Float}
-use Rattle.rules.specs.Bytes.{part, wholeOf, sizeOf}
+use Rattle.rules.specs.Bytes.{part, sizeOf}
 use Rattle.rules.specs.Query.{Kind, Query, Clauses, none, clause}
 use Rattle.rules.specs.Stored.{kindTag, encode, encodes, Valid, Valids}
-use Rattle.rules.specs.Checked.{Is, Are, Stored, StoredClauses}
+use Rattle.rules.specs.Checked.{Is, Are}
 use Rattle.rules.specs.Rewriting.{reboosted}
 use Rattle.rules.specs.ByPlace.{held, seen, sumFrom, snoc, mergedByPlace}
 use Rattle.rules.proofs.rewriting.Walk.{join, join-none}
-use Rattle.numbers.specs.Laid.{laid, Put}
+use Rattle.numbers.specs.Laid.{Put}
 use Rattle.numbers.proofs.Laying.{there-laid}
 use Rattle.round.specs.Within.{within, Stands}
 use Rattle.round.specs.Merge.{MergedIs, reboostedBytes, Mergeable}
-use Rattle.round.proofs.Standing.{within-length, joined, second, lower}
+use Rattle.round.proofs.Standing.{joined, second, lower}
 use Rattle.round.proofs.Forms.{are-same}
 use Rattle.round.proofs.Placed.{ClauseAt, clause-at, no-clause-at}
 use Rattle.round.proofs.Laid.{put-long, put-below, put-kept, reboosted-bytes, held-end}

@@ -1,14 +1,14 @@
 -- Each kind of query over its nested round: what stands where, that there is room, and what the round comes to.
 use mathlib.Core.Path.{_≡_, refl, sym, ap, _∙_, subst}
-use Prim.Native.Nat.{ℕ, _+_, _-_, _*_, _≤_, _<_}
-use mathlib.Core.List.{List, [], _∷_, _++_}
-use mathlib.Core.Bool.{Bool, true, false, cond}
+use Prim.Native.Nat.{ℕ, _+_, _-_, _≤_, _<_}
+use mathlib.Core.List.{List, _++_}
+use mathlib.Core.Bool.{true, false}
 use native.Mathlib.Omega.{arith}
 use lib.ListN.{length, getD, take, drop, take-append-drop}
 use lib.Seq.{drop-drop}
 use Rattle.rules.specs.Numbers.{booleanTag, minimumTag, constantScoreTag}
 use Rattle.rules.specs.Bytes.{ofBig, big, part, tagOf}
-use Rattle.rules.specs.Query.{Word, Numbers, whole, float, Query, term, phrase, boolean, boost, constantScore, matchAll, matchNone, range, Clauses}
+use Rattle.rules.specs.Query.{Word, Query, term, phrase, boolean, boost, constantScore, matchAll, matchNone, range, Clauses}
 use Rattle.rules.specs.Stored.{encode, encodes, Valid, Valids}
 use Rattle.rules.specs.Checked.{Is, Are}
 use Rattle.rules.specs.Floats.{widened, isOne}
@@ -25,7 +25,7 @@ use Rattle.round.specs.Over.{Inner, Phrase, Live}
 use Rattle.round.specs.Once.{Room, Rooms, Ended, Went}
 use Rattle.round.proofs.Standing.{second, lower, stands-over, within-length}
 use Rattle.round.proofs.Forms.{is-same, long-of}
-use Rattle.round.proofs.Finishing.{tag-of, length-of, boost-form, score-form, boost-bits, boost-inner, moved}
+use Rattle.round.proofs.Finishing.{tag-of, boost-form, score-form, boost-bits, boost-inner, moved}
 
 -- ---- sizes
 

@@ -1,13 +1,12 @@
 -- A phrase at its place: where its field and its words stand, and what it becomes.
-use mathlib.Core.Path.{_≡_, refl, sym, ap, _∙_, subst}
+use mathlib.Core.Path.{_≡_, refl, sym, ap, _∙_}
 use Prim.Native.Nat.{ℕ, _+_, _-_, _≤_, _<_}
 use mathlib.Core.List.{List, [], _∷_, _++_, append-assoc}
-use mathlib.Core.Bool.{Bool, true, false}
 use native.Mathlib.Omega.{arith}
-use lib.ListN.{length, getD, take, drop, length-append}
+use lib.ListN.{length, drop, length-append}
 use Rattle.rules.specs.Numbers.{phraseTag, termTag, fieldTag, textTag, wordTag}
-use Rattle.rules.specs.Bytes.{big, part, sizeOf, wholeOf}
-use Rattle.rules.specs.Query.{Word, word, Query, phrase, term, matchNone}
+use Rattle.rules.specs.Bytes.{big, part, sizeOf}
+use Rattle.rules.specs.Query.{Word, word, phrase, term, matchNone}
 use Rattle.rules.specs.Stored.{encode, encodeWords}
 use Rattle.rules.specs.Checked.{Is}
 use Rattle.rules.specs.Rewriting.{phrased}

@@ -1,19 +1,19 @@
 -- A clause and a query at places of a room: where their parts stand.
-use mathlib.Core.Path.{_≡_, refl, sym, ap, _∙_, subst}
-use Prim.Native.Nat.{ℕ, _+_, _-_, _/_, _%_, _≤_, _<_}
-use mathlib.Core.List.{List, [], _∷_, _++_, append-assoc}
-use mathlib.Core.Bool.{Bool, true, false}
+use mathlib.Core.Path.{_≡_, refl, sym, ap, _∙_}
+use Prim.Native.Nat.{ℕ, _+_, _-_, _≤_, _<_}
+use mathlib.Core.List.{List, [], _++_, append-assoc}
+use mathlib.Core.Bool.{true}
 use native.Mathlib.Omega.{arith}
 use lib.ListN.{length, getD, take, drop}
 use lib.Seq.{getD-drop}
-use Rattle.rules.specs.Bytes.{big, part, tagOf, sizeOf, wholeOf}
+use Rattle.rules.specs.Bytes.{part, tagOf, sizeOf, wholeOf}
 use Rattle.rules.specs.Query.{Kind, Query, Clauses, none, clause}
-use Rattle.rules.specs.Stored.{kindTag, encode, encodes, Valid, Valids}
+use Rattle.rules.specs.Stored.{kindTag, encode, encodes, Valids}
 use Rattle.rules.specs.Checked.{Is, Are}
 use Rattle.rules.proofs.Parts.{whole-part, size-part}
 use Rattle.numbers.specs.Laid.{header}
 use Rattle.round.specs.Within.{within}
-use Rattle.round.proofs.Standing.{split-at, first, second, both-length, joined}
+use Rattle.round.proofs.Standing.{split-at, first, second, both-length}
 
 -- what is read at a place
 pub tag-at : (room s : List ℕ) (t : ℕ) → drop t room ≡ s → getD room t 0 ≡ tagOf s

@@ -1,8 +1,8 @@
 -- The loops over clauses that only read: which kinds there are, the search for an earlier clause, the running sum.
-use mathlib.Core.Path.{_≡_, refl, sym, ap, _∙_, subst}
+use mathlib.Core.Path.{_≡_, refl, sym, ap, _∙_}
 use Prim.Native.Nat.{ℕ, _+_, _-_, _≤_, _<_}
 use mathlib.Core.List.{List}
-use mathlib.Core.Bool.{Bool, true, false, _&&_, _||_, cond}
+use mathlib.Core.Bool.{Bool, true, false, _&&_, _||_}
 use native.Mathlib.Omega.{arith}
 use lib.ListN.{length, getD}
 use lib.Dec.{eqb}
@@ -11,7 +11,7 @@ use borrow.Author.Tests.{eq-eqb, ne-eqb}
 use Rattle.rules.specs.Bytes.{bodyOf, restOf, same}
 use Rattle.rules.specs.Query.{Kind, must, should, mustNot, filter, Query, Clauses, none, clause, equal}
 use Rattle.rules.specs.Stored.{kindTag, encode, encodes, Valids}
-use Rattle.rules.specs.Checked.{Is, Are, Stored, StoredClauses}
+use Rattle.rules.specs.Checked.{Is, Are, StoredClauses}
 use Rattle.rules.specs.Floats.{one, plus, widened}
 use Rattle.rules.specs.Rewriting.{onlyMustNot, shouldCount, isMustNot, ifShould, summable, standsFor, base, boostOf}
 use Rattle.rules.specs.ByPlace.{held, sameKind, seen, total, sumFrom}
@@ -22,7 +22,7 @@ use Rattle.rules.proofs.Views.{Front}
 use Rattle.round.specs.Clauses.{isOneClause}
 use Rattle.round.specs.Merge.{TakenUp, Summed, MergedIs}
 use Rattle.round.proofs.Laid.{base-end}
-use Rattle.round.proofs.Forms.{is-same, are-same, front, no-clause, front-is, front-are, same-kind}
+use Rattle.round.proofs.Forms.{are-same, front, no-clause, front-is, front-are}
 
 -- ---- are all of them MustNot?
 

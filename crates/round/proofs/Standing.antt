@@ -6,7 +6,7 @@ use mathlib.Core.List.{List, [], _∷_, _++_, append-assoc}
 use native.Mathlib.Omega.{arith}
 use native.Mathlib.Nat.{add-sub-cancel-left}
 use lib.ListN.{length, getD, take, drop, set, length-append, length-drop, take-append-drop}
-use lib.Seq.{take-at, drop-at, take-nil, take-add, take-take, drop-drop, take-append-add, length-take-le, getD-take, getD-drop, paste, take-paste, drop-paste}
+use lib.Seq.{take-at, drop-at, take-add, take-take, drop-drop, take-append-add, length-take-le, getD-take, getD-drop, paste, take-paste, drop-paste}
 use Rattle.numbers.specs.Laid.{laid, Put}
 use Rattle.numbers.proofs.Laying.{before-laid, from-laid, length-laid, there-laid, copy-turn, copy-end}
 use Rattle.round.specs.Within.{within, Stands}

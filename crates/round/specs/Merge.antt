@@ -7,13 +7,13 @@ use lib.ListN.{length}
 use lib.Ieee.{Float}
 use Rattle.rules.specs.Numbers.{boostTag}
 use Rattle.rules.specs.Bytes.{big, part}
-use Rattle.rules.specs.Query.{Kind, Query, Clauses, none, clause, equal}
+use Rattle.rules.specs.Query.{Kind, Query, Clauses, none, equal}
 use Rattle.rules.specs.Stored.{kindTag, encode, encodes}
 use Rattle.rules.specs.Checked.{Is, Are}
 use Rattle.rules.specs.Floats.{isOne, narrowed, plus}
 use Rattle.rules.specs.Rewriting.{base, boostOf}
 use Rattle.rules.specs.ByPlace.{held, sameKind, total, sumFrom, mergedByPlace}
-use Rattle.round.specs.Within.{within, Stands}
+use Rattle.round.specs.Within.{within}
 
 -- the sum x of a merged clause of kind k, after q in s, of kind j, was met: it takes up the boost of an equal base
 abbrev pub TakenUp : ℕ → Float → ℕ → List ℕ → List ℕ → Float → Type 0

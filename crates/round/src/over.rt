@@ -11,7 +11,6 @@ use numbers::big4;
 use numbers::put_big4;
 use parts::write::put_header;
 use parts::write::put_minimum;
-ghost use mathlib.Core.Path.{_≡_};
 ghost use mathlib.Core.List.{List, _++_};
 ghost use Prim.Native.Nat.{ℕ, _+_, _-_, _<_, _≤_};
 ghost use lib.ListN.{length, take, drop};

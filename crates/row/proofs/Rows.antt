@@ -9,7 +9,7 @@ use native.Mathlib.Decide.{decLt}
 use lib.ListN.{length, getD, take, drop, set, length-append, List·getD-append, List·getD-eq-default}
 use lib.Seq.{take-nil, take-take, take-at, getD-take, getD-drop, getD-at, getD-append-add, length-take-le, sets-eq}
 use Rattle.rules.specs.Numbers.{textMost}
-use Rattle.rules.specs.Lexing.{Token, endKind}
+use Rattle.rules.specs.Lexing.{endKind}
 use Rattle.rules.specs.Parsing.{tokenOf}
 use Rattle.row.specs.Row.{roomLeast, entryAt, kindIn, noteIn, placeIn, sizeIn, tokenAt, tokensOf, Below, LaidBelow, Laid, entry, nameFrom, wordNote, Worded, Kept}
 use Rattle.analysis.specs.Tokens.{OneWord}

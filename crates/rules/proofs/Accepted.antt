@@ -6,7 +6,7 @@ use mathlib.Core.Bool.{true}
 use lib.ListN.{length}
 use lib.Dec.{leb}
 use borrow.Author.Tests.{leb-true}
-use Rattle.rules.specs.Numbers.{longList, malformedList, listMost, rewriterBytes, rewriterDepth, selectionBytes, selectionDepth, Read, got, need}
+use Rattle.rules.specs.Numbers.{longList, malformedList, listMost, got}
 use Rattle.rules.specs.Bytes.{Bytes, every, each}
 use Rattle.rules.specs.Query.{Query, depth}
 use Rattle.rules.specs.Reading.{numberOf, readWithin}

@@ -3,14 +3,14 @@ use mathlib.Core.Path.{_≡_}
 use mathlib.Core.Logic.{_⊎_, inl, inr}
 use Prim.Native.Nat.{ℕ, _≤_, _<_}
 use mathlib.Core.List.{List}
-use mathlib.Core.Bool.{Bool, true, false, _&&_, _||_, and-false, or-false}
+use mathlib.Core.Bool.{Bool, true, false, _&&_, and-false, or-false}
 use lib.ListN.{length, take, drop}
 use borrow.Author.Tests.{le-leb, lt-leb, ne-eqb}
 use Rattle.rules.specs.Numbers.{recordTag, placeTag, wholeTag, floatTag, longList, malformedList, listMost, number}
 use Rattle.rules.specs.Bytes.{ofBig, isEmpty, tagOf, bodyOf, restOf, wholeOf, isPart, isFieldPart, every}
 use Rattle.rules.specs.Query.{Numbers, whole, float}
 use Rattle.rules.specs.Reading.{numberOf, isWord}
-use Rattle.rules.specs.Lists.{Entry, place, value, isValue, isFieldWith, isEntry, isRecord, entryOf, readList}
+use Rattle.rules.specs.Lists.{place, value, isValue, isFieldWith, isEntry, isRecord, entryOf, readList}
 use Rattle.rules.proofs.Bools.{clash, split, and-l, and-r}
 use Rattle.rules.proofs.Parts.{part-is}
 

@@ -1,18 +1,18 @@
 -- What lexing gives: tokens of the known kinds, in the order of their places, each text within the bytes that its token takes, and one
 -- answer whatever the fuel, once it suffices. Section 'Lexing and parsing'.
-use mathlib.Core.Path.{_≡_, refl, sym, ap, subst, _∙_}
-use mathlib.Core.Logic.{_⊎_, inl, inr, ⊎-elim}
+use mathlib.Core.Path.{_≡_, refl, ap, subst, _∙_}
+use mathlib.Core.Logic.{_⊎_, ⊎-elim}
 use Prim.Native.Nat.{ℕ, zero, suc, _+_, _-_, _≤_, _<_}
 use mathlib.Core.List.{List, [], _∷_}
-use mathlib.Core.Bool.{Bool, true, false, not, _&&_, _||_, cond}
+use mathlib.Core.Bool.{Bool, true, false, not, _||_, cond}
 use native.Mathlib.Omega.{arith}
 use lib.ListN.{length, getD, drop, length-drop}
 use lib.Dec.{leb, eqb}
 use borrow.Author.Tests.{eqb-true, eqb-false, not-true, not-false}
 use Rattle.rules.specs.Numbers.{Refusal, Read, got, refused, need, onRead, andThen, nothingEscaped}
 use Rattle.rules.specs.Bytes.{ascii, same, isText, some}
-use Rattle.rules.specs.Analysis.{isSpace, isMark, endsTerm}
-use Rattle.rules.specs.Lexing.{Token, endKind, termKind, andKind, orKind, notKind, quotedKind, Piece, piece, onText, before, isQuote, isBackslash, isBracket, isWildcard, termText, quotedText, wordKind, Lexed, lexed, wordLexed, termEnd, quotedEnd, termFrom, quotedFrom, signKind, doubled, tokenAt, tokenThen, tokensStep, tokensIn, lex}
+use Rattle.rules.specs.Analysis.{isSpace, endsTerm}
+use Rattle.rules.specs.Lexing.{Token, endKind, termKind, andKind, orKind, notKind, Piece, piece, onText, before, isQuote, isBackslash, isBracket, isWildcard, termText, quotedText, wordKind, Lexed, lexed, wordLexed, termEnd, quotedEnd, termFrom, quotedFrom, signKind, doubled, tokenAt, tokenThen, tokensStep, tokensIn, lex}
 use Rattle.rules.specs.Parsing.{tokenOf}
 use Rattle.rules.proofs.Bools.{clash, split, and-l, and-r, both, neither}
 

@@ -1,10 +1,10 @@
 -- Classes, analyzers and chunks. Section 'Lexing and parsing', from 'A constant table of 128 entries' and from 'Analyzers'.
-use Prim.Native.Nat.{ℕ, zero, suc, _+_, _*_, _/_, _%_}
+use Prim.Native.Nat.{ℕ, zero, suc, _+_, _*_}
 use mathlib.Core.List.{List, [], _∷_, _++_, map}
-use mathlib.Core.Bool.{Bool, true, false, not, _&&_, _||_, cond}
-use lib.ListN.{length, getD, take, drop}
+use mathlib.Core.Bool.{Bool, not, _&&_, _||_, cond}
+use lib.ListN.{length, take, drop}
 use lib.Dec.{leb, eqb}
-use Rattle.rules.specs.Numbers.{chunkMost, whitespaceAnalyzer, simpleAnalyzer, keywordAnalyzer}
+use Rattle.rules.specs.Numbers.{chunkMost, whitespaceAnalyzer, simpleAnalyzer}
 use Rattle.rules.specs.Bytes.{ascii, isEmpty, some}
 use Rattle.rules.specs.Query.{Word, word}
 

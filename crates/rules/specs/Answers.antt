@@ -1,18 +1,17 @@
 -- Each public call's whole answer: number, length, count, rounds, and what the output and the room hold afterwards. Section 'Refusal numbers'.
-use Prim.Native.Nat.{ℕ, _*_}
+use Prim.Native.Nat.{ℕ}
 use mathlib.Core.List.{List, [], _∷_, _++_}
-use mathlib.Core.Bool.{Bool, true, false}
 use lib.ListN.{length, drop, replicate}
 use lib.Dec.{leb}
-use Rattle.rules.specs.Numbers.{Refusal, number, Read, got, refused, need, onRead, andThen, longAnswer, shortRoom, parseRoom, rewriteRoom, selectRoom}
+use Rattle.rules.specs.Numbers.{number, Read, got, refused, need, onRead, andThen, longAnswer, shortRoom, parseRoom, rewriteRoom, selectRoom}
 use Rattle.rules.specs.Bytes.{big}
 use Rattle.rules.specs.Query.{Query}
 use Rattle.rules.specs.Stored.{encode}
 use Rattle.rules.specs.Reading.{readForRewriting, readForSelection}
-use Rattle.rules.specs.Setup.{Setup, readSetup}
+use Rattle.rules.specs.Setup.{readSetup}
 use Rattle.rules.specs.Parsing.{parse}
 use Rattle.rules.specs.Rewriting.{Rewritten, rewritten, rewrite}
-use Rattle.rules.specs.Lists.{Entry, readList}
+use Rattle.rules.specs.Lists.{readList}
 use Rattle.rules.specs.Matching.{chosen}
 
 -- the refusal's number or 0, the bytes written, the records chosen, the rounds made

@@ -2,7 +2,7 @@
 use Prim.Native.Nat.{ℕ, zero, suc, _+_, _*_, _/_, _%_, _<_}
 use Prim.Native.Char.{code}
 use Prim.Native.String.{String, [] as «[]ˢ», _∷_ as _∷ˢ_}
-use mathlib.Core.List.{List, [], _∷_, _++_}
+use mathlib.Core.List.{List, [], _∷_}
 use mathlib.Core.Bool.{Bool, true, false, _&&_, _||_, cond}
 use lib.ListN.{length, getD, take, drop}
 use lib.Dec.{leb, eqb}

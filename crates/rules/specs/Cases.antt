@@ -1,12 +1,12 @@
 -- The cases marked (P), in one table. Section 'Both sides of each line'. Field `f`, Or, simple unless said.
-use Prim.Native.Nat.{ℕ, zero, suc, _+_, _-_, _*_}
+use Prim.Native.Nat.{ℕ, _+_, _-_, _*_}
 use Prim.Native.String.{String}
 use mathlib.Core.List.{List, [], _∷_, _++_}
 use mathlib.Core.Bool.{Bool, true, false, _&&_, cond}
 use lib.Dec.{leb, eqb}
-use Rattle.rules.specs.Numbers.{Refusal, number, Read, got, refused, andThen, orOperator, andOperator, whitespaceAnalyzer, simpleAnalyzer}
-use Rattle.rules.specs.Bytes.{ascii, same, all}
-use Rattle.rules.specs.Query.{Kind, must, should, mustNot, filter, Query, term, boolean, boost, constantScore, matchNone, Clauses, none, clause, equal}
+use Rattle.rules.specs.Numbers.{number, Read, got, refused, andThen, orOperator, andOperator, whitespaceAnalyzer, simpleAnalyzer}
+use Rattle.rules.specs.Bytes.{ascii, same}
+use Rattle.rules.specs.Query.{should, filter, Query, term, boolean, boost, constantScore, matchNone, none, clause, equal}
 use Rattle.rules.specs.Stored.{encode}
 use Rattle.rules.specs.Setup.{readSetup}
 use Rattle.rules.specs.Parsing.{parse}

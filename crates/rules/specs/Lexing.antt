@@ -1,7 +1,7 @@
 -- Lexing: the whole text, first fault from the left. Section 'Lexing and parsing'.
-use Prim.Native.Nat.{ℕ, zero, suc, _+_, _-_}
-use mathlib.Core.List.{List, [], _∷_, _++_}
-use mathlib.Core.Bool.{Bool, true, false, not, _&&_, _||_, cond}
+use Prim.Native.Nat.{ℕ, zero, suc, _-_}
+use mathlib.Core.List.{List, [], _∷_}
+use mathlib.Core.Bool.{Bool, not, _&&_, cond}
 use lib.ListN.{length, getD, drop}
 use lib.Dec.{eqb}
 use Rattle.rules.specs.Numbers.{Read, got, refused, need, onRead, andThen, openQuote, nothingEscaped, rangeBracket, wildcard}

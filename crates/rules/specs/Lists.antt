@@ -1,11 +1,11 @@
 -- Catalogue lists: records of entries. Section 'Matching and selection'.
 use Prim.Native.Nat.{ℕ}
-use mathlib.Core.List.{List, [], _∷_}
-use mathlib.Core.Bool.{Bool, true, false, _&&_, _||_, cond}
+use mathlib.Core.List.{List}
+use mathlib.Core.Bool.{Bool, _&&_, _||_, cond}
 use lib.ListN.{length, take, drop}
 use lib.Dec.{leb, eqb}
 use Rattle.rules.specs.Numbers.{Read, got, need, longList, malformedList, listMost, recordTag, placeTag, wholeTag, floatTag, valueTag}
-use Rattle.rules.specs.Bytes.{ofBig, isEmpty, tagOf, bodyOf, restOf, wholeOf, isPart, isFieldPart, every, each}
+use Rattle.rules.specs.Bytes.{ofBig, isEmpty, tagOf, bodyOf, restOf, isPart, isFieldPart, every, each}
 use Rattle.rules.specs.Query.{Numbers, whole, float}
 use Rattle.rules.specs.Reading.{isWord}
 

@@ -1,10 +1,10 @@
 -- Boost numerals, over whole numbers. Section 'Lexing and parsing', from 'Boost numerals'.
 use mathlib.Core.Path.{_≡_}
 use mathlib.Core.Logic.{_⊎_}
-use Prim.Native.Nat.{ℕ, zero, suc, _+_, _-_, _*_, _/_, _%_, _^_, _<_, _≤_}
+use Prim.Native.Nat.{ℕ, suc, _+_, _-_, _*_, _/_, _%_, _^_, _<_, _≤_}
 use mathlib.Core.List.{List, [], _∷_}
-use mathlib.Core.Bool.{Bool, true, false, not, _&&_, _||_, cond}
-use lib.ListN.{length, drop}
+use mathlib.Core.Bool.{Bool, false, not, _||_, cond}
+use lib.ListN.{length}
 use lib.Dec.{leb, ltb, eqb}
 use lib.Ieee.{binary32, round, toBits}
 use Rattle.rules.specs.Numbers.{Read, got, refused, need, badNumeral, longNumeral, numeralMost}

@@ -1,7 +1,7 @@
 -- Parsing, with every refusal where it is met. Section 'Lexing and parsing', from 'The grammar is mutual', and 'Parse order'.
 use Prim.Native.Nat.{ℕ, zero, suc, _+_}
 use mathlib.Core.List.{List, [], _∷_}
-use mathlib.Core.Bool.{Bool, true, false, not, _&&_, _||_, cond}
+use mathlib.Core.Bool.{Bool, not, _&&_, _||_, cond}
 use lib.ListN.{length, getD}
 use lib.Dec.{leb, ltb, eqb}
 use Rattle.rules.specs.Numbers.{Read, got, refused, need, onRead, andThen, longText, notAscii, fuzzyTerm, sloppyPhrase, unexpectedEnd, unexpectedToken, openBracket, noNumeral, longField, manyBrackets, textMost, fieldMost, bracketsMost, andOperator}

@@ -1,12 +1,12 @@
 -- What a list of bytes means as a query, in reading order: faults are met left to right. Section 'Stored form', 'Rewrite order'.
 -- At a header: three bytes are there, the tag is allowed, the length lies within the part around it; then depth; then the body;
 -- and what is left over in a part is met after what stands before it. The depth that is left is what the reading recurses on.
-use Prim.Native.Nat.{ℕ, zero, suc, _+_, _*_}
-use mathlib.Core.List.{List, [], _∷_}
-use mathlib.Core.Bool.{Bool, true, false, _&&_, _||_, cond}
+use Prim.Native.Nat.{ℕ, zero, suc}
+use mathlib.Core.List.{List}
+use mathlib.Core.Bool.{Bool, _&&_, _||_, cond}
 use lib.ListN.{length, take, drop}
 use lib.Dec.{leb, eqb}
-use Rattle.rules.specs.Numbers.{termTag, phraseTag, booleanTag, boostTag, constantScoreTag, matchAllTag, matchNoneTag, wholeRangeTag, floatRangeTag, textTag, wordTag, minimumTag, mustTag, shouldTag, mustNotTag, filterTag, openTag, includedTag, excludedTag, malformedQuery, deepQuery, longQuery, number, Read, got, refused, need, onRead, andThen, rewriterBytes, rewriterDepth, selectionBytes, selectionDepth}
+use Rattle.rules.specs.Numbers.{termTag, phraseTag, booleanTag, boostTag, constantScoreTag, matchAllTag, matchNoneTag, wholeRangeTag, floatRangeTag, textTag, wordTag, minimumTag, mustTag, shouldTag, mustNotTag, filterTag, openTag, includedTag, excludedTag, malformedQuery, deepQuery, longQuery, number, Read, got, refused, need, onRead, rewriterBytes, rewriterDepth, selectionBytes, selectionDepth}
 use Rattle.rules.specs.Bytes.{ofBig, isEmpty, isText, tagOf, bodyOf, restOf, wholeOf, isPart, isFieldPart, every, each}
 use Rattle.rules.specs.Query.{Word, word, Kind, must, should, mustNot, filter, Numbers, whole, float, Bound, unbounded, included, excluded, Query, term, phrase, boolean, boost, constantScore, matchAll, matchNone, range, Clauses, none, clause}
 use Rattle.rules.specs.Stored.{isBoost}

@@ -1,8 +1,8 @@
 -- The setup, and the analyzer of a field. Section 'What is ported'.
-use Prim.Native.Nat.{ℕ, zero, suc, _+_}
+use Prim.Native.Nat.{ℕ, zero, suc}
 use mathlib.Core.List.{List, [], _∷_}
-use mathlib.Core.Bool.{Bool, true, false, _&&_, cond}
-use lib.ListN.{length, getD, take, drop}
+use mathlib.Core.Bool.{Bool, _&&_, cond}
+use lib.ListN.{length, take, drop}
 use lib.Dec.{leb}
 use Rattle.rules.specs.Numbers.{Read, got, refused, need, onRead, andThen, badSetup, entriesMost, andOperator, whitespaceAnalyzer, keywordAnalyzer}
 use Rattle.rules.specs.Bytes.{same, isEmpty, isField, all}

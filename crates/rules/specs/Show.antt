@@ -1,10 +1,10 @@
 -- The show text of a query. Section 'Both sides of each line', from 'The show program'.
 use Prim.Native.Nat.{ℕ, zero, suc, _+_, _/_, _%_}
 use mathlib.Core.List.{List, [], _∷_, _++_}
-use mathlib.Core.Bool.{Bool, true, false, not, _&&_, _||_, cond}
-use lib.ListN.{length, take, drop}
+use mathlib.Core.Bool.{Bool, not, _&&_, _||_, cond}
+use lib.ListN.{drop}
 use lib.Dec.{ltb, eqb}
-use Rattle.rules.specs.Numbers.{Refusal, number, Read, got, refused, need, onRead, andThen, badSetup, orOperator, andOperator, simpleAnalyzer}
+use Rattle.rules.specs.Numbers.{number, Read, got, refused, need, onRead, andThen, badSetup, orOperator, andOperator, simpleAnalyzer}
 use Rattle.rules.specs.Bytes.{ascii, same, big, isEmpty}
 use Rattle.rules.specs.Query.{Word, word, Kind, must, should, mustNot, filter, Numbers, whole, float, Bound, unbounded, included, excluded, Query, term, phrase, boolean, boost, constantScore, matchAll, matchNone, range, Clauses, none, clause}
 use Rattle.rules.specs.Stored.{encode}

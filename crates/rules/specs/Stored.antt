@@ -2,7 +2,7 @@
 use mathlib.Core.Path.{_≡_}
 use Prim.Native.Nat.{ℕ, _<_, _^_}
 use mathlib.Core.List.{List, [], _∷_, _++_}
-use mathlib.Core.Bool.{Bool, true, false, not, _&&_, _||_}
+use mathlib.Core.Bool.{Bool, true, not, _&&_, _||_}
 use lib.Dec.{ltb, eqb}
 use lib.Ieee.{binary32, nanBits}
 use Rattle.rules.specs.Numbers.{termTag, phraseTag, booleanTag, boostTag, constantScoreTag, matchAllTag, matchNoneTag, wholeRangeTag, floatRangeTag, fieldTag, textTag, wordTag, minimumTag, mustTag, shouldTag, mustNotTag, filterTag, openTag, includedTag, excludedTag}

@@ -6,7 +6,7 @@ use mathlib.Core.Bool.{Bool, true, false}
 use native.Mathlib.Omega.{arith}
 use lib.ListN.{length}
 use lib.Dec.{leb}
-use Rattle.rules.specs.Numbers.{number, Read, got, refused, need, onRead, andThen, longAnswer, shortRoom, rewriteRoom}
+use Rattle.rules.specs.Numbers.{Read, got, refused, need, onRead, andThen, longAnswer, shortRoom, rewriteRoom}
 use Rattle.rules.specs.Bytes.{ascii}
 use Rattle.rules.specs.Query.{Query}
 use Rattle.rules.specs.Stored.{encode}

@@ -7,7 +7,6 @@ use parser::parse::Parsed;
 use rewriter::rounds::rewrite;
 ghost use mathlib.Core.Path.{_≡_};
 ghost use Prim.Native.Nat.{_≤_};
-ghost use mathlib.Core.List.{[]};
 ghost use lib.ListN.{length};
 ghost use Rattle.rules.specs.Numbers.{rewriterBytes, selectionBytes, rewriteRoom};
 ghost use Rattle.rules.specs.Answers.{zeros};

@@ -13,7 +13,6 @@ ghost use mathlib.Core.Path.{_≡_};
 ghost use Prim.Native.Nat.{_≤_};
 ghost use mathlib.Core.Bool.{true};
 ghost use lib.ListN.{length};
-ghost use Rattle.rules.specs.Numbers.{wholeRangeTag, floatRangeTag};
 ghost use Rattle.rules.specs.Bytes.{every, each};
 ghost use Rattle.rules.specs.Reading.{isWord, wordOf, isBound, boundOf};
 ghost use Rattle.rules.specs.Checked.{Stored};

@@ -11,7 +11,7 @@ use lib.Ieee.Bits.{nanBits-above}
 use borrow.Author.Tests.{lt-ltb, le-ltb, ne-eqb}
 use Rattle.rules.specs.Numbers.{termTag, phraseTag, booleanTag, boostTag, constantScoreTag, matchAllTag, matchNoneTag, wholeRangeTag, fieldTag, openTag, includedTag, excludedTag, number, malformedQuery, deepQuery, longQuery, Read, got, refused, onRead}
 use Rattle.rules.specs.Bytes.{ofBig, isEmpty, tagOf, bodyOf, restOf, wholeOf, isFieldPart}
-use Rattle.rules.specs.Query.{Numbers, whole, float, Query, matchAll, matchNone, boolean, boost, constantScore, clause}
+use Rattle.rules.specs.Query.{whole, float, Query, matchAll, matchNone, boolean, boost, constantScore, clause}
 use Rattle.rules.specs.Stored.{theNan, isBoost}
 use Rattle.rules.specs.Reading.{numberOf, sound, closed, emptyIn, termIn, phraseIn, isBound, rangeIn, boostIn, constantScoreIn, kindOf, added, booleanIn, bodyIn, decode, readWithin}
 use Rattle.rules.proofs.Parts.{field-is, part-is}

@@ -1,13 +1,13 @@
 -- What the reader's functions say: the tests of `rules`, each by a name, and a number that is `good` where the reading succeeds.
 use mathlib.Core.Path.{_≡_}
-use Prim.Native.Nat.{ℕ, zero, suc, _+_, _-_, _≤_, _<_}
+use Prim.Native.Nat.{ℕ, zero, suc, _-_, _≤_, _<_}
 use mathlib.Core.List.{List}
 use mathlib.Core.Bool.{Bool, not, _&&_, cond}
 use lib.ListN.{length, take, drop}
 use lib.Dec.{leb, eqb}
 use Rattle.rules.specs.Numbers.{termTag, phraseTag, matchAllTag, matchNoneTag, textTag, minimumTag, number, malformedQuery, Read, got, refused}
 use Rattle.rules.specs.Bytes.{ofBig, isEmpty, isText, tagOf, bodyOf, restOf, wholeOf, isPart, isFieldPart, every}
-use Rattle.rules.specs.Query.{Query, Clauses}
+use Rattle.rules.specs.Query.{Clauses}
 use Rattle.rules.specs.Stored.{isBoost}
 use Rattle.rules.specs.Reading.{isWord, isBound, isKind, isQuery, clausesIn, decode}
 use Rattle.stored.specs.declared.read.Front.{Front}

@@ -4,7 +4,7 @@ use Prim.Native.Nat.{ℕ, _+_, _-_, _≤_}
 use mathlib.Core.List.{List, _++_}
 use mathlib.Core.Bool.{true}
 use lib.ListN.{length, take, drop}
-use Rattle.rules.specs.Numbers.{Refusal, number, Read, got, refused, onRead, textMost}
+use Rattle.rules.specs.Numbers.{Refusal, number, Read, got, refused, onRead}
 use Rattle.rules.specs.Bytes.{all}
 use Rattle.rules.specs.Analysis.{isLetter}
 use Rattle.rules.specs.Lexing.{Piece, piece, termText}

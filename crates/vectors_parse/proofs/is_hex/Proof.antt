@@ -1,7 +1,6 @@
 -- `vectors_parse::is_hex` ends and stays within both slices. The invariant: as many bytes of the column are passed, twice.
 use Prim.Native.Nat.{_+_, _-_, _≤_}
 use lib.ListN.{length}
-use native.Mathlib.Omega.{arith}
 use borrow.Author.Needs.{needs}
 use Rattle.vectors_parse.proofs.is_hex.Statement.{statement}
 use Rattle.vectors_parse.proofs.is_hex.Tie as tie

@@ -4,10 +4,9 @@ use Rattle.clauses.proofs.Rows.{kind-in, text-is, place-text, place-mos
 use Rattle.row.specs.Row.{tokensOf, nameFrom}
 use Rattle.clauses.specs.Leaves.{leafOf, leafKind}
 use Rattle.rules.specs.Analysis.{tokenize}
-use Rattle.rules.proofs.Bools.{clash}
 use lib.ListN.{length}
 use Prim.Native.Nat.{_+_}
-use mathlib.Core.Path.{refl, sym, ap, _∙_}
+use mathlib.Core.Path.{sym, ap, _∙_}
 use Rattle.clauses.specs.declared.kinds.Measured.the-variants.{Clause}
 use native.Mathlib.Omega.{arith}
 use borrow.Author.Needs.{needs}
