@@ -24,11 +24,11 @@ use Rattle.rules.proofs.rewriting.Rounds.{resultOf, countOf}
 use Rattle.rules.proofs.rewriting.Weights.{valid-once, any-fuel}
 use Rattle.numbers.specs.Laid.{laid, Put}
 use Rattle.numbers.proofs.Laying.{laid-front}
-use Rattle.round.specs.Within.{within, Stands}
+use Rattle.places.specs.Within.{within, Stands}
 use Rattle.round.specs.Once.{Room}
 use Rattle.rewriter.specs.Rounds.{Ready, Settled, left}
-use Rattle.round.proofs.Standing.{within-length, within-same, stands-put}
-use Rattle.round.proofs.Forms.{is-same}
+use Rattle.places.proofs.Standing.{within-length, within-same, stands-put}
+use Rattle.merging.proofs.Forms.{is-same}
 use Rattle.round.proofs.Finishing.{moved}
 use Rattle.round.proofs.Nested.{once-bulk}
 

@@ -8,7 +8,7 @@ use Rattle.rules.specs.Stored.{encode}
 use Rattle.rules.specs.Checked.{Is}
 use Rattle.rules.specs.Answers.{Left}
 use Rattle.rules.proofs.rewriting.Measures.{bulk}
-use Rattle.round.specs.Within.{within}
+use Rattle.places.specs.Within.{within}
 
 -- a query in the first n bytes of the room, and space for its rounds
 pub record Ready (n : ℕ) (room : List ℕ) : Type 0 where

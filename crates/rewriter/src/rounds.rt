@@ -1,6 +1,6 @@
 // Rounds, until one changes nothing; and the call.
+use places::place::shift;
 use round::once::rewrite_once;
-use round::place::shift;
 use stored::read::for_rewriting;
 use stretches::clear;
 use stretches::copy;
@@ -11,7 +11,7 @@ ghost use Rattle.rules.specs.Checked.{Is};
 ghost use Rattle.rules.specs.Rewriting.{rewrite};
 ghost use Rattle.rules.specs.Answers.{rewriteLeft};
 ghost use Rattle.rules.proofs.rewriting.Rounds.{resultOf, countOf};
-ghost use Rattle.round.specs.Within.{within};
+ghost use Rattle.places.specs.Within.{within};
 ghost use Rattle.rewriter.specs.Rounds.{Ready, Settled, left};
 
 pub struct Rounds {

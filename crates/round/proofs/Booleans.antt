@@ -20,12 +20,12 @@ use Rattle.rules.proofs.rewriting.Bounds.{Bounded, BoundedAll, bounds-law}
 use Rattle.rules.proofs.rewriting.Walk.{merged-law}
 use Rattle.rules.proofs.rewriting.Places.{boolean-by-place}
 use Rattle.numbers.specs.Laid.{Put, header}
-use Rattle.round.specs.Within.{within, Stands}
+use Rattle.places.specs.Within.{within, Stands}
 use Rattle.round.specs.Clauses.{isOneClause}
-use Rattle.round.specs.Merge.{Mergeable}
+use Rattle.merging.specs.Merge.{Mergeable}
 use Rattle.round.specs.Over.{Live, Lone}
-use Rattle.round.proofs.Standing.{stands-before, stands-over, second, both-length, split-at, within-length}
-use Rattle.round.proofs.Placed.{tag-at}
+use Rattle.places.proofs.Standing.{stands-before, stands-over, second, both-length, split-at, within-length}
+use Rattle.merging.proofs.Placed.{tag-at}
 use Rattle.round.proofs.Finishing.{moved}
 
 -- ---- the space that merging takes

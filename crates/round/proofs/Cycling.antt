@@ -16,12 +16,12 @@ use Rattle.rules.proofs.rewriting.Measures.{bulk, bulks, bulks-are}
 use Rattle.rules.proofs.rewriting.Weights.{valid-once}
 use Rattle.rules.proofs.rewriting.Walk.{join, join-none, none-is}
 use Rattle.numbers.specs.Laid.{Put, header}
-use Rattle.round.specs.Within.{within, Stands}
+use Rattle.places.specs.Within.{within, Stands}
 use Rattle.round.specs.Once.{Room, Rooms, Ended, Went}
-use Rattle.round.proofs.Standing.{within-same, joined, lower, stands-before}
-use Rattle.round.proofs.Forms.{are-same}
-use Rattle.round.proofs.Placed.{ClauseAt, clause-at, no-clause-at, clause-end, clause-is, clause-further}
-use Rattle.round.proofs.Merging.{encodes-snoc, join-snoc, length-snoc}
+use Rattle.places.proofs.Standing.{within-same, joined, lower, stands-before}
+use Rattle.merging.proofs.Forms.{are-same}
+use Rattle.merging.proofs.Placed.{ClauseAt, clause-at, no-clause-at, clause-end, clause-is, clause-further}
+use Rattle.merging.proofs.Merging.{encodes-snoc, join-snoc, length-snoc}
 use Rattle.round.proofs.Finishing.{tag-of, none-form}
 use Rattle.round.proofs.Nested.{once-bulk}
 

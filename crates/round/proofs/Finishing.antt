@@ -18,11 +18,11 @@ use Rattle.rules.proofs.Sizes.{length-encode}
 use Rattle.rules.proofs.Views.{View, v-boost, v-constantScore, at-tag}
 use Rattle.numbers.specs.Laid.{laid, Put, header}
 use Rattle.numbers.proofs.Laying.{length-laid, there-laid, laid-over, laid-inside, put-then, put-body}
-use Rattle.round.specs.Within.{within, Stands}
+use Rattle.places.specs.Within.{within, Stands}
 use Rattle.round.specs.Over.{Inner}
-use Rattle.round.proofs.Standing.{stands-laid, stands-put, stands-here, stands-before, within-length}
-use Rattle.round.proofs.Forms.{long-of, kind-is}
-use Rattle.round.proofs.Laid.{put-long, put-below}
+use Rattle.places.proofs.Standing.{stands-laid, stands-put, stands-here, stands-before, within-length}
+use Rattle.merging.proofs.Forms.{long-of, kind-is}
+use Rattle.merging.proofs.Laid.{put-long, put-below}
 
 -- ---- what stands at a place, by its tag
 
@@ -147,7 +147,7 @@ boost-inner room a n c q i fits =
     let z : a + n - a ≡ n = omega arith in
     let y : a + n - (a + 7) ≡ n - 7 = omega arith in
     let w : within a (a + n) room ≡ encode (boost c q) = ap (λ (k : ℕ). take k (drop a room)) z ∙ sym (i .form) in
-    (omega arith, ap (λ (k : ℕ). take k (drop (a + 7) room)) (sym y) ∙ Rattle.round.proofs.Standing.second room a (a + n) (header 4 (length (big 4 c ++ encode q)) ++ big 4 c) (encode q) (omega arith) fits w)
+    (omega arith, ap (λ (k : ℕ). take k (drop (a + 7) room)) (sym y) ∙ Rattle.places.proofs.Standing.second room a (a + n) (header 4 (length (big 4 c ++ encode q)) ++ big 4 c) (encode q) (omega arith) fits w)
 
 -- ---- a lone clause
 

@@ -1,9 +1,4 @@
-pub mod Standing
-pub mod Placed
-pub mod Forms
-pub mod Laid
-pub mod Seeking
-pub mod Merging
+pub mod Tallies
 pub mod Finishing
 pub mod Phrases
 pub mod Booleans

@@ -20,11 +20,11 @@ use Rattle.rules.proofs.rewriting.Bounds.{Bounded, BoundedAll, bounds-law}
 use Rattle.rules.proofs.rewriting.Weights.{Lightens, LightensAll, weight-law, valid-once}
 use Rattle.rules.proofs.rewriting.Walk.{once-law, each-law, live-law}
 use Rattle.numbers.specs.Laid.{Put, header}
-use Rattle.round.specs.Within.{within, Stands}
+use Rattle.places.specs.Within.{within, Stands}
 use Rattle.round.specs.Over.{Inner, Phrase, Live}
 use Rattle.round.specs.Once.{Room, Rooms, Ended, Went}
-use Rattle.round.proofs.Standing.{second, lower, stands-over, within-length}
-use Rattle.round.proofs.Forms.{is-same, long-of}
+use Rattle.places.proofs.Standing.{second, lower, stands-over, within-length}
+use Rattle.merging.proofs.Forms.{is-same, long-of}
 use Rattle.round.proofs.Finishing.{tag-of, boost-form, score-form, boost-bits, boost-inner, moved}
 
 -- ---- sizes

@@ -11,10 +11,10 @@ use Rattle.rules.specs.Stored.{encode, encodeWords}
 use Rattle.rules.specs.Checked.{Is}
 use Rattle.rules.specs.Rewriting.{phrased}
 use Rattle.numbers.specs.Laid.{header, Put}
-use Rattle.round.specs.Within.{within, Stands}
+use Rattle.places.specs.Within.{within, Stands}
 use Rattle.round.specs.Over.{Phrase}
-use Rattle.round.proofs.Standing.{split-at, first, second, both-length, within-length, stands-put}
-use Rattle.round.proofs.Placed.{PartAt, part-at}
+use Rattle.places.proofs.Standing.{split-at, first, second, both-length, within-length, stands-put}
+use Rattle.merging.proofs.Placed.{PartAt, part-at}
 
 module _ (room : List ℕ) (at end : ℕ) (f : List ℕ) (ws : List Word) (i : Is (within at end room) (phrase f ws)) (low : at ≤ end) (fits : end ≤ length room) where
   body-form : within at end room ≡ header phraseTag (length (part fieldTag f ++ encodeWords ws)) ++ (part fieldTag f ++ encodeWords ws)

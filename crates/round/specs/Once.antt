@@ -9,7 +9,7 @@ use Rattle.rules.specs.Stored.{encodes}
 use Rattle.rules.specs.Checked.{Is, Are}
 use Rattle.rules.proofs.rewriting.Measures.{bulk, bulks}
 use Rattle.rules.specs.Rewriting.{isDead, live, rewriteEach}
-use Rattle.round.specs.Within.{within, Stands}
+use Rattle.places.specs.Within.{within, Stands}
 use Rattle.round.specs.declared.once.Kept.{Kept}
 use Rattle.round.specs.declared.once.Kept.the-variants.{Dead, Upto}
 

@@ -5,7 +5,7 @@ use lib.ListN.{length, take, drop}
 use Rattle.rules.specs.Query.{Word, Kind, Query, phrase, Clauses, none, clause}
 use Rattle.rules.specs.Checked.{Is, Are}
 use Rattle.rules.proofs.rewriting.Measures.{bulks}
-use Rattle.round.specs.Within.{within}
+use Rattle.places.specs.Within.{within}
 
 -- a query of n bytes stands at a, and h more bytes are to go before it
 pub record Inner (h a n : ℕ) (room : List ℕ) : Type 0 where

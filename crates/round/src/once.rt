@@ -1,23 +1,23 @@
 // One round, children first: what stands below `to` is read and never changed, and the result is laid at `to`.
 // Each nested query is rewritten into its own stretch, a few bytes further up, and finished there in place.
 use crate::clauses::is_needed;
-use crate::ends::end_of;
 use crate::over::boost_over;
 use crate::over::phrase_over;
 use crate::over::put_none;
 use crate::over::rewrite_boolean;
 use crate::over::score_over;
-use crate::place::shift;
 use floats::sums::is_one_bits;
 use numbers::big2;
 use numbers::big4;
 use parts::write::put_header;
+use places::ends::end_of;
+use places::place::shift;
 ghost use Prim.Native.Nat.{_-_};
 ghost use Rattle.rules.specs.Query.{Query, Clauses};
 ghost use Rattle.rules.specs.Stored.{encode};
 ghost use Rattle.rules.specs.Checked.{Is, Are};
 ghost use Rattle.rules.specs.Rewriting.{rewriteOnce};
-ghost use Rattle.round.specs.Within.{within, Stands};
+ghost use Rattle.places.specs.Within.{within, Stands};
 ghost use Rattle.round.specs.Once.{Room, Rooms, Rewritten};
 
 enum Kept {

@@ -3,14 +3,14 @@
 use crate::clauses::is_single;
 use crate::clauses::only_must_not;
 use crate::clauses::should_count;
-use crate::ends::end_of;
-use crate::merge::merge_clauses;
-use crate::place::shift;
 use floats::sums::product;
+use merging::merge::merge_clauses;
 use numbers::big4;
 use numbers::put_big4;
 use parts::write::put_header;
 use parts::write::put_minimum;
+use places::ends::end_of;
+use places::place::shift;
 ghost use mathlib.Core.List.{List, _++_};
 ghost use Prim.Native.Nat.{ℕ, _+_, _-_, _<_, _≤_};
 ghost use lib.ListN.{length, take, drop};
@@ -22,7 +22,7 @@ ghost use Rattle.rules.specs.Checked.{Is, Are};
 ghost use Rattle.rules.specs.Rewriting.{boosted, scored, phrased, lone, ofLive};
 ghost use Rattle.rules.specs.ByPlace.{mergedByPlace};
 ghost use Rattle.numbers.specs.Laid.{Put};
-ghost use Rattle.round.specs.Within.{within, Stands};
+ghost use Rattle.places.specs.Within.{within, Stands};
 ghost use Rattle.round.specs.Over.{Inner, Phrase, Live, Lone};
 
 pub fn put_none(room: &mut [u8], to: usize) -> usize

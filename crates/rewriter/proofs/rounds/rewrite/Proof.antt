@@ -2,7 +2,7 @@
 use native.Mathlib.Omega.{arith}
 use denote.Ref.{now}
 use borrow.Author.Needs.{needs}
-use Rattle.round.proofs.Standing as standing
+use Rattle.places.proofs.Standing as standing
 use Rattle.rewriter.proofs.Settling as settling
 use Rattle.rewriter.proofs.rounds.rewrite.Statement.{statement}
 use Rattle.rewriter.proofs.rounds.rewrite.Tie as tie

@@ -1,7 +1,7 @@
 -- `round::clauses::counted` meets its contract.
 use native.Mathlib.Omega.{arith}
 use borrow.Author.Needs.{needs}
-use Rattle.round.proofs.Forms as forms
+use Rattle.merging.proofs.Forms as forms
 use Rattle.round.proofs.clauses.counted.Statement.{statement}
 use Rattle.round.proofs.clauses.counted.Tie as tie
 

@@ -1,5 +1,5 @@
 -- `round::clauses::is_needed` meets its contract.
-use Rattle.round.proofs.Forms as forms
+use Rattle.merging.proofs.Forms as forms
 use Rattle.round.proofs.clauses.is_needed.Statement.{statement}
 use Rattle.round.proofs.clauses.is_needed.Tie as tie
 

@@ -17,7 +17,7 @@ use Rattle.numbers.proofs.big4.Reads as big4-reads
 use Rattle.parts.proofs.write.put_header.Reads as put-header-reads
 use Rattle.round.proofs.Cycling as cycling
 use Rattle.round.proofs.Nested as nested
-use Rattle.round.proofs.Placed as placed
+use Rattle.merging.proofs.Placed as placed
 use Rattle.round.proofs.once.rewrite_clauses.Reads as rewrite-clauses
 use Rattle.round.proofs.once.rewrite_clauses.Kinds as rewrite-clauses-kinds
 use Rattle.round.proofs.once.rewrite_once.Reads as rewrite-once
@@ -28,8 +28,8 @@ use Rattle.round.proofs.over.phrase_over.Reads as phrase-over-reads
 use Rattle.round.proofs.over.put_none.Reads as put-none-reads
 use Rattle.round.proofs.over.rewrite_boolean.Reads as rewrite-boolean-reads
 use Rattle.round.proofs.over.score_over.Reads as score-over-reads
-use Rattle.round.proofs.ends.end_of.Reads as end-of-reads
-use Rattle.round.proofs.place.shift.Reads as shift-reads
+use Rattle.places.proofs.ends.end_of.Reads as end-of-reads
+use Rattle.places.proofs.place.shift.Reads as shift-reads
 use Rattle.round.proofs.once.+rewrite_clauses+rewrite_once.Lts-rewrite_clauses as rewrite-clauses-lts
 use Rattle.round.proofs.once.+rewrite_clauses+rewrite_once.Lts-rewrite_once as rewrite-once-lts
 use Rattle.round.proofs.once.+rewrite_clauses+rewrite_once.{statement}

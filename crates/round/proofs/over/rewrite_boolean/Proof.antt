@@ -7,7 +7,7 @@ use denote.Ref.{now}
 use borrow.Author.Needs.{needs}
 use Rattle.rules.specs.Checked.{Are}
 use Rattle.rules.specs.Query.{Clauses}
-use Rattle.round.specs.Within.{within}
+use Rattle.places.specs.Within.{within}
 use Rattle.round.proofs.Booleans as booleans
 use Rattle.round.proofs.over.rewrite_boolean.Statement.{statement}
 use Rattle.round.proofs.over.rewrite_boolean.Tie as tie

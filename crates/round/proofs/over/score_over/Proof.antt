@@ -6,7 +6,7 @@ use native.Mathlib.Omega.{arith}
 use denote.Ref.{now}
 use borrow.Author.Needs.{needs}
 use Rattle.round.proofs.Finishing as finishing
-use Rattle.round.proofs.Standing as standing
+use Rattle.places.proofs.Standing as standing
 use Rattle.round.proofs.over.score_over.Statement.{statement}
 use Rattle.round.proofs.over.score_over.Tie as tie
 
