@@ -7,7 +7,7 @@ use native.Mathlib.Omega.{arith}
 use lib.ListN.{length}
 use Rattle.rules.specs.Bytes.{isEmpty, restOf, everyIn, every, eachIn, each, some, all}
 use Rattle.rules.proofs.Bools.{clash, and-l, and-r, and-no-l}
-use Rattle.rules.proofs.Parts.{length-rest}
+use Rattle.rules.proofs.stored.Parts.{length-rest}
 
 -- what follows the first part is shorter than the fuel that is left
 pub rest-within : (n x : ℕ) (s : List ℕ) → length (x ∷ s) ≤ suc n → length (restOf (x ∷ s)) ≤ n

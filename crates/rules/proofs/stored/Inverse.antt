@@ -15,11 +15,11 @@ use Rattle.rules.specs.Query.{Word, Kind, Numbers, Bound, Query, term, p
 use Rattle.rules.specs.Stored.{kindTag, rangeTag, encodeBound, encodeWords, encode, encodes, theNan, isBoost, ValidWords, ValidBound, Valid, Valids}
 use Rattle.rules.specs.Reading.{closed, emptyIn, termIn, phraseIn, rangeIn, boostIn, constantScoreIn, added, booleanIn, isQuery, bodyIn, decode, readWithin}
 use Rattle.rules.proofs.Bools.{both, and-l}
-use Rattle.rules.proofs.Bigs.{read-big}
-use Rattle.rules.proofs.Parts.{whole-part, body-part, rest-part, is-part, whole-one, body-one, rest-one, is-one}
-use Rattle.rules.proofs.Tags.{is-range, kind-back, is-kind}
-use Rattle.rules.proofs.Leaves.{words-back, is-bound, bound-back, bound-rest, is-bound-one, bound-back-one, bound-rest-one}
-use Rattle.rules.proofs.Steps.{boost-in, boolean-in, clausesOf, clauses-done, clauses-next, in-range, decode-deep, decode-in, read-within}
+use Rattle.rules.proofs.stored.Bigs.{read-big}
+use Rattle.rules.proofs.stored.Parts.{whole-part, body-part, rest-part, is-part, whole-one, body-one, rest-one, is-one}
+use Rattle.rules.proofs.stored.Tags.{is-range, kind-back, is-kind}
+use Rattle.rules.proofs.stored.Leaves.{words-back, is-bound, bound-back, bound-rest, is-bound-one, bound-back-one, bound-rest-one}
+use Rattle.rules.proofs.stored.Steps.{boost-in, boolean-in, clausesOf, clauses-done, clauses-next, in-range, decode-deep, decode-in, read-within}
 
 pub boost-below : (b : ℕ) → isBoost b ≡ true → b < 2 ^ 32
 boost-below b h = ltb-true b (2 ^ 32) (and-l (ltb b (2 ^ 32)) (not (nanBits binary32 b) || eqb b theNan) h)

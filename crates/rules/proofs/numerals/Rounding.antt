@@ -12,9 +12,9 @@ use lib.Ieee.Digits.{size-reaches}
 use lib.Ieee.Fits.{kept-lt, nearest-le, round-is}
 use lib.Ieee.Nearest.{closest, nearest-ge}
 use Rattle.rules.specs.Numerals.{unitsOf, Past, Nearest}
-use Rattle.rules.proofs.NearestOrder.{tri, near-lt, near-eq, near-gt}
-use Rattle.rules.proofs.NearestPattern.{Full, units-bits, units-bits-inf}
-use Rattle.rules.proofs.NearestMiddle.{middle, past-below}
+use Rattle.rules.proofs.numerals.Order.{tri, near-lt, near-eq, near-gt}
+use Rattle.rules.proofs.numerals.Pattern.{Full, units-bits, units-bits-inf}
+use Rattle.rules.proofs.numerals.Middle.{middle, past-below}
 
 -- ---- a fraction n / u to the nearest whole number q: it lies between q - 1/2 and q + 1/2, and at an end q is even
 odd-mul : (q u : ℕ) → (2 * q + 1) * u ≡ 2 * (q * u) + u

@@ -13,7 +13,7 @@ use Rattle.rules.specs.Query.{Word, word}
 use Rattle.rules.specs.Lists.{Entry, place, value}
 use Rattle.rules.specs.Matching.{isHere, hasTerm, FoundBy, IsPhrase, isAt, followsFrom, startsOn, hasPhrase}
 use Rattle.rules.proofs.Bools.{clash, and-l, and-r, and-true, both, or-l, or-r, either}
-use Rattle.rules.proofs.Equal.{same-eq, same-refl}
+use Rattle.rules.proofs.stored.Equal.{same-eq, same-refl}
 
 -- ---- `some`
 

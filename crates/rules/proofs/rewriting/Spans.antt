@@ -12,10 +12,10 @@ use Rattle.rules.specs.Query.{Query}
 use Rattle.rules.specs.Reading.{readForRewriting}
 use Rattle.rules.specs.Rewriting.{rewrite, weight}
 use Rattle.rules.specs.Answers.{Reply, fitting, leave, call, rewrittenReply, rewriteReply, rewriteLeft}
-use Rattle.rules.proofs.Refusals.{no-got}
+use Rattle.rules.proofs.stored.Refusals.{no-got}
 use Rattle.rules.proofs.rewriting.Bounds.{within-bytes}
 use Rattle.rules.proofs.rewriting.Measures.{weight-length}
-use Rattle.rules.proofs.Demands.{was-short, rounds-bounded, reply-bytes, reply-rounds}
+use Rattle.rules.proofs.choosing.Demands.{was-short, rounds-bounded, reply-bytes, reply-rounds}
 
 -- a reply of at most m bytes, made in at most k rounds
 abbrev Small : ℕ → ℕ → Reply → Type 0

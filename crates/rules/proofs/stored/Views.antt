@@ -11,11 +11,11 @@ use Rattle.rules.specs.Query.{Word, Kind, Numbers, whole, float, Bound, 
 use Rattle.rules.specs.Stored.{kindTag, rangeTag, encodeBound, encodeWords, encode, encodes, isBoost, Valid, Valids}
 use Rattle.rules.specs.Reading.{isWord, wordOf, isBound, boundOf, kindOf}
 use Rattle.rules.proofs.Bools.{clash}
-use Rattle.rules.proofs.Bigs.{read-big}
-use Rattle.rules.proofs.Parts.{whole-part, body-part, rest-part, is-part, whole-one, body-one, rest-one, is-one, field-part}
-use Rattle.rules.proofs.Tags.{QueryTag, t-term, t-phrase, t-boolean, t-boost, t-constantScore, t-matchAll, t-matchNone, t-range, kind-back}
-use Rattle.rules.proofs.Leaves.{words-back, is-bound, bound-back, bound-rest, is-bound-one, bound-back-one}
-use Rattle.rules.proofs.Inverse.{boost-below, range-form}
+use Rattle.rules.proofs.stored.Bigs.{read-big}
+use Rattle.rules.proofs.stored.Parts.{whole-part, body-part, rest-part, is-part, whole-one, body-one, rest-one, is-one, field-part}
+use Rattle.rules.proofs.stored.Tags.{QueryTag, t-term, t-phrase, t-boolean, t-boost, t-constantScore, t-matchAll, t-matchNone, t-range, kind-back}
+use Rattle.rules.proofs.stored.Leaves.{words-back, is-bound, bound-back, bound-rest, is-bound-one, bound-back-one}
+use Rattle.rules.proofs.stored.Inverse.{boost-below, range-form}
 
 -- ---- a query, by its tag and its body
 

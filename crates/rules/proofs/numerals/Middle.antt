@@ -10,8 +10,8 @@ use lib.Arith.{le→nltb}
 use lib.Pow.{pow-add, pow-pos}
 use lib.Ieee.Bits.{is-true, is-false}
 use Rattle.rules.specs.Numerals.{significand, unitsOf, Past, Nearest}
-use Rattle.rules.proofs.NearestOrder.{tri}
-use Rattle.rules.proofs.NearestPattern.{Full}
+use Rattle.rules.proofs.numerals.Order.{tri}
+use Rattle.rules.proofs.numerals.Pattern.{Full}
 
 -- ---- the size of k * 2 ^ 23 + q
 significand-low : (p : ℕ) → p < 2 ^ 23 → significand p ≡ p

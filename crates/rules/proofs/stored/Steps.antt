@@ -14,8 +14,8 @@ use Rattle.rules.specs.Query.{Numbers, whole, float, Query, term, phrase
 use Rattle.rules.specs.Stored.{rangeTag, isBoost}
 use Rattle.rules.specs.Reading.{numberOf, sound, closed, emptyIn, termIn, isWord, wordOf, phraseIn, isBound, boundOf, rangeIn, boostIn, constantScoreIn, isKind, kindOf, added, clausesIn, booleanIn, isQuery, bodyIn, decode, readWithin}
 use Rattle.rules.proofs.Bools.{clash, both, and-no-l, and-no-r}
-use Rattle.rules.proofs.Refusals.{need-yes, need-no, on-number, closed-good, closed-more, closed-fault, added-number, added-fault}
-use Rattle.rules.proofs.Rows.{enough, rest-within}
+use Rattle.rules.proofs.stored.Refusals.{need-yes, need-no, on-number, closed-good, closed-more, closed-fault, added-number, added-fault}
+use Rattle.rules.proofs.stored.Rows.{enough, rest-within}
 
 -- ---- bodies that hold no query
 

@@ -15,9 +15,9 @@ use Rattle.rules.specs.Query.{Word, word, Bound, unbounded, included, ex
 use Rattle.rules.specs.Stored.{encodeBound, encodeWords, ValidBound, ValidWords}
 use Rattle.rules.specs.Reading.{isWord, wordOf, isBound, boundOf}
 use Rattle.rules.proofs.Bools.{and-l, and-r, both, either}
-use Rattle.rules.proofs.Bigs.{read-big, write-big, below-big}
-use Rattle.rules.proofs.Parts.{whole-part, body-part, rest-part, is-part, part-is, part-tag, bytes-body, bytes-take, bytes-rest, empty-nil}
-use Rattle.rules.proofs.Rows.{every-done, every-step, each-done, each-next, Row, done, next, row}
+use Rattle.rules.proofs.stored.Bigs.{read-big, write-big, below-big}
+use Rattle.rules.proofs.stored.Parts.{whole-part, body-part, rest-part, is-part, part-is, part-tag, bytes-body, bytes-take, bytes-rest, empty-nil}
+use Rattle.rules.proofs.stored.Rows.{every-done, every-step, each-done, each-next, Row, done, next, row}
 
 -- ---- words
 

@@ -10,13 +10,9 @@ use Rattle.rules.specs.Numbers.{Read, got, refused, onRead, andThen}
 use Rattle.rules.specs.Query.{Query}
 use Rattle.rules.specs.Reading.{readForSelection}
 use Rattle.rules.specs.Lists.{Entry, readList}
-use Rattle.rules.specs.Matching.{matches, chosenFrom, chosen}
+use Rattle.rules.specs.Matching.{matches, chosenFrom, chosen, IsChosen, RisingFrom}
 use Rattle.rules.specs.Answers.{selected}
-use Rattle.rules.proofs.Refusals.{no-got, got-same}
-
--- the k-th record, from 0, is there and the query is true of it
-abbrev pub IsChosen : Query → List (List Entry) → ℕ → Type 0
-IsChosen q rs k = (k < length rs) × (matches (getD rs k []) q ≡ true)
+use Rattle.rules.proofs.stored.Refusals.{no-got, got-same}
 
 -- ---- exactly these
 
@@ -56,11 +52,6 @@ exact q rs k = (there, back)
     back (l, h) = Memᴰ·cast (omega arith) (all-of q 0 rs k l h)
 
 -- ---- rising, each once
-
--- each is above the one before it, and none is below n
-unfoldable pub RisingFrom : ℕ → List ℕ → Type 0
-RisingFrom n [] = Unit {0}
-RisingFrom n (x ∷ xs) = (n ≤ x) × RisingFrom (x + 1) xs
 
 lower : (n : ℕ) (xs : List ℕ) → RisingFrom (n + 1) xs → RisingFrom n xs
 unfolding RisingFrom

@@ -10,7 +10,7 @@ use borrow.Author.Tests.{le-leb, lt-ltb, ne-eqb, leb-true, ltb-true}
 use Rattle.rules.specs.Numbers.{chunkMost}
 use Rattle.rules.specs.Bytes.{all, isText}
 use Rattle.rules.specs.Analysis.{front, after, runs, cut, isLetter, isGap, isCapital, between, lower, lowercase, wholeText, whitespaceTokens, simpleTokens, keywordTokens, tokenTexts}
-use Rattle.rules.proofs.Pieces.{by-test, all-cons, all-one, all-nil, outside, total, pieces-none, pieces-step, pieces-all, pieces-total}
+use Rattle.rules.proofs.text.Pieces.{by-test, all-cons, all-one, all-nil, outside, total, pieces-none, pieces-step, pieces-all, pieces-total}
 
 -- ---- the three analyzers
 

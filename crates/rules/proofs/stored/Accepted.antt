@@ -12,8 +12,8 @@ use Rattle.rules.specs.Query.{Query, depth}
 use Rattle.rules.specs.Reading.{numberOf, readWithin}
 use Rattle.rules.specs.Checked.{Is, Stored}
 use Rattle.rules.specs.Lists.{isRecord, recordOf, readList}
-use Rattle.rules.proofs.Refusals.{number-got, need-got}
-use Rattle.rules.proofs.Sound.{read-sound}
+use Rattle.rules.proofs.stored.Refusals.{number-got, need-got}
+use Rattle.rules.proofs.stored.Sound.{read-sound}
 
 -- ---- queries
 

@@ -13,10 +13,10 @@ use Rattle.rules.specs.Query.{Query, Clauses, depth, depths, sameQuery, 
 use Rattle.rules.specs.Stored.{encode, encodes, Valid, Valids}
 use Rattle.rules.specs.Reading.{decode}
 use Rattle.rules.proofs.Bools.{clash, and-l, and-r, both, alike}
-use Rattle.rules.proofs.Refusals.{got-same}
-use Rattle.rules.proofs.Steps.{clausesOf}
-use Rattle.rules.proofs.Inverse.{decode-encode, clauses-encodes}
-use Rattle.rules.proofs.Sound.{ReadAs, decode-sound}
+use Rattle.rules.proofs.stored.Refusals.{got-same}
+use Rattle.rules.proofs.stored.Steps.{clausesOf}
+use Rattle.rules.proofs.stored.Inverse.{decode-encode, clauses-encodes}
+use Rattle.rules.proofs.stored.Sound.{ReadAs, decode-sound}
 
 -- ---- the comparison of bytes
 

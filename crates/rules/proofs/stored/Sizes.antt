@@ -12,9 +12,9 @@ use Rattle.rules.specs.Bytes.{Bytes, big, isText, isField, part}
 use Rattle.rules.specs.Query.{Word, word, Kind, must, should, mustNot, filter, Numbers, whole, float, Bound, unbounded, included, excluded, Query, term, phrase, boolean, boost, constantScore, matchAll, matchNone, range, Clauses, none, clause}
 use Rattle.rules.specs.Stored.{kindTag, rangeTag, encodeBound, encodeWords, encode, encodes, ValidWords, Valid, Valids}
 use Rattle.rules.proofs.Bools.{and-l, and-r}
-use Rattle.rules.proofs.Bigs.{bytes-big}
-use Rattle.rules.proofs.Parts.{length-part, bytes-append, bytes-part, bytes-text}
-use Rattle.rules.proofs.Inverse.{range-form}
+use Rattle.rules.proofs.stored.Bigs.{bytes-big}
+use Rattle.rules.proofs.stored.Parts.{length-part, bytes-append, bytes-part, bytes-text}
+use Rattle.rules.proofs.stored.Inverse.{range-form}
 
 -- ---- lengths
 

@@ -14,13 +14,13 @@ use Rattle.rules.specs.Query.{Numbers, Query, boolean, boost, constantSc
 use Rattle.rules.specs.Stored.{kindTag, rangeTag, encodeBound, encodeWords, encode, encodes, isBoost, Valid, Valids}
 use Rattle.rules.specs.Reading.{emptyIn, termIn, isWord, wordOf, phraseIn, isBound, boundOf, rangeIn, boostIn, constantScoreIn, isKind, kindOf, clausesIn, booleanIn, isQuery, bodyIn, decode, readWithin}
 use Rattle.rules.proofs.Bools.{and-l, and-r, and-four}
-use Rattle.rules.proofs.Bigs.{write-big, below-big}
-use Rattle.rules.proofs.Parts.{bytes-body, bytes-rest, bytes-drop, bytes-take, part-again, part-tag, part-only, part-last, field-is}
-use Rattle.rules.proofs.Tags.{QueryTag, t-term, t-phrase, t-boolean, t-boost, t-constantScore, t-matchAll, t-matchNone, t-range, query-tag, kind-again}
-use Rattle.rules.proofs.Leaves.{words-again, bound-again, bound-last}
-use Rattle.rules.proofs.Refusals.{no-got, got-same, need-got, on-got, closed-got, added-got}
-use Rattle.rules.proofs.Steps.{clausesOf, in-range}
-use Rattle.rules.proofs.Inverse.{range-form}
+use Rattle.rules.proofs.stored.Bigs.{write-big, below-big}
+use Rattle.rules.proofs.stored.Parts.{bytes-body, bytes-rest, bytes-drop, bytes-take, part-again, part-tag, part-only, part-last, field-is}
+use Rattle.rules.proofs.stored.Tags.{QueryTag, t-term, t-phrase, t-boolean, t-boost, t-constantScore, t-matchAll, t-matchNone, t-range, query-tag, kind-again}
+use Rattle.rules.proofs.stored.Leaves.{words-again, bound-again, bound-last}
+use Rattle.rules.proofs.stored.Refusals.{no-got, got-same, need-got, on-got, closed-got, added-got}
+use Rattle.rules.proofs.stored.Steps.{clausesOf, in-range}
+use Rattle.rules.proofs.stored.Inverse.{range-form}
 
 -- what is read as q: its stored form, with a depth of at most d
 pub record ReadAs (d : ℕ) (s : List ℕ) (q : Query) : Type 0 where

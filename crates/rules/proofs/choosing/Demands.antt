@@ -9,14 +9,13 @@ use Rattle.rules.specs.Bytes.{Bytes}
 use Rattle.rules.specs.Query.{Query, depth}
 use Rattle.rules.specs.Stored.{encode, Valid}
 use Rattle.rules.specs.Reading.{readForRewriting, readForSelection}
-use Rattle.rules.specs.Rewriting.{weight, largest, Rewritten, rewritten, rewrite}
+use Rattle.rules.specs.Rewriting.{weight, largest, Rewritten, rewritten, rewrite, resultOf, countOf}
 use Rattle.rules.specs.Lists.{Entry, readList}
-use Rattle.rules.specs.Matching.{chosen}
+use Rattle.rules.specs.Matching.{chosen, IsChosen, RisingFrom}
 use Rattle.rules.specs.Answers.{Reply, rewriteReply, rewrittenReply, selected}
-use Rattle.rules.proofs.Inverse.{read-encode}
-use Rattle.rules.proofs.Sound.{read-sound}
-use Rattle.rules.proofs.Choices.{IsChosen, RisingFrom, exact, rising, chosen-alike, selected-is}
-use Rattle.rules.proofs.rewriting.Rounds.{resultOf, countOf}
+use Rattle.rules.proofs.stored.Inverse.{read-encode}
+use Rattle.rules.proofs.stored.Sound.{read-sound}
+use Rattle.rules.proofs.choosing.Choices.{exact, rising, chosen-alike, selected-is}
 use Rattle.rules.proofs.rewriting.Bounds.{within-bytes, within-depth}
 use Rattle.rules.proofs.rewriting.Weights.{valid-rewrite, few-rounds}
 use Rattle.rules.proofs.rewriting.Truth.{matches-rewrite}

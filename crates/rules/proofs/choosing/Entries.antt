@@ -12,7 +12,7 @@ use Rattle.rules.specs.Query.{Numbers, whole, float}
 use Rattle.rules.specs.Reading.{numberOf, isWord}
 use Rattle.rules.specs.Lists.{place, value, isValue, isFieldWith, isEntry, isRecord, entryOf, readList}
 use Rattle.rules.proofs.Bools.{clash, split, and-l, and-r}
-use Rattle.rules.proofs.Parts.{part-is}
+use Rattle.rules.proofs.stored.Parts.{part-is}
 
 -- ---- the test of an entry, by its tag
 

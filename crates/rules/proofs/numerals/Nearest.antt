@@ -9,8 +9,8 @@ use native.Mathlib.Omega.{arith}
 use lib.Pow.{pow-pos}
 use lib.Ieee.{binary32, round, toBits}
 use Rattle.rules.specs.Numerals.{infinity, significand, unitsOf, Past, Nearest, nearest}
-use Rattle.rules.proofs.NearestMiddle as middle
-use Rattle.rules.proofs.NearestRound.{found}
+use Rattle.rules.proofs.numerals.Middle as middle
+use Rattle.rules.proofs.numerals.Rounding.{found}
 
 -- there is no other
 pub nearest-unique : (num den p r : ℕ) → 0 < den → Nearest num den p → Nearest num den r → p ≡ r
