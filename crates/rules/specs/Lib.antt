@@ -4,6 +4,7 @@ pub mod Query
 pub mod Stored
 pub mod Reading
 pub mod Checked
+pub mod Words
 pub mod Analysis
 pub mod Lexing
 pub mod Numerals
