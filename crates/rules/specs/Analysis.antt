@@ -27,24 +27,24 @@ endsTerm c = isSpace c || isMark c
 abbrev pub isGap : ℕ → Bool
 isGap c = isSpace c || between 0x1c 0x1f c
 
--- a byte's classes as flags: 1 whitespace, 2 term end, 4 digit, 8 `_`, 16 and 32 what joins two letters and two digits, 64 letter
+-- a byte's classes as flags: 1 whitespace, 2 term end, 4 and 8 what joins two letters and two digits, 16 `_`, 32 digit, 64 letter
 abbrev pub flag : Bool → ℕ → ℕ
 flag b n = cond b n 0
 
 unfoldable pub classOf : ℕ → ℕ
 classOf c =
-    flag (isSpace c) 1 + flag (endsTerm c) 2 + flag (isDigit c) 4 + flag (is (wordBreak c) extendNumLet) 8
-    + flag (isMidLetters (wordBreak c)) 16 + flag (isMidNumbers (wordBreak c)) 32 + flag (isLetter c) 64
+    flag (isSpace c) 1 + flag (endsTerm c) 2 + flag (isMidLetters (wordBreak c)) 4 + flag (isMidNumbers (wordBreak c)) 8
+    + flag (is (wordBreak c) extendNumLet) 16 + flag (isDigit c) 32 + flag (isLetter c) 64
 
 -- the constant table of 128 entries
 unfoldable pub classes : List ℕ
 classes =
     0 ∷ 0 ∷ 0 ∷ 0 ∷ 0 ∷ 0 ∷ 0 ∷ 0 ∷ 0 ∷ 3 ∷ 3 ∷ 3 ∷ 3 ∷ 3 ∷ 0 ∷ 0
     ∷ 0 ∷ 0 ∷ 0 ∷ 0 ∷ 0 ∷ 0 ∷ 0 ∷ 0 ∷ 0 ∷ 0 ∷ 0 ∷ 0 ∷ 0 ∷ 0 ∷ 0 ∷ 0
-    ∷ 3 ∷ 2 ∷ 2 ∷ 0 ∷ 0 ∷ 0 ∷ 0 ∷ 48 ∷ 2 ∷ 2 ∷ 2 ∷ 0 ∷ 32 ∷ 0 ∷ 48 ∷ 0
-    ∷ 4 ∷ 4 ∷ 4 ∷ 4 ∷ 4 ∷ 4 ∷ 4 ∷ 4 ∷ 4 ∷ 4 ∷ 18 ∷ 32 ∷ 0 ∷ 0 ∷ 0 ∷ 2
+    ∷ 3 ∷ 2 ∷ 2 ∷ 0 ∷ 0 ∷ 0 ∷ 0 ∷ 12 ∷ 2 ∷ 2 ∷ 2 ∷ 0 ∷ 8 ∷ 0 ∷ 12 ∷ 0
+    ∷ 32 ∷ 32 ∷ 32 ∷ 32 ∷ 32 ∷ 32 ∷ 32 ∷ 32 ∷ 32 ∷ 32 ∷ 6 ∷ 8 ∷ 0 ∷ 0 ∷ 0 ∷ 2
     ∷ 0 ∷ 64 ∷ 64 ∷ 64 ∷ 64 ∷ 64 ∷ 64 ∷ 64 ∷ 64 ∷ 64 ∷ 64 ∷ 64 ∷ 64 ∷ 64 ∷ 64 ∷ 64
-    ∷ 64 ∷ 64 ∷ 64 ∷ 64 ∷ 64 ∷ 64 ∷ 64 ∷ 64 ∷ 64 ∷ 64 ∷ 64 ∷ 2 ∷ 0 ∷ 2 ∷ 2 ∷ 8
+    ∷ 64 ∷ 64 ∷ 64 ∷ 64 ∷ 64 ∷ 64 ∷ 64 ∷ 64 ∷ 64 ∷ 64 ∷ 64 ∷ 2 ∷ 0 ∷ 2 ∷ 2 ∷ 16
     ∷ 0 ∷ 64 ∷ 64 ∷ 64 ∷ 64 ∷ 64 ∷ 64 ∷ 64 ∷ 64 ∷ 64 ∷ 64 ∷ 64 ∷ 64 ∷ 64 ∷ 64 ∷ 64
     ∷ 64 ∷ 64 ∷ 64 ∷ 64 ∷ 64 ∷ 64 ∷ 64 ∷ 64 ∷ 64 ∷ 64 ∷ 64 ∷ 2 ∷ 0 ∷ 2 ∷ 2 ∷ 0
     ∷ []

@@ -6,6 +6,7 @@ pub mod Reading
 pub mod Checked
 pub mod Words
 pub mod Analysis
+pub mod InWords
 pub mod Lexing
 pub mod Numerals
 pub mod Setup

@@ -1,6 +1,6 @@
 -- Words: where a text is cut into words, and the stop words. Order 1 of the change requests. The rules are those of UAX #29, 'Word Boundaries',
 -- with the Word_Break values of Unicode 14.0.0, each by its number and in the annex's order; those that no ASCII text can meet are named.
-use Prim.Native.Nat.{ℕ, zero, suc, _+_, _-_}
+use Prim.Native.Nat.{ℕ, zero, suc, _-_}
 use mathlib.Core.List.{List, [], _∷_, map}
 use mathlib.Core.Bool.{Bool, true, false, _&&_, _||_, cond}
 use lib.ListN.{length, take, drop, getD}
@@ -33,7 +33,7 @@ wordBreak c =
     (cond (some (eqb c) (ascii ".")) midNumLet
     (cond (some (eqb c) (ascii "'")) singleQuote other))))))))))
 
-abbrev code : WordBreak → ℕ
+abbrev pub code : WordBreak → ℕ
 code outside = 0
 code cr = 1
 code lf = 2
@@ -129,7 +129,7 @@ values s = outside ∷ outside ∷ map wordBreak s
 unfoldable pub joined : List ℕ → ℕ → Bool
 joined s i =
     let vs = values s in
-    joins (getD vs i outside) (getD vs (1 + i) outside) (getD vs (2 + i) outside) (getD vs (3 + i) outside)
+    joins (getD vs i outside) (getD vs (suc i) outside) (getD vs (suc (suc i)) outside) (getD vs (suc (suc (suc i))) outside)
 
 -- the first boundary from the place i on; n bounds the steps to it
 unfoldable pub reachIn : List ℕ → ℕ → ℕ → ℕ

@@ -3,11 +3,11 @@
 use mathlib.Core.Path.{_≡_, refl, sym, ap, _∙_}
 use mathlib.Core.Bool.{Bool, true, false, not, and-eq-true-iff}
 use mathlib.Core.List.{List, [], _∷_, _++_, cons-ne-nil}
-use Prim.Native.Nat.{ℕ, zero, suc, _+_, _≤_, _<_}
+use Prim.Native.Nat.{ℕ, zero, suc, _+_, _-_, _≤_, _<_, min}
 use native.Mathlib.Decide.{decLt}
 use native.Mathlib.Omega.{arith}
 use lib.ListN.{length, take, drop, length-append, length-take, length-drop, drop-of-length-le}
-use lib.Seq.{take-all, length-take-le, take-append-seam, drop-append-seam}
+use lib.Seq.{take-nil, take-all, length-take-le, take-append-seam, drop-append-seam}
 use borrow.Author.Tests.{not-false}
 use Rattle.rules.specs.Numbers.{chunkMost}
 use Rattle.rules.specs.Bytes.{all}
@@ -20,6 +20,24 @@ by-test false f g = g refl
 pub by-list : {A : Type 0} (t : List ℕ) → (t ≡ [] → A) → ((c : ℕ) (u : List ℕ) → t ≡ c ∷ u → A) → A
 by-list [] f g = f refl
 by-list (c ∷ u) f g = g c u refl
+
+-- ---- parts of a list
+
+pub take-take : (k n : ℕ) (l : List ℕ) → take k (take n l) ≡ take (min k n) l
+take-take zero n l = let z : 0 ≡ min 0 n = omega arith in ap (λ (m : ℕ). take m l) z
+take-take (suc k) zero l = let z : 0 ≡ min (suc k) 0 = omega arith in ap (λ (m : ℕ). take m l) z
+take-take (suc k) (suc n) [] = sym (take-nil (min (suc k) (suc n)))
+take-take (suc k) (suc n) (x ∷ l) =
+    let z : suc (min k n) ≡ min (suc k) (suc n) = omega arith in
+    ap (λ (t : List ℕ). x ∷ t) (take-take k n l) ∙ ap (λ (m : ℕ). take m (x ∷ l)) z
+
+pub drop-take : (k n : ℕ) (l : List ℕ) → drop k (take n l) ≡ take (n - k) (drop k l)
+drop-take zero n l = let z : n ≡ n - 0 = omega arith in ap (λ (m : ℕ). take m l) z
+drop-take (suc k) zero l = let z : 0 ≡ 0 - suc k = omega arith in ap (λ (m : ℕ). take m (drop (suc k) l)) z
+drop-take (suc k) (suc n) [] = sym (take-nil (suc n - suc k))
+drop-take (suc k) (suc n) (x ∷ l) =
+    let z : n - k ≡ suc n - suc k = omega arith in
+    drop-take k n l ∙ ap (λ (m : ℕ). take m (drop k l)) z
 
 -- ---- front and after
 
@@ -150,7 +168,7 @@ module _ (P : ℕ → Bool) where
 
 -- ---- chunks
 
-chunks-nil : (n : ℕ) → chunksIn n [] ≡ []
+pub chunks-nil : (n : ℕ) → chunksIn n [] ≡ []
 unfolding chunksIn
 chunks-nil zero = refl
 chunks-nil (suc n) = refl
@@ -169,7 +187,7 @@ chunks-enough (suc n) (suc m) (x ∷ t) h k =
     ∙ ap (λ (cs : List (List ℕ)). take chunkMost (x ∷ t) ∷ cs) (chunks-enough n m (drop 254 t) (rw length-drop (omega arith)) (rw length-drop (omega arith)))
     ∙ sym (chunks-go m x t)
 
-chunks-step : (t : List ℕ) → 0 < length t → chunks t ≡ take chunkMost t ∷ chunks (drop chunkMost t)
+pub chunks-step : (t : List ℕ) → 0 < length t → chunks t ≡ take chunkMost t ∷ chunks (drop chunkMost t)
 chunks-step [] h = absurd (omega arith)
 chunks-step (x ∷ t) h =
     chunks-go (length t) x t
