@@ -1,5 +1,5 @@
 -- Words by place, as code meets them that goes from byte to byte: what stands in a word, and the tokens that are left at a place.
-use Prim.Native.Nat.{ℕ, suc, _-_}
+use Prim.Native.Nat.{ℕ, zero, suc, _-_}
 use mathlib.Core.List.{List, _++_}
 use mathlib.Core.Bool.{Bool, _&&_, _||_, cond}
 use lib.ListN.{length, take, drop, getD}
@@ -42,3 +42,12 @@ leftOver s at end = chunks (take (end - at) (drop at s)) ++ cut (wordsFrom s end
 -- the tokens from a place on, as they stand in the text: of the word that it stands in, if any, and of those behind it
 unfoldable pub piecesFrom : List ℕ → ℕ → List (List ℕ)
 piecesFrom s at = cond (isWithin s at) (leftOver s at (reach s at)) (cut (wordsFrom s (reach s at)))
+
+-- the first word from the boundary i on that has a letter or a digit: where it begins; n bounds the words
+unfoldable pub seekIn : List ℕ → ℕ → ℕ → ℕ
+seekIn s zero i = i
+seekIn s (suc n) i = let more = seekIn s n (reach s (suc i)) in cond (leb (length s) i || some isAlphanumeric (wordAt s i)) i more
+
+-- where the first token from a place on begins; the end of the text, where there is none
+unfoldable pub tokenStart : List ℕ → ℕ → ℕ
+tokenStart s at = cond (isWithin s at) at (seekIn s (length s) (reach s at))

@@ -9,16 +9,17 @@ use native.Mathlib.Nat.{add-zero, add-suc}
 use native.Mathlib.Omega.{arith}
 use lib.Dec.{leb}
 use lib.ListN.{length, getD, take, drop, length-take, length-drop, drop-of-length-le, List·getD-eq-default}
-use lib.Seq.{drop-drop}
+use lib.Seq.{drop-drop, getD-drop, take-length}
 use borrow.Author.Tests.{le-leb, lt-leb}
 use Rattle.rules.specs.Numbers.{chunkMost}
-use Rattle.rules.specs.Bytes.{some, those}
-use Rattle.rules.specs.Words.{WordBreak, outside, wordBreak, joins, values, joined, reachIn, reach, wordsIn, isAlphanumeric, wordsFrom, words}
+use Rattle.rules.specs.Bytes.{isLetter, isDigit, some, all, those}
+use Rattle.rules.specs.Words.{WordBreak, outside, is, extendNumLet, wordBreak, joins, values, joined, reachIn, reach, wordsIn, isAlphanumeric, wordsFrom, words}
 use Rattle.rules.specs.Analysis.{chunks, cut}
-use Rattle.rules.specs.InWords.{isInner, bridged, valueAt, isBridge, isWithin, wordAt, leftOver, piecesFrom}
-use Rattle.rules.proofs.Bools.{and-l, and-r, and-no-r, or-false, split, both, or-l, or-r, either}
-use Rattle.rules.proofs.text.Pieces.{by-test, chunks-nil, chunks-step, take-take, drop-take}
-use Rattle.rules.proofs.text.Values.{inner-joins, over-joins, bridge-far, past-joins}
+use Rattle.rules.specs.InWords.{isSolid, isInner, bridged, valueAt, isBridge, isWithin, wordAt, leftOver, piecesFrom, seekIn, tokenStart}
+use Rattle.rules.proofs.Bools.{and-l, and-r, and-no-r, or-false, split, both, or-l, or-r, either, neither}
+use Rattle.rules.proofs.text.Pieces.{by-test, all-nil, all-cons, all-one, all-take, all-drop, total, chunks-nil, chunks-step, take-take, drop-take, cut-total, those-total}
+use Rattle.rules.proofs.text.Classes.{isPlain, letter-value, digit-value}
+use Rattle.rules.proofs.text.Values.{inner-joins, outer-joins, over-joins, bridge-joins, bridge-far, past-joins}
 
 by-less : {A : Type 0} (i n : ℕ) → (i < n → A) → (n ≤ i → A) → A
 by-less {A} i n f g = pass (decLt i n)
@@ -26,6 +27,33 @@ by-less {A} i n f g = pass (decLt i n)
     pass : Dec (i < n) → A
     pass (yes h) = f h
     pass (no m) = g (omega arith)
+
+-- a test over the bytes of a part
+none-front : (P : ℕ → Bool) (n : ℕ) (s : List ℕ) → ((k : ℕ) → k < n → k < length s → P (getD s k 0) ≡ false) → some P (take n s) ≡ false
+unfolding some
+none-front P zero s f = refl
+none-front P (suc n) [] f = refl
+none-front P (suc n) (c ∷ s) f = rw (f 0 (omega arith) (omega arith)) (none-front P n s (λ k h l. f (suc k) (omega arith) (omega arith)))
+
+none-in : (P : ℕ → Bool) (n at : ℕ) (s : List ℕ) → ((k : ℕ) → k < n → at + k < length s → P (getD s (at + k) 0) ≡ false) → some P (take n (drop at s)) ≡ false
+none-in P n at s f = none-front P n (drop at s) (λ k h l. rw getD-drop (f k h (omega (arith, length-drop at s))))
+
+some-front : (P : ℕ → Bool) (n k : ℕ) (s : List ℕ) → k < n → k < length s → P (getD s k 0) ≡ true → some P (take n s) ≡ true
+unfolding some
+some-front P zero k s h l e = absurd (omega arith)
+some-front P (suc n) k [] h l e = absurd (omega arith)
+some-front P (suc n) zero (c ∷ s) h l e = rw e
+some-front P (suc n) (suc k) (c ∷ s) h l e = or-r (P c) (some-front P n k s (omega arith) (omega arith) e)
+
+some-in : (P : ℕ → Bool) (n at k : ℕ) (s : List ℕ) → at ≤ k → k < n + at → k < length s → P (getD s k 0) ≡ true → some P (take n (drop at s)) ≡ true
+some-in P n at k s h l m e =
+    let z : at + (k - at) ≡ k = omega arith in
+    some-front P n (k - at) (drop at s) (omega arith) (omega (arith, length-drop at s)) (rw (getD-drop at s (k - at) 0, z) e)
+
+all-at : (P : ℕ → Bool) (s : List ℕ) (k : ℕ) → all P s ≡ true → k < length s → P (getD s k 0) ≡ true
+all-at P [] k h l = absurd (omega arith)
+all-at P (c ∷ s) zero h l = all-one P c s h .0
+all-at P (c ∷ s) (suc k) h l = all-at P s k (all-one P c s h .1) (omega arith)
 
 -- ---- the values at a place
 
@@ -142,6 +170,10 @@ module _ (s : List ℕ) where
   unfolding wordsIn
   words-end zero i h = refl
   words-end (suc n) i h = rw (le-leb (length s) i h)
+
+  none-yet : (i : ℕ) → wordsIn s zero i ≡ []
+  unfolding wordsIn
+  none-yet i = refl
 
   words-go : (n i : ℕ) → i < length s → wordsIn s (suc n) i ≡ wordAt s i ∷ wordsIn s n (reach s (suc i))
   unfolding wordsIn
@@ -309,3 +341,171 @@ module _ (s : List ℕ) where
       (λ k.
       let z : at + min chunkMost (e - at) ≡ e = omega arith in
       rw z (left-none e ∙ sym (pieces-boundary e (reach-end (suc at))))))
+
+  -- ---- what has no letter and no digit is passed over
+
+  -- what is the same at a word without one and behind it, is the same from a place on to a boundary before which none stands
+  module _ {A : Type 0} (F : ℕ → A) (leap : (i : ℕ) → i < length s → some isAlphanumeric (wordAt s i) ≡ false → F i ≡ F (reach s (suc i))) where
+    pub skip-to : (n at start : ℕ) → start ≡ n + at → joined s start ≡ false → start ≤ length s →
+        ((k : ℕ) → at ≤ k → k < start → isAlphanumeric (getD s k 0) ≡ false) → F (reach s at) ≡ F (reach s start)
+    skip-to zero at start e j l f = let z : at ≡ start = omega arith in rw z
+    skip-to (suc n) at start e j l f =
+        let r = reach-stop (suc at) start (omega arith) j in
+        let more = skip-to n (suc at) start (omega arith) j l (λ k h m. f k (omega arith) m) in
+        by-test (joined s at) (λ w. ap F (reach-more at w) ∙ more)
+        (λ w.
+        let z : some isAlphanumeric (wordAt s at) ≡ false = none-in isAlphanumeric (reach s (suc at) - at) at s (λ k h m. f (at + k) (omega arith) (omega arith)) in
+        ap F (reach-at (length s) at w) ∙ leap at (omega arith) z ∙ more)
+
+  -- the tokens from a place on are those from the boundary on
+  pub skip-pieces : (at start : ℕ) → at ≤ start → isWithin s at ≡ false → joined s start ≡ false → start ≤ length s →
+      ((k : ℕ) → at ≤ k → k < start → isAlphanumeric (getD s k 0) ≡ false) → piecesFrom s at ≡ piecesFrom s start
+  skip-pieces at start h w j l f =
+      pieces-not at w
+      ∙ skip-to (λ i. cut (wordsFrom s i)) (λ i m e. ap cut (from-left i m e)) (start - at) at start (omega arith) j l f
+      ∙ sym (pieces-not start (within-not start j))
+
+  pub pieces-end : (at : ℕ) → length s ≤ at → piecesFrom s at ≡ []
+  unfolding cut
+  pieces-end at h = pieces-boundary at (joined-past at h) ∙ ap cut (from-end at h)
+
+  -- ---- where the first token begins
+
+  seek-here : (n i : ℕ) → leb (length s) i || some isAlphanumeric (wordAt s i) ≡ true → seekIn s n i ≡ i
+  unfolding seekIn
+  seek-here zero i e = refl
+  seek-here (suc n) i e = rw e
+
+  seek-on : (n i : ℕ) → leb (length s) i || some isAlphanumeric (wordAt s i) ≡ false → seekIn s (suc n) i ≡ seekIn s n (reach s (suc i))
+  unfolding seekIn
+  seek-on n i e = rw e
+
+  seek-enough : (n m i : ℕ) → length s ≤ i + n → length s ≤ i + m → seekIn s n i ≡ seekIn s m i
+  seek-enough zero m i h k =
+      let e = or-l (some isAlphanumeric (wordAt s i)) (le-leb (length s) i (omega arith)) in seek-here zero i e ∙ sym (seek-here m i e)
+  seek-enough (suc n) zero i h k =
+      let e = or-l (some isAlphanumeric (wordAt s i)) (le-leb (length s) i (omega arith)) in seek-here (suc n) i e ∙ sym (seek-here zero i e)
+  seek-enough (suc n) (suc m) i h k =
+      by-test (leb (length s) i || some isAlphanumeric (wordAt s i)) (λ e. seek-here (suc n) i e ∙ sym (seek-here (suc m) i e))
+      (λ e.
+      let l = reach-least (suc i) in
+      seek-on n i e ∙ seek-enough n m (reach s (suc i)) (omega arith) (omega arith) ∙ sym (seek-on m i e))
+
+  seek-leap : (i : ℕ) → i < length s → some isAlphanumeric (wordAt s i) ≡ false → seekIn s (length s) i ≡ seekIn s (length s) (reach s (suc i))
+  seek-leap i h e =
+      seek-enough (length s) (suc (length s)) i (omega arith) (omega arith) ∙ seek-on (length s) i (neither (lt-leb (length s) i h) e)
+
+  start-within : (at : ℕ) → isWithin s at ≡ true → tokenStart s at ≡ at
+  unfolding tokenStart
+  start-within at e = ap (λ (b : Bool). cond b at (seekIn s (length s) (reach s at))) e
+
+  start-not : (at : ℕ) → isWithin s at ≡ false → tokenStart s at ≡ seekIn s (length s) (reach s at)
+  unfolding tokenStart
+  start-not at e = ap (λ (b : Bool). cond b at (seekIn s (length s) (reach s at))) e
+
+  pub start-begins : (at : ℕ) → Begins at → tokenStart s at ≡ at
+  start-begins at b =
+      ⊎-elim (λ w. start-within at w)
+      (λ w.
+      start-not at (within-not at (w .0)) ∙ ap (seekIn s (length s)) (reach-at (length s) at (w .0))
+      ∙ seek-here (length s) at (or-r (leb (length s) at) (w .2))) b
+
+  pub start-end : (at : ℕ) → length s ≤ at → tokenStart s at ≡ at
+  start-end at h =
+      let j = joined-past at h in
+      start-not at (within-not at j) ∙ ap (seekIn s (length s)) (reach-at (length s) at j)
+      ∙ seek-here (length s) at (or-l (some isAlphanumeric (wordAt s at)) (le-leb (length s) at h))
+
+  pub skip-start : (at start : ℕ) → at ≤ start → isWithin s at ≡ false → joined s start ≡ false → start ≤ length s →
+      ((k : ℕ) → at ≤ k → k < start → isAlphanumeric (getD s k 0) ≡ false) → tokenStart s at ≡ tokenStart s start
+  skip-start at start h w j l f =
+      start-not at w
+      ∙ skip-to (seekIn s (length s)) seek-leap (start - at) at start (omega arith) j l f
+      ∙ sym (start-not start (within-not start j))
+
+  -- ---- a word found
+
+  -- a boundary between what is no letter, digit or `_` and one of them, unless the former joins
+  pub outer-boundary : (k : ℕ) → isInner (valueAt s (suc k)) ≡ false → isInner (valueAt s (suc (suc k))) ≡ true →
+      bridged (valueAt s k) (valueAt s (suc k)) (valueAt s (suc (suc k))) ≡ false → joined s k ≡ false
+  outer-boundary k e f g = joined-is k ∙ outer-joins (valueAt s k) (valueAt s (suc k)) (valueAt s (suc (suc k))) (valueAt s (suc (suc (suc k)))) e f ∙ g
+
+  -- what joins has no boundary before it
+  pub bridge-joined : (k : ℕ) → isBridge s k ≡ true → joined s k ≡ true
+  unfolding isBridge
+  bridge-joined k e = joined-is k ∙ bridge-joins (valueAt s k) (valueAt s (suc k)) (valueAt s (suc (suc k))) (valueAt s (suc (suc (suc k)))) e
+
+  -- two of them hold together
+  pub inner-joined : (k : ℕ) → isInner (valueAt s (suc k)) ≡ true → isInner (valueAt s (suc (suc k))) ≡ true → joined s k ≡ true
+  inner-joined k e f = way-joined k (inl e) ∙ or-l (isBridge s k) f
+
+  -- so a stretch of them lies in one word
+  stretch : (n i k : ℕ) → k ≡ n + i → ((j : ℕ) → i ≤ j → j ≤ k → joined s j ≡ true) → k < reach s i
+  stretch zero i k e f = let z = reach-least (suc i) in omega (arith, reach-more i (f i (omega arith) (omega arith)))
+  stretch (suc n) i k e f =
+      let z = stretch n (suc i) k (omega arith) (λ j h l. f j (omega arith) l) in omega (arith, reach-more i (f i (omega arith) (omega arith)))
+
+  pub inner-stretch : (start k : ℕ) → start ≤ k → ((j : ℕ) → start ≤ j → j ≤ k → isInner (valueAt s (suc (suc j))) ≡ true) → k < reach s (suc start)
+  inner-stretch start k h f =
+      by-less start k
+      (λ l. stretch (k - suc start) (suc start) k (omega arith) (λ j m n. by-suc j m n))
+      (λ l. omega (arith, reach-least (suc start)))
+    where
+      by-suc : (j : ℕ) → suc start ≤ j → j ≤ k → joined s j ≡ true
+      by-suc zero m n = absurd (omega arith)
+      by-suc (suc j) m n = inner-joined (suc j) (f j (omega arith) (omega arith)) (f (suc j) (omega arith) n)
+
+  -- and a word that begins with one and has a letter or a digit further on begins a token
+  pub found-begins : (start k : ℕ) → start ≤ k → k < length s → joined s start ≡ false →
+      ((j : ℕ) → start ≤ j → j ≤ k → isInner (valueAt s (suc (suc j))) ≡ true) → isAlphanumeric (getD s k 0) ≡ true → Begins start
+  found-begins start k h l j f e =
+      let r = inner-stretch start k h f in
+      inr (j, omega arith, some-in isAlphanumeric (reach s (suc start) - start) start k s h (omega arith) l e, f start (omega arith) h)
+
+  -- ---- of every word
+
+  pub words-all : (R : ℕ → Bool) → all R s ≡ true → (n i : ℕ) → all (all R) (wordsIn s n i) ≡ true
+  words-all R h zero i = rw (none-yet i) (all-nil (all R))
+  words-all R h (suc n) i =
+      by-less i (length s)
+      (λ l.
+      rw (words-go n i l)
+      (all-cons (all R) (wordAt s i) (wordsIn s n (reach s (suc i))) (all-take R (reach s (suc i) - i) (drop i s) (all-drop R i s h)) (words-all R h n (reach s (suc i)))))
+      (λ l. rw (words-end (suc n) i l) (all-nil (all R)))
+
+  words-total : (n i : ℕ) → i ≤ length s → total (wordsIn s n i) ≤ length s - i
+  unfolding total
+  words-total zero i h = rw (none-yet i) (omega arith)
+  words-total (suc n) i h =
+      by-less i (length s)
+      (λ l.
+      let m = reach-most (suc i) l in
+      let k = reach-least (suc i) in
+      rw (words-go n i l) (omega (arith, length-take (reach s (suc i) - i) (drop i s), words-total n (reach s (suc i)) m)))
+      (λ l. rw (words-end (suc n) i l) (omega arith))
+
+  pub tokens-within : total (cut (words s)) ≤ length s
+  unfolding words
+  tokens-within =
+      omega (arith, cut-total (wordsFrom s 0), those-total (some isAlphanumeric) (wordsIn s (length s) 0), words-total (length s) 0 (omega arith))
+
+  -- ---- what a byte is, by its value
+
+  pub solid-at : (i : ℕ) → i < length s → isSolid (valueAt s (suc (suc i))) ≡ isAlphanumeric (getD s i 0)
+  solid-at i h = rw (value-in i h, letter-value, digit-value)
+
+  pub inner-at : (i : ℕ) → i < length s → isInner (valueAt s (suc (suc i))) ≡ isPlain (getD s i 0)
+  inner-at i h = rw (value-in i h, letter-value, digit-value)
+
+  -- ---- a text of letters is one word
+
+  pub one-word : 0 < length s → all isLetter s ≡ true → words s ≡ s ∷ []
+  unfolding words
+  one-word h l =
+      let letter : (k : ℕ) → k < length s → isAlphanumeric (getD s k 0) ≡ true = λ k m. or-l (isDigit (getD s k 0)) (all-at isLetter s k l m) in
+      let f = inner-stretch 0 (length s - 1) (omega arith)
+      (λ j m n. inner-at j (omega arith) ∙ or-l (is (wordBreak (getD s j 0)) extendNumLet) (letter j (omega arith))) in
+      let r : reach s 1 ≡ length s = omega (arith, f, reach-most 1 (omega arith)) in
+      let z : length s - 0 ≡ length s = omega arith in
+      from-kept 0 h (some-in isAlphanumeric (reach s 1 - 0) 0 0 s (omega arith) (omega arith) h (letter 0 h))
+      ∙ rw (r, z, take-length) (ap (λ (ws : List (List ℕ)). s ∷ ws) (from-end (length s) (omega arith)))
