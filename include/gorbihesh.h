@@ -32,6 +32,18 @@
 extern "C" {
 #endif
 
+/* ---- version: of this header. gorbihesh_version gives that of the archive that is linked; one with another
+ * major number has another layout of its answers, queries or lists, and must not be called by this header.
+ */
+#define GORBIHESH_VERSION_MAJOR 1
+#define GORBIHESH_VERSION_MINOR 0
+#define GORBIHESH_VERSION_PATCH 0
+#define GORBIHESH_VERSION_STRING "1.0.0"
+#define GORBIHESH_VERSION \
+    (GORBIHESH_VERSION_MAJOR * 1000000 + GORBIHESH_VERSION_MINOR * 1000 + GORBIHESH_VERSION_PATCH)
+
+uint32_t gorbihesh_version(void);
+
 /* ---- rooms: the bytes of working room that each call needs, whatever its input.
  * The functions give the numbers of the archive that is linked, the constants those of this header; a test
  * holds the two equal. A call whose number is 0 takes an empty room, and NULL.
