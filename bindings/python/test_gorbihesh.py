@@ -7,6 +7,7 @@ from __future__ import annotations
 import doctest
 import math
 import os
+import pickle
 import re
 import subprocess
 import sys
@@ -131,7 +132,8 @@ class Calls(unittest.TestCase):
     def test_refusals(self) -> None:
         self.refuses(Refusal.LONG_TEXT, "a" * (gorbihesh.TEXT_MOST + 1))
         self.refuses(Refusal.OPEN_QUOTE, '"a')
-        for text in ("caf\u00e9", b"caf\xe9", "caf\udce9", "\ud800"):
+        texts: list[gorbihesh.Text] = ["caf\u00e9", b"caf\xe9", "caf\udce9", "\ud800"]
+        for text in texts:
             self.refuses(Refusal.NOT_ASCII, text)
         for length in (33, 255, 256, 256 + 32):
             self.refuses(Refusal.BAD_SETUP, "a", Setup("n" * length, Analyzer.SIMPLE))
@@ -139,6 +141,10 @@ class Calls(unittest.TestCase):
 
     def test_a_number_of_a_later_release(self) -> None:
         self.assertEqual(Refused(99).number, 99)
+
+    def test_a_refusal_between_processes(self) -> None:
+        copy = pickle.loads(pickle.dumps(Refused(Refusal.OPEN_QUOTE)))
+        self.assertEqual((copy.number, str(copy)), (Refusal.OPEN_QUOTE, gorbihesh.words(4)))
 
     def test_select(self) -> None:
         files = List()
