@@ -1,0 +1,64 @@
+"""The calls of the archive, by the program ask.c, and the example program on the sample site."""
+import os
+import re
+import subprocess
+import tempfile
+
+OR, AND = 0, 1
+WHITESPACE, SIMPLE, KEYWORD = 1, 2, 3
+ARCHIVE = os.environ.get("ARCHIVE") or "target/staticlib/libgorbihesh.a"
+OUT = "target/tests/guide"
+SITE = "examples/night/site"
+PROGRAM = "target/examples/night"
+
+
+def built():
+    """Builds both programs."""
+    os.makedirs(OUT, exist_ok=True)
+    flags = ["-std=c11", "-Wall", "-Wextra", "-Werror", "-pedantic", "-O2", "-Iinclude"]
+    subprocess.run(["gcc", *flags, "tests/guide/ask.c", ARCHIVE, "-o", f"{OUT}/ask"], check=True)
+    subprocess.run(["examples/night/build"], check=True)
+
+
+def hexed(data):
+    return data.hex() or "-"
+
+
+def parse_line(text, operator=OR, analyzer=SIMPLE, field=b"f", fields=b""):
+    return f"parse {operator} {analyzer} {hexed(field)} {hexed(fields)} {hexed(text)}"
+
+
+def ask(lines):
+    """The answers to these lines, each cut at its blanks."""
+    run = subprocess.run([f"{OUT}/ask"], input="".join(line + "\n" for line in lines), capture_output=True, text=True, check=True)
+    answers = run.stdout.splitlines()
+    assert len(answers) == len(lines)
+    return answers
+
+
+def site_fields():
+    """The fields of the sample site's catalogue that are compared whole, as gorbihesh_parse takes them."""
+    return b"".join(bytes([KEYWORD, len(name)]) + name for name in (b"name", b"ext", b"kind"))
+
+
+def site_files():
+    found = []
+    for folder, _, names in os.walk(SITE):
+        found += [os.path.relpath(os.path.join(folder, name), SITE) for name in names]
+    return sorted(found)
+
+
+def picks(selectors):
+    """The files of the sample site that the example program picks for each selector, or its refusal."""
+    with tempfile.NamedTemporaryFile("w", suffix=".jobs") as sheet:
+        sheet.write("".join(f"job{i}: {s}\n" for i, s in enumerate(selectors)))
+        sheet.flush()
+        text = subprocess.run([PROGRAM, "-a", SITE, sheet.name], capture_output=True, text=True).stdout
+    found = []
+    for block in text.split("\n\n"):
+        first, *rest = block.splitlines()
+        if re.match(r"job\d+ \(line", first):
+            refused = re.match(r"  refused, (\d+)", rest[0])
+            found.append(int(refused[1]) if refused else sorted(re.sub(r"^ +[\d,]+  ", "", line) for line in rest[1:]))
+    assert len(found) == len(selectors), text
+    return found

@@ -1,0 +1,3 @@
+counted = 0
+def wrong(keep):
+    return []

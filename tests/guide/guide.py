@@ -1,0 +1,102 @@
+"""Every table of docs/SELECTORS.md that shows a selector, beside the programs."""
+import re
+
+import calls
+import forms
+import pages
+
+PAGE = "docs/SELECTORS.md"
+FIELD = b"path"
+counted = 0
+
+
+def text():
+    return open(PAGE).read()
+
+
+def read(selectors, **setup):
+    """What each selector reads as, or `refused` and the number."""
+    setup = {"field": FIELD, "fields": calls.site_fields(), **setup}
+    answers = [a.split() for a in calls.ask([calls.parse_line(s.encode(), **setup) for s in selectors])]
+    return [forms.selector(bytes.fromhex(b), setup["field"]) if n == "0" else f"refused {n}" for n, b in answers]
+
+
+def differ(what, claims):
+    """Of (selector, claimed, true) those that are not so; and that there are some."""
+    global counted
+    counted += len(claims)
+    told = [f"{PAGE}: {what}: `{s}`: it says {said!r}, and is {true!r}" for s, said, true in claims if said != true]
+    return told if claims else [f"{PAGE}: {what}: no claims"]
+
+
+def readings(column, rows, typed="Typed", **setup):
+    """A column that says what each selector of its row reads as."""
+    selectors = [pages.code(row[typed]) for row in rows]
+    said = [pages.code(row[column]) or row[column] for row in rows]
+    return differ(column, list(zip(selectors, said, read(selectors, **setup))))
+
+
+def named(cell):
+    """The files that a cell names: all but some, none, a folder's, or one by one."""
+    files, spans = calls.site_files(), pages.codes(cell)
+    some = [f for f in files if any(f == s or (s.endswith("/") and f.startswith(s)) for s in spans)]
+    lost = [s for s in spans if not any(f == s or f.startswith(s) for f in files)]
+    if lost or (cell != "none" and not spans):
+        return f"no such file: {cell}"
+    return [f for f in files if f not in some] if cell.startswith("all but") else some
+
+
+def examples():
+    rows = pages.with_columns(text(), "Selector", "Picks")
+    selectors = [pages.code(row["Selector"]) for row in rows]
+    told = differ("Picks", [(s, named(row["Picks"]), true) for s, row, true in zip(selectors, rows, calls.picks(selectors))])
+    return told if len(rows) == 20 else told + [f"{PAGE}: {len(rows)} examples, not twenty"]
+
+
+def analyzers():
+    rows = pages.with_columns(text(), "Typed", "whitespace", "simple", "keyword")
+    told = []
+    for name, number in (("whitespace", calls.WHITESPACE), ("simple", calls.SIMPLE), ("keyword", calls.KEYWORD)):
+        told += readings(name, rows, analyzer=number, fields=b"")
+    return told
+
+
+def operators():
+    rows = pages.with_columns(text(), "Typed", "Read as", "Where And joins")
+    return readings("Read as", rows) + readings("Where And joins", rows, operator=calls.AND)
+
+
+def typed():
+    return readings("Read as", pages.with_columns(text(), "Typed", "Read as"))
+
+
+def lucene():
+    rows = pages.with_columns(text(), "Typed", "Lucene", "Here", "Write")
+    written = [c for row in rows for c in pages.codes(row["Write"])]
+    passed = [(s, True, not r.startswith("refused")) for s, r in zip(written, read(written))]
+    return readings("Here", rows) + differ("Write", passed)
+
+
+def headed():
+    """The refusals of the header, 0 apart."""
+    enum = re.search(r"enum gorbihesh_refusal \{(.*?)\};", open("include/gorbihesh.h").read(), re.S)[1]
+    return [n for n in map(int, re.findall(r"= (\d+)", enum)) if n != 0]
+
+
+def refusals():
+    """Every refusal of the header has its row, with its words; what a selector can be refused for, an example and a cure that passes."""
+    rows = pages.with_columns(text(), "No.", "It says")
+    numbers = [int(row["No."]) for row in rows]
+    words = calls.ask([f"words {n}" for n in numbers])
+    told = differ("It says", [(str(n), row["It says"], w) for n, row, w in zip(numbers, rows, words)])
+    if numbers != headed():
+        told.append(f"{PAGE}: the refusals are {numbers}, those of the header {headed()}")
+    shown = [row for row in rows if pages.codes(row.get("Refused", ""))]
+    selectors = [pages.code(row["Refused"]) for row in shown]
+    told += differ("Refused", list(zip(selectors, [f"refused {row['No.']}" for row in shown], read(selectors))))
+    cures = [pages.codes(row["Write"])[0] for row in shown]
+    return told + differ("cures", [(s, True, not r.startswith("refused")) for s, r in zip(cures, read(cures))])
+
+
+def wrong():
+    return examples() + typed() + operators() + analyzers() + refusals() + lucene()
