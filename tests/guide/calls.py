@@ -17,6 +17,7 @@ def built():
     os.makedirs(OUT, exist_ok=True)
     flags = ["-std=c11", "-Wall", "-Wextra", "-Werror", "-pedantic", "-O2", "-Iinclude"]
     subprocess.run(["gcc", *flags, "tests/guide/ask.c", ARCHIVE, "-o", f"{OUT}/ask"], check=True)
+    subprocess.run(["gcc", *flags, "tests/guide/list.c", "-o", f"{OUT}/list"], check=True)
     subprocess.run(["examples/night/build"], check=True)
 
 

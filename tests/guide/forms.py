@@ -138,8 +138,3 @@ def dump(data):
     rows = lines(data)
     width = max(len(hex_) for hex_, _ in rows) + 2
     return "\n".join(f"{hex_:<{width}}{remark}" for hex_, remark in rows)
-
-
-def undump(text):
-    """The bytes of such hex: what stands before two blanks."""
-    return bytes.fromhex("".join(line.strip().split("  ")[0] for line in text.splitlines()))
