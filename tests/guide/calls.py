@@ -2,18 +2,21 @@
 import os
 import re
 import subprocess
+import sys
 import tempfile
 
 OR, AND = 0, 1
 WHITESPACE, SIMPLE, KEYWORD = 1, 2, 3
 ARCHIVE = os.environ.get("ARCHIVE") or "target/staticlib/libgorbihesh.a"
 OUT = "target/tests/guide"
-SITE = "examples/night/site"
+SITE = "examples/site"
 PROGRAM = "target/examples/night"
 
 
 def built():
     """Builds both programs."""
+    if not os.path.isfile(ARCHIVE):
+        sys.exit(f"tests/guide: {ARCHIVE} is not here (rt staticlib gorbihesh makes it)")
     os.makedirs(OUT, exist_ok=True)
     flags = ["-std=c11", "-Wall", "-Wextra", "-Werror", "-pedantic", "-O2", "-Iinclude"]
     subprocess.run(["gcc", *flags, "tests/guide/ask.c", ARCHIVE, "-o", f"{OUT}/ask"], check=True)

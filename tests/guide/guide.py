@@ -46,11 +46,30 @@ def named(cell):
     return [f for f in files if f not in some] if cell.startswith("all but") else some
 
 
+def site():
+    """The table of the sample site's files, and the clauses and signs that are shown by themselves."""
+    rows = pages.with_columns(text(), "Folder", "Files")
+    said = sorted(f"{pages.code(row['Folder'])}/{name}" for row in rows for name in pages.codes(row["Files"]))
+    told = differ("Files", [("the sample site", said, calls.site_files())])
+    shown = [pages.codes(row[first]) for first, second in (("Clause", "Asks for"), ("Sign", "Name")) for row in pages.with_columns(text(), first, second)]
+    return told + passes("clauses and signs", sum(shown, []))
+
+
+def passes(what, selectors):
+    return differ(what, [(s, "passes", r if r.startswith("refused") else "passes") for s, r in zip(selectors, read(selectors))])
+
+
 def examples():
     rows = pages.with_columns(text(), "Selector", "Picks")
     selectors = [pages.code(row["Selector"]) for row in rows]
     told = differ("Picks", [(s, named(row["Picks"]), true) for s, row, true in zip(selectors, rows, calls.picks(selectors))])
     return told if len(rows) == 20 else told + [f"{PAGE}: {len(rows)} examples, not twenty"]
+
+
+def equals():
+    rows = pages.with_columns(text(), "Typed", "Read as", "Picks the same as")
+    one, other = ([pages.code(row[column]) for row in rows] for column in ("Typed", "Picks the same as"))
+    return differ("Picks the same as", list(zip(one, calls.picks(other), calls.picks(one))))
 
 
 def analyzers():
@@ -72,9 +91,7 @@ def typed():
 
 def lucene():
     rows = pages.with_columns(text(), "Typed", "Lucene", "Here", "Write")
-    written = [c for row in rows for c in pages.codes(row["Write"])]
-    passed = [(s, True, not r.startswith("refused")) for s, r in zip(written, read(written))]
-    return readings("Here", rows) + differ("Write", passed)
+    return readings("Here", rows) + passes("Write", [pages.code(row["Write"]) for row in rows])
 
 
 def headed():
@@ -85,18 +102,18 @@ def headed():
 
 def refusals():
     """Every refusal of the header has its row, with its words; what a selector can be refused for, an example and a cure that passes."""
-    rows = pages.with_columns(text(), "No.", "It says")
+    rows, causes = pages.with_columns(text(), "No.", "It says"), pages.with_columns(text(), "Typed", "Read as", "Write")
     numbers = [int(row["No."]) for row in rows]
     words = calls.ask([f"words {n}" for n in numbers])
     told = differ("It says", [(str(n), row["It says"], w) for n, row, w in zip(numbers, rows, words)])
     if numbers != headed():
         told.append(f"{PAGE}: the refusals are {numbers}, those of the header {headed()}")
-    shown = [row for row in rows if pages.codes(row.get("Refused", ""))]
-    selectors = [pages.code(row["Refused"]) for row in shown]
-    told += differ("Refused", list(zip(selectors, [f"refused {row['No.']}" for row in shown], read(selectors))))
-    cures = [pages.codes(row["Write"])[0] for row in shown]
-    return told + differ("cures", [(s, True, not r.startswith("refused")) for s, r in zip(cures, read(cures))])
+    shown = [row for row in rows if pages.codes(row["Refused"])]
+    selectors = [pages.code(row["Refused"]) for row in shown] + ["a" * 1025]
+    said = [f"refused {row['No.']}" for row in shown] + ["refused 1"]
+    told += differ("Refused", list(zip(selectors, said, read(selectors))))
+    return told + passes("cures", [pages.codes(row["Write"])[0] for row in shown + causes])
 
 
 def wrong():
-    return examples() + typed() + operators() + analyzers() + refusals() + lucene()
+    return site() + examples() + equals() + typed() + operators() + analyzers() + refusals() + lucene()
