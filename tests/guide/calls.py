@@ -13,14 +13,21 @@ SITE = "examples/site"
 PROGRAM = "target/examples/night"
 
 
-def built():
-    """Builds both programs."""
+def compiled(source, *more):
+    flags = ["-std=c11", "-Wall", "-Wextra", "-Werror", "-pedantic", "-O2", "-Iinclude"]
+    os.makedirs(OUT, exist_ok=True)
+    subprocess.run(["gcc", *flags, f"tests/guide/{source}.c", *more, "-o", f"{OUT}/{source}"], check=True)
+
+
+def build_ask():
     if not os.path.isfile(ARCHIVE):
         sys.exit(f"tests/guide: {ARCHIVE} is not here (rt staticlib gorbihesh makes it)")
-    os.makedirs(OUT, exist_ok=True)
-    flags = ["-std=c11", "-Wall", "-Wextra", "-Werror", "-pedantic", "-O2", "-Iinclude"]
-    subprocess.run(["gcc", *flags, "tests/guide/ask.c", ARCHIVE, "-o", f"{OUT}/ask"], check=True)
-    subprocess.run(["gcc", *flags, "tests/guide/list.c", "-o", f"{OUT}/list"], check=True)
+    compiled("ask", ARCHIVE)
+
+
+def build_all():
+    build_ask()
+    compiled("list")
     subprocess.run(["examples/night/build"], check=True)
 
 

@@ -35,6 +35,10 @@ WIDTHS = {NUMBER2: 2, NUMBER4: 4, FLOAT4: 4, BYTES8: 8}
 FLOAT_OWNERS = (0x09, 0x45)
 
 
+def part(tag, body):
+    return bytes([tag]) + len(body).to_bytes(2, "big") + body
+
+
 def parts(data):
     """The parts that the bytes are, one behind the other, as (tag, body)."""
     found, at = [], 0
