@@ -1,35 +1,61 @@
-//! The crate `gorbihesh`: a safe wrapper over the archive's calls, for Rust. `include/gorbihesh.h` says
-//! what each call takes, promises and refuses; `desk` lends buffers and holds the calls to it.
+//! The calls as C has them, over lent slices: nothing is allocated, and the answer is the archive's own.
+//! `include/gorbihesh.h` says what each takes, promises and refuses. This module alone knows the layout of
+//! the calls; nothing outside it sees a pointer.
 
-pub mod desk;
+use crate::Refusal;
+use std::ffi::{CStr, c_char};
 
-/// The answer as the archive gives it. `refusal` 0 is success.
+/// The answer of a call.
 #[repr(C)]
 #[derive(Clone, Copy, Debug, PartialEq, Eq)]
 pub struct Answer {
+    /// 0, or the number of a [`Refusal`]; the other members are then 0.
     pub refusal: u32,
+    /// The bytes written to the output.
     pub length: u32,
+    /// The records picked, of [`select`]; else 0.
     pub count: u32,
+    /// The rounds made, of [`rewrite`], the last unchanged one included; else 0.
     pub rounds: u32,
 }
 
-/// A setup for parsing. `fields` holds entries: analyzer, length of name, name.
+impl Answer {
+    /// The answer, unless it is a refusal.
+    ///
+    /// # Errors
+    /// Why nothing was done.
+    pub fn done(self) -> Result<Self, Refusal> {
+        Refusal::from_number(self.refusal).map_or(Ok(self), Err)
+    }
+}
+
+/// What a text is parsed by, as bytes that nobody has checked; [`crate::Setup`] makes sound ones.
 #[derive(Clone, Copy, Debug)]
 pub struct Setup<'a> {
+    /// What joins two clauses with nothing between them: 0 for OR, 1 for AND.
     pub operator: u8,
+    /// The analyzer of every field that `fields` does not name.
     pub analyzer: u8,
+    /// The field of clauses that name none.
     pub field: &'a [u8],
+    /// Entries one behind the other, each one byte analyzer, one byte length of the name, the name.
     pub fields: &'a [u8],
 }
 
-/// The archive's own names; nothing outside this module sees a pointer.
 mod archive {
-    use super::Answer;
+    use super::{Answer, c_char};
 
     unsafe extern "C" {
+        /// The version of the archive that is linked; see [`crate::VERSION`].
+        pub safe fn gorbihesh_version() -> u32;
+        /// The bytes of room that [`super::parse`] needs.
         pub safe fn gorbihesh_parse_room() -> usize;
+        /// The bytes of room that [`super::rewrite`] needs.
         pub safe fn gorbihesh_rewrite_room() -> usize;
+        /// The bytes of room that [`super::select`] needs.
         pub safe fn gorbihesh_select_room() -> usize;
+
+        pub safe fn gorbihesh_words(refusal: u32) -> *const c_char;
 
         pub fn gorbihesh_parse(
             operator: u8,
@@ -68,7 +94,21 @@ mod archive {
     }
 }
 
-pub use archive::{gorbihesh_parse_room, gorbihesh_rewrite_room, gorbihesh_select_room};
+pub use archive::gorbihesh_parse_room as parse_room;
+pub use archive::gorbihesh_rewrite_room as rewrite_room;
+pub use archive::gorbihesh_select_room as select_room;
+pub use archive::gorbihesh_version as version;
+
+/// A refusal's number in a technician's words.
+///
+/// # Panics
+/// Where the archive breaks its promise that words are ASCII.
+#[must_use]
+pub fn words(refusal: u32) -> &'static str {
+    // SAFETY: the archive's texts end in a NUL, are never NULL and stay as long as the program runs.
+    let text = unsafe { CStr::from_ptr(archive::gorbihesh_words(refusal)) };
+    text.to_str().expect("the archive's words are ASCII")
+}
 
 /// Parses a text into a stored query.
 pub fn parse(setup: Setup, text: &[u8], out: &mut [u8], room: &mut [u8]) -> Answer {
@@ -106,7 +146,8 @@ pub fn rewrite(query: &[u8], out: &mut [u8], room: &mut [u8]) -> Answer {
     }
 }
 
-/// Picks the records of a list for which a stored query is true; record numbers as bytes, four each.
+/// Picks the records of a list for which a stored query is true; their numbers go to `rows`, four bytes
+/// each, big-endian.
 pub fn select(query: &[u8], list: &[u8], rows: &mut [u8], room: &mut [u8]) -> Answer {
     // SAFETY: as in `parse`.
     unsafe {
