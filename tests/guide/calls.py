@@ -7,7 +7,7 @@ import tempfile
 
 OR, AND = 0, 1
 WHITESPACE, SIMPLE, KEYWORD = 1, 2, 3
-ARCHIVE = os.environ.get("ARCHIVE") or "target/staticlib/libgorbihesh.a"
+ARCHIVE = os.environ.get("ARCHIVE") or "target/lib/libgorbihesh.a"
 OUT = "target/tests/guide"
 SITE = "examples/site"
 PROGRAM = "target/examples/night"
@@ -21,14 +21,14 @@ def compiled(source, *more):
 
 def build_ask():
     if not os.path.isfile(ARCHIVE):
-        sys.exit(f"tests/guide: {ARCHIVE} is not here (rt staticlib gorbihesh makes it)")
+        sys.exit(f"tests/guide: {ARCHIVE} is not here (make archive makes it)")
     compiled("ask", ARCHIVE)
 
 
 def build_all():
     build_ask()
     compiled("list")
-    subprocess.run(["examples/night/build"], check=True)
+    subprocess.run(["examples/night/build"], check=True, env={**os.environ, "ARCHIVE": ARCHIVE})
 
 
 def hexed(data):
