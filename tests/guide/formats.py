@@ -38,6 +38,17 @@ def limits(page):
     return same("limits, beside the header", said, {name: headed.get(name) for name in said})
 
 
+def refusals(page):
+    """Small queries and lists, each with its refusal: queries by both calls that take one."""
+    told = []
+    for column, calls_of in (("Query", ("rewrite {}", "select {} -")), ("List", ("select 060000 {}",))):
+        for row in pages.with_columns(page, column, "Refusal"):
+            given = calls.hexed(bytes.fromhex(pages.code(row[column])))
+            answers = [a.split()[0] for a in calls.ask([call.format(given) for call in calls_of])]
+            told += same(f"the refusal of {row[column]}", [row["Refusal"]] * len(answers), answers)
+    return told
+
+
 def examples(page):
     """The examples by name, as the programs make them: the selector that the page names, the list of list.c, and its rows."""
     selector = re.search(r"the selector `([^`]+)`", page)[1]
@@ -55,7 +66,7 @@ def examples(page):
 
 def wrong(keep):
     page = open(PAGE).read()
-    told = tags(page) + limits(page)
+    told = tags(page) + limits(page) + refusals(page)
     for name, made in examples(page).items():
         shown = re.search(MARK.format(name), page, re.S)
         if keep and shown:
