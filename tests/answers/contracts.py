@@ -14,7 +14,7 @@ MARKS = {"(": 1, ")": -1, "[": 1, "]": -1, "{": 1, "}": -1, "⌜": 1, "⌝": -1}
 class Function:
     def __init__(self, name, head):
         self.name = name
-        self.requires = "requires {" in head
+        self.requires = bool(re.search(r"\brequires\b", head))
         self.writes = re.findall(r"(\w+): &(?:'\w+ )?mut ", head)
         self.answers = (re.search(r"\) -> ([^\n{]+)", head) or [None, None])[1]
         self.ensures = [" ".join(body.split()) for body in re.findall(r"ensures(?: \w+)? \{ λ \w+\. ⌜(.*?)⌝ \}", head, re.S)]
