@@ -1,6 +1,6 @@
-"""The calls of the archive, by the program ask.c, and the example program on the sample site."""
+"""The calls of the archive, by the program ask.c, and the command on the sample site."""
+import json
 import os
-import re
 import subprocess
 import sys
 import tempfile
@@ -10,7 +10,7 @@ WHITESPACE, SIMPLE, KEYWORD = 1, 2, 3
 ARCHIVE = os.environ.get("ARCHIVE") or "target/lib/libgorbihesh.a"
 OUT = "target/tests/guide"
 SITE = "examples/site"
-PROGRAM = "target/examples/night"
+PROGRAM = "target/command/gorbihesh"
 
 
 def compiled(source, *more):
@@ -28,7 +28,7 @@ def build_ask():
 def build_all():
     build_ask()
     compiled("list")
-    subprocess.run(["examples/night/build"], check=True, env={**os.environ, "ARCHIVE": ARCHIVE})
+    subprocess.run(["command/build"], check=True, env={**os.environ, "ARCHIVE": ARCHIVE})
 
 
 def hexed(data):
@@ -48,8 +48,8 @@ def ask(lines):
 
 
 def site_fields():
-    """The fields of the sample site's catalogue that are compared whole, as gorbihesh_parse takes them."""
-    return b"".join(bytes([KEYWORD, len(name)]) + name for name in (b"name", b"ext", b"kind"))
+    """The fields of the command's catalogue that are compared whole, as gorbihesh_parse takes them."""
+    return b"".join(bytes([KEYWORD, len(name)]) + name for name in (b"name", b"ext", b"kind", b"all"))
 
 
 def site_files():
@@ -60,16 +60,13 @@ def site_files():
 
 
 def picks(selectors):
-    """The files of the sample site that the example program picks for each selector, or its refusal."""
-    with tempfile.NamedTemporaryFile("w", suffix=".jobs") as sheet:
-        sheet.write("".join(f"job{i}: {s}\n" for i, s in enumerate(selectors)))
-        sheet.flush()
-        text = subprocess.run([PROGRAM, "-a", SITE, sheet.name], capture_output=True, text=True).stdout
-    found = []
-    for block in text.split("\n\n"):
-        first, *rest = block.splitlines()
-        if re.match(r"job\d+ \(line", first):
-            refused = re.match(r"  refused, (\d+)", rest[0])
-            found.append(int(refused[1]) if refused else sorted(re.sub(r"^ +[\d,]+  ", "", line) for line in rest[1:]))
-    assert len(found) == len(selectors), text
-    return found
+    """The files of the sample site that the command picks for each selector, or its refusal."""
+    with tempfile.TemporaryDirectory() as folder:
+        sheet, record = f"{folder}/jobs", f"{folder}/record"
+        with open(sheet, "w") as to:
+            to.write("".join(f"job-{i}: {s}\n" for i, s in enumerate(selectors)))
+        subprocess.run([PROGRAM, "night", "--record", record, SITE, sheet], stdout=subprocess.DEVNULL)
+        night = json.load(open(record))
+    found = {job["name"]: sorted(f["path"] for f in job["picks"]) for job in night["jobs"]}
+    found |= {job["name"]: job["refusal"] for job in night["refused"]}
+    return [found[f"job-{i}"] for i in range(len(selectors))]

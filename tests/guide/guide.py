@@ -67,8 +67,11 @@ def examples():
 
 
 def equals():
+    """Pairs of selectors that pick the same, or one that picks nothing."""
     rows = pages.with_columns(text(), "Typed", "Read as", "Picks the same as")
-    one, other = ([pages.code(row[column]) for row in rows] for column in ("Typed", "Picks the same as"))
+    one = [pages.code(row["Typed"]) for row in rows]
+    other = [pages.code(row["Picks the same as"]) for row in rows]
+    assert all(o or row["Picks the same as"] == "nothing" for o, row in zip(other, rows))
     return differ("Picks the same as", list(zip(one, calls.picks(other), calls.picks(one))))
 
 
@@ -91,7 +94,7 @@ def typed():
 
 def lucene():
     rows = pages.with_columns(text(), "Typed", "Lucene", "Here", "Write")
-    return readings("Here", rows) + passes("Write", [pages.code(row["Write"]) for row in rows])
+    return readings("Here", rows) + passes("Write", [pages.codes(row["Write"])[0] for row in rows if row["Write"]])
 
 
 def headed():
