@@ -59,6 +59,11 @@ def site_files():
     return sorted(found)
 
 
+def printed(words):
+    """What the command prints, whatever its status."""
+    return subprocess.run([PROGRAM, *words], capture_output=True, text=True).stdout
+
+
 def picks(selectors):
     """The files of the sample site that the command picks for each selector, or its refusal."""
     with tempfile.TemporaryDirectory() as folder:

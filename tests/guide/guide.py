@@ -1,5 +1,6 @@
 """Every table of docs/SELECTORS.md that shows a selector, beside the programs."""
 import re
+import shlex
 
 import calls
 import forms
@@ -118,5 +119,28 @@ def refusals():
     return told + passes("cures", [pages.codes(row["Write"])[0] for row in shown + causes])
 
 
-def wrong():
-    return site() + examples() + equals() + typed() + operators() + analyzers() + refusals() + lucene()
+# A block that begins with a command line and has what the command prints below it.
+SHOWN = re.compile(r"```\n\$ gorbihesh ([^\n]*)\n(.*?)```\n", re.S)
+
+
+def printed(keep):
+    """What the page shows the command to print."""
+    page = text()
+    blocks = [(block, calls.printed(shlex.split(block[1]))) for block in SHOWN.finditer(page)]
+    if keep:
+        for block, true in reversed(blocks):
+            page = page[: block.start(2)] + true + page[block.end(2) :]
+        open(PAGE, "w").write(page)
+        return []
+    return differ("printed", [(block[1], block[2], true) for block, true in blocks])
+
+
+def pointed_out():
+    """Each clause that the page says is left out is pointed out by `gorbihesh check`."""
+    rows = pages.with_columns(text(), "Typed", "Read as", "Picks the same as")
+    selectors = [s for s in (pages.code(row["Typed"]) for row in rows) if "2024" in s]
+    return differ("check", [(s, True, "is left out" in calls.printed(["check", "--selector", s, calls.SITE])) for s in selectors])
+
+
+def wrong(keep):
+    return printed(keep) + pointed_out() + site() + examples() + equals() + typed() + operators() + analyzers() + refusals() + lucene()
