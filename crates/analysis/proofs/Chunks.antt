@@ -9,7 +9,7 @@ use lib.ListN.{length, take, drop, length-take, length-drop, drop-of-length-le}
 use lib.Seq.{take-all}
 use Rattle.rules.specs.Numbers.{chunkMost}
 use Rattle.rules.specs.Analysis.{front}
-use Rattle.rules.proofs.Pieces.{outside, front-nil, front-most, front-take}
+use Rattle.rules.proofs.text.Pieces.{outside, front-nil, front-most, front-take}
 use Rattle.analysis.specs.Tokens.{byAnalyzer, inside, wanted, spanFrom, firstOf, startFrom, textFrom, Found}
 use Rattle.analysis.proofs.Steps.{text-most, whole-start, whole-text, every-inside, found}
 

@@ -7,7 +7,7 @@ use native.Mathlib.Numerals.{add-one}
 use native.Mathlib.Omega.{arith}
 use lib.ListN.{length, getD, take, drop}
 use lib.Seq.{drop-cons}
-use Rattle.rules.proofs.Pieces.{front-nil, front-yes, front-no}
+use Rattle.rules.proofs.text.Pieces.{front-nil, front-yes, front-no}
 use Rattle.analysis.specs.Tokens.{inside, asWanted, wanted, spanFrom}
 
 module _ (P : ℕ → Bool) (s : List ℕ) (end : ℕ) where

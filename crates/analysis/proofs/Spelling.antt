@@ -7,7 +7,7 @@ use lib.Dec.{eqb}
 use lib.ListN.{length, length-map}
 use Rattle.rules.specs.Bytes.{isText}
 use Rattle.rules.specs.Analysis.{lower, lowercase}
-use Rattle.rules.proofs.Tokens.{lowercase-text}
+use Rattle.rules.proofs.text.Tokens.{lowercase-text}
 use Rattle.analysis.specs.Tokens.{spelled, writtenByte}
 
 as-it-is : (t : List ℕ) → t ≡ map (λ c. c) t

@@ -12,8 +12,8 @@ use lib.Dec.{eqb}
 use borrow.Author.Tests.{ne-eqb}
 use Rattle.rules.specs.Numbers.{chunkMost}
 use Rattle.rules.specs.Analysis.{front, after, isLetter, lowercase, tokenTexts}
-use Rattle.rules.proofs.Pieces.{by-list, outside, front-nil, front-yes, front-no, front-after, front-most, after-is, first-length}
-use Rattle.rules.proofs.Tokens.{inWord, whitespace-none, whitespace-step, simple-none, simple-step, keyword-none, keyword-step}
+use Rattle.rules.proofs.text.Pieces.{by-list, outside, front-nil, front-yes, front-no, front-after, front-most, after-is, first-length}
+use Rattle.rules.proofs.text.Tokens.{inWord, whitespace-none, whitespace-step, simple-none, simple-step, keyword-none, keyword-step}
 use Rattle.analysis.specs.Tokens.{inside, firstOf, startFrom, textFrom, spelled, Found}
 
 -- ---- any test

@@ -8,7 +8,7 @@ use native.Mathlib.Omega.{arith}
 use lib.ListN.{length, take, drop}
 use lib.Seq.{drop-nil}
 use Rattle.rules.specs.Analysis.{after, tokenTexts, placedFrom, tokenize}
-use Rattle.rules.proofs.Pieces.{outside, front-of-after}
+use Rattle.rules.proofs.text.Pieces.{outside, front-of-after}
 use Rattle.analysis.specs.Tokens.{inside, startFrom, textFrom, spelled, beforeToken, Found, Nth}
 use Rattle.analysis.proofs.Steps.{rest-is}
 

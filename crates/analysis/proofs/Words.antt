@@ -10,8 +10,8 @@ use borrow.Author.Tests.{ne-eqb}
 use Rattle.rules.specs.Numbers.{chunkMost}
 use Rattle.rules.specs.Bytes.{all}
 use Rattle.rules.specs.Analysis.{front, after, isLetter, lowercase, tokenTexts}
-use Rattle.rules.proofs.Pieces.{outside, front-nil, front-yes, after-nil, after-no, all-nil, all-cons, all-one}
-use Rattle.rules.proofs.Tokens.{inWord, whitespace-none, whitespace-step, simple-none, simple-step, keyword-step}
+use Rattle.rules.proofs.text.Pieces.{outside, front-nil, front-yes, after-nil, after-no, all-nil, all-cons, all-one}
+use Rattle.rules.proofs.text.Tokens.{inWord, whitespace-none, whitespace-step, simple-none, simple-step, keyword-step}
 use Rattle.analysis.specs.Tokens.{spelled, OneWord}
 use Rattle.classes.proofs.Comparing.{letter-in-word}
 

@@ -16,7 +16,7 @@ use lib.Ieee.Bits.{is-true, is-false}
 use Rattle.rules.specs.Bytes.{isEmpty}
 use Rattle.rules.specs.Analysis.{front, after}
 use Rattle.rules.specs.Numerals.{Numeral, bad, decimal, infinity, isDigit, digitsOn, isMinus, afterSign, exponent, afterDigits, signed, bitsOf}
-use Rattle.rules.proofs.NearestOrder.{tri}
+use Rattle.rules.proofs.numerals.Order.{tri}
 use Rattle.boost.specs.declared.numeral.Answer.{Answer}
 use Rattle.boost.specs.declared.numeral.Answer.the-variants.{Refused, Bits}
 use Rattle.boost.specs.Numeral.{answerOf, isPoint}

@@ -9,7 +9,7 @@ use native.Mathlib.Omega.{arith}
 use lib.ListN.{length, getD, set, length-set}
 use lib.Seq.{getD-set-same, getD-set-other}
 use lib.Dec.{lit<}
-use Rattle.rules.proofs.NearestOrder.{tri}
+use Rattle.rules.proofs.numerals.Order.{tri}
 use Rattle.boost.specs.Row.{upTo, value, Row, Scaled, Order, Ordered, ByLimb}
 
 abbrev B : ℕ

@@ -14,9 +14,9 @@ use lib.Ieee.{binary32, size, units, round, toBits}
 use lib.Ieee.Fits.{round-is, nearest-le}
 use lib.Ieee.Nearest.{closest, closest-same, nearest-ge}
 use Rattle.rules.specs.Numerals.{nearest}
-use Rattle.rules.proofs.Nearest.{bound-zero}
-use Rattle.rules.proofs.NearestOrder.{near-lt, near-eq, near-gt}
-use Rattle.rules.proofs.NearestPattern.{size-exact, units-bits}
+use Rattle.rules.proofs.numerals.Nearest.{bound-zero}
+use Rattle.rules.proofs.numerals.Order.{near-lt, near-eq, near-gt}
+use Rattle.rules.proofs.numerals.Pattern.{size-exact, units-bits}
 use Rattle.floats.proofs.Model.{Top, top-of, pow-lt-back, normal-lo}
 use Rattle.boost.proofs.Tens.{ten-pos, ten-mono}
 

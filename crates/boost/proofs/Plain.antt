@@ -11,8 +11,8 @@ use Rattle.rules.specs.Numbers.{Read, got, refused, number}
 use Rattle.rules.specs.Reading.{numberOf}
 use Rattle.rules.specs.Analysis.{front}
 use Rattle.rules.specs.Numerals.{decimal, isDigit, afterSign, afterDigits, unsigned, bitsOf, numeralBits}
-use Rattle.rules.proofs.Refusals.{number-read}
-use Rattle.rules.proofs.NearestOrder.{tri}
+use Rattle.rules.proofs.stored.Refusals.{number-read}
+use Rattle.rules.proofs.numerals.Order.{tri}
 use Rattle.boost.specs.declared.numeral.Answer.the-variants.{Refused, Bits}
 use Rattle.boost.specs.Numeral.{answerOf, isPoint}
 use Rattle.boost.specs.Digits.{Reading, numberOf as digitsOf}

@@ -8,7 +8,7 @@ use native.Mathlib.Omega.{arith}
 use lib.Pow.{pow-add, pow-mono, pow-lt, pow-pos}
 use Rattle.boost.specs.Row.{value, Row, Scaled, Times, limit}
 use Rattle.rules.specs.Numerals.{unitsOf}
-use Rattle.rules.proofs.NearestMiddle.{middle}
+use Rattle.rules.proofs.numerals.Middle.{middle}
 use Rattle.boost.specs.Bisect.{most}
 
 pub no-over : (a r w b : ℕ) → a + r * w ≡ b + 0 → b < w → a ≡ b

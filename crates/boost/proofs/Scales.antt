@@ -14,7 +14,7 @@ use lib.Ieee.Bits.{is-true, is-false}
 use lib.Ieee.Scale.{round-same}
 use Rattle.rules.specs.Analysis.{front}
 use Rattle.rules.specs.Numerals.{infinity, isDigit, digitsOn, nearest, Nearest}
-use Rattle.rules.proofs.Nearest.{nearest-is, is-nearest, bound-infinity, bound-zero}
+use Rattle.rules.proofs.numerals.Nearest.{nearest-is, is-nearest, bound-infinity, bound-zero}
 use Rattle.boost.specs.Row.{limit}
 use Rattle.boost.specs.Bisect.{most, Found}
 use Rattle.boost.specs.Digits.{shortMost, numberOf, Held, forty}

@@ -7,7 +7,7 @@ use native.Mathlib.Omega.{arith}
 use lib.Dec.{leb}
 use borrow.Author.Tests.{le-leb, lt-leb, eq-eqb, ne-eqb}
 use Rattle.rules.specs.Analysis.{isLetter, isGap}
-use Rattle.rules.proofs.Tokens.{inWord}
+use Rattle.rules.proofs.text.Tokens.{inWord}
 
 module _ (c : ℕ) where
   pub letter-above : 0x61 ≤ c → isLetter c ≡ leb c 0x7a

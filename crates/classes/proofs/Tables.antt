@@ -8,7 +8,7 @@ use lib.Dec.{eqb, ltb}
 use lib.ListN.{getD}
 use borrow.Author.Tests.{lt-ltb, le-ltb}
 use Rattle.rules.specs.Analysis.{isSpace, endsTerm, classOf, classes}
-use Rattle.rules.proofs.Classes.{class-within, class-beyond, space-flag, end-flag}
+use Rattle.rules.proofs.text.Classes.{class-within, class-beyond, space-flag, end-flag}
 use Rattle.classes.specs.Classes.{classIn, spaceIn, endIn}
 
 module _ (c : ℕ) where

@@ -16,7 +16,7 @@ use Rattle.rules.specs.Analysis.{tokenize}
 use Rattle.rules.specs.Numerals.{numeralBits}
 use Rattle.rules.specs.Setup.{Setup, analyzerOf}
 use Rattle.rules.specs.Parsing.{Made, nothing, made, Found, found, onMade, Kept, kept, tokenOf, isAt, textAt, termOf, phraseOf, boostAt, plainAt, quotedAt, closedAt, bracketAt, bodyAt, clauseAt, queryFound, queryOf, parseClauses}
-use Rattle.rules.proofs.Sizes.{length-boost, length-encode}
+use Rattle.rules.proofs.stored.Sizes.{length-boost, length-encode}
 use Rattle.row.specs.Row.{tokenAt, tokensOf, nameFrom}
 use Rattle.clauses.specs.Leaves.{leafOf, leafKind, leafFault, leafAt}
 use Rattle.counted.specs.Kinds.{madeLength}

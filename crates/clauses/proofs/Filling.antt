@@ -16,8 +16,8 @@ use Rattle.rules.specs.Lexing.{Token}
 use Rattle.rules.specs.Setup.{Setup}
 use Rattle.rules.specs.Parsing.{Made, nothing, made, Found, found, Kept, kept, stopsAt, Conjunction, Modifier, kindBefore, kindAfter, touched, addClause, queryFound, queryOf, inOrderBefore, parseClauses, clauseAt, conjunctionAt, afterConjunction, modifierAt, afterModifier}
 use Rattle.rules.proofs.Bools.{clash}
-use Rattle.rules.proofs.Refusals.{no-got}
-use Rattle.rules.proofs.Sizes.{length-boolean}
+use Rattle.rules.proofs.stored.Refusals.{no-got}
+use Rattle.rules.proofs.stored.Sizes.{length-boolean}
 use Rattle.numbers.specs.Laid.{laid, Put, header}
 use Rattle.numbers.proofs.Laying.{laid-front, laid-all, laid-over, put-then}
 use Rattle.counted.specs.Kinds.{conjunctionOf, modifierOf, isKept, lastTag, bytesOf, isAlone, madeBytes, madeLength, withMade}

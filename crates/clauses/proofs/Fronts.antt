@@ -16,9 +16,9 @@ use Rattle.rules.specs.Numerals.{numeralBits}
 use Rattle.rules.specs.Setup.{Setup}
 use Rattle.rules.specs.Parsing.{Made, nothing, made, found, onMade, isAt, textAt, boostAt}
 use Rattle.rules.proofs.Bools.{split, and-l, and-r, both, clash}
-use Rattle.rules.proofs.Bigs.{length-big}
-use Rattle.rules.proofs.Refusals.{no-got}
-use Rattle.rules.proofs.Sizes.{length-encode, length-boost}
+use Rattle.rules.proofs.stored.Bigs.{length-big}
+use Rattle.rules.proofs.stored.Refusals.{no-got}
+use Rattle.rules.proofs.stored.Sizes.{length-encode, length-boost}
 use Rattle.numbers.specs.Laid.{laid, Put, header}
 use Rattle.numbers.proofs.Laying.{before-laid, from-laid, laid-none, put-then}
 use Rattle.counted.specs.Kinds.{madeBytes, madeLength}

@@ -11,7 +11,7 @@ use Rattle.rules.specs.Query.{Clauses, none}
 use Rattle.rules.specs.Lexing.{Token}
 use Rattle.rules.specs.Setup.{Setup}
 use Rattle.rules.specs.Parsing.{nothing, made, Found, found, Kept, kept, isAt, textAt, stopsAt, Conjunction, Modifier, conjunctionAt, afterConjunction, modifierAt, afterModifier, addClause, queryFound, bracketAt, bodyAt, clauseAt, parseClauses}
-use Rattle.rules.proofs.Refusals.{no-got}
+use Rattle.rules.proofs.stored.Refusals.{no-got}
 use Rattle.clauses.specs.Measured.{clauseRun}
 use Rattle.clauses.specs.Written.{Eventually}
 

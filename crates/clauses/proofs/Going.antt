@@ -14,7 +14,7 @@ use Rattle.rules.specs.Lexing.{Token}
 use Rattle.rules.specs.Setup.{Setup}
 use Rattle.rules.specs.Parsing.{Made, nothing, made, found, kept, stopsAt, kindAfter, queryOf}
 use Rattle.rules.proofs.Bools.{clash}
-use Rattle.rules.proofs.Sizes.{length-encode}
+use Rattle.rules.proofs.stored.Sizes.{length-encode}
 use Rattle.numbers.specs.Laid.{laid, Put, header}
 use Rattle.numbers.proofs.Laying.{laid-all}
 use Rattle.counted.specs.Kinds.{conjunctionOf, modifierOf, isKept, bytesOf, isAlone, madeBytes, madeLength}

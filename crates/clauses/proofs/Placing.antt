@@ -19,7 +19,7 @@ use Rattle.rules.specs.Analysis.{tokenize}
 use Rattle.rules.specs.Setup.{Setup, analyzerOf}
 use Rattle.rules.specs.Parsing.{Made, Found, found, Kept, kept, isAt, textAt, boostAt, plainAt, quotedAt, closedAt, bracketAt, bodyAt, queryFound, queryOf, parseClauses}
 use Rattle.rules.proofs.Bools.{clash, split}
-use Rattle.rules.proofs.Refusals.{no-got}
+use Rattle.rules.proofs.stored.Refusals.{no-got}
 use Rattle.row.specs.Row.{tokensOf, nameFrom}
 use Rattle.numbers.specs.Laid.{laid, Put}
 use Rattle.numbers.proofs.Laying.{lent, length-laid}

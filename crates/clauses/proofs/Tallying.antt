@@ -11,9 +11,9 @@ use Rattle.rules.specs.Analysis.{tokenTexts, placedFrom, tokenize, lower, lower
 use Rattle.rules.specs.Query.{Kind, term}
 use Rattle.rules.specs.Stored.{encodes, encodeWords}
 use Rattle.rules.specs.Parsing.{operatorKind, termClauses, termOf, phraseOf}
-use Rattle.rules.proofs.Sizes.{length-word, length-term, length-phrase, length-boolean, length-none, length-clause}
-use Rattle.rules.proofs.Pieces.{total}
-use Rattle.rules.proofs.Tokens.{tokens-total, tokens-most}
+use Rattle.rules.proofs.stored.Sizes.{length-word, length-term, length-phrase, length-boolean, length-none, length-clause}
+use Rattle.rules.proofs.text.Pieces.{total}
+use Rattle.rules.proofs.text.Tokens.{tokens-total, tokens-most}
 use Rattle.analysis.specs.Tokens.{Found, spelled}
 use Rattle.counted.specs.Kinds.{madeLength}
 use Rattle.clauses.specs.Leaves.{tallied, Tallied, leafOf}

@@ -15,8 +15,8 @@ use Rattle.rules.specs.Analysis.{tokenTexts, placedFrom, tokenize, lower, lower
 use Rattle.rules.specs.Query.{Kind, Query, term, phrase, boolean}
 use Rattle.rules.specs.Stored.{encode, encodes, encodeWords, kindTag}
 use Rattle.rules.specs.Parsing.{Made, nothing, made, operatorKind, termClauses, termOf, phraseOf}
-use Rattle.rules.proofs.Bigs.{length-big}
-use Rattle.rules.proofs.Sizes.{length-term, length-phrase, length-boolean, length-encode}
+use Rattle.rules.proofs.stored.Bigs.{length-big}
+use Rattle.rules.proofs.stored.Sizes.{length-term, length-phrase, length-boolean, length-encode}
 use Rattle.analysis.specs.Tokens.{Found, spelled, writtenByte}
 use Rattle.numbers.specs.Laid.{Put, header}
 use Rattle.numbers.proofs.Laying.{laid-none, put-then, put-body, copy-turn, copy-end}

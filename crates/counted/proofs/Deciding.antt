@@ -12,7 +12,7 @@ use Rattle.rules.specs.Stored.{kindTag}
 use Rattle.rules.specs.Lexing.{Token}
 use Rattle.rules.specs.Parsing.{Made, nothing, made, tokenOf, isAt, stopsAt, Conjunction, unjoined, joinedByAnd, joinedByOr, required, prohibited, conjunctionAt, afterConjunction, modifierAt, afterModifier, kindBefore, kindAfter, touched}
 use Rattle.rules.proofs.Bools.{clash}
-use Rattle.rules.proofs.Sizes.{length-encode}
+use Rattle.rules.proofs.stored.Sizes.{length-encode}
 use Rattle.counted.specs.Kinds.{conjunctionOf, modifierOf, isKept, countOf, lastTag, bytesOf, isAlone, madeLength, withMade, Sums}
 
 -- ---- past a conjunction or a modifier

@@ -10,7 +10,7 @@ use Rattle.rules.specs.Query.{Kind, must, should, mustNot, filter, Query, boole
 use Rattle.rules.specs.Stored.{kindTag, encode, encodes}
 use Rattle.rules.specs.Parsing.{made, inOrderBefore, queryOf}
 use Rattle.rules.proofs.Bools.{clash}
-use Rattle.rules.proofs.Sizes.{length-boolean}
+use Rattle.rules.proofs.stored.Sizes.{length-boolean}
 use Rattle.counted.specs.Kinds.{isKept, countOf, bytesOf, isAlone, madeLength, Sums}
 
 pub in-order : (ds cs : Clauses) → encodes (inOrderBefore ds cs) ≡ bytesOf cs ++ encodes ds

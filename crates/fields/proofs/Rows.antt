@@ -8,7 +8,7 @@ use native.Mathlib.Omega.{arith}
 use lib.ListN.{length, getD, take, length-append, List·getD-append}
 use lib.Seq.{ext-getD, getD-at, take-suc}
 use Rattle.rules.specs.Bytes.{same}
-use Rattle.rules.proofs.Equal.{same-refl, same-eq}
+use Rattle.rules.proofs.stored.Equal.{same-refl, same-eq}
 use Rattle.rules.specs.Setup.{FieldEntry, fieldEntry, analyzerAmong}
 use Rattle.fields.specs.Fields.{rowText, entryAt, entriesTo}
 

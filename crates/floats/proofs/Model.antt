@@ -11,7 +11,7 @@ use lib.Count.{leadingZeros, leading-top}
 use lib.Ieee.{Float, nan, inf, fin, Format, binary32, binary64, prec, low, odd, hid, ones, top, ofFields, ofBits, isNan}
 use lib.Ieee.Bits.{cond-no, is-true, is-false, nanBits-is, nanBits-above}
 use lib.Ieee.Exact.{HasValue, odd-sign}
-use Rattle.rules.proofs.NearestPattern.{rescale}
+use Rattle.rules.proofs.numerals.Pattern.{rescale}
 
 -- ---- what a pattern with no sign is read as
 

@@ -14,8 +14,8 @@ use lib.Ieee.Fits.{nearest-le}
 use lib.Ieee.Exact.{HasValue}
 use lib.Ieee.Nearest.{closest, nearest-ge}
 use Rattle.rules.specs.Floats.{rounded, narrowed}
-use Rattle.rules.proofs.NearestOrder.{near-lt}
-use Rattle.rules.proofs.NearestPattern.{size-exact, rounded-val, units-bits, units-bits-inf, round-at}
+use Rattle.rules.proofs.numerals.Order.{near-lt}
+use Rattle.rules.proofs.numerals.Pattern.{size-exact, rounded-val, units-bits, units-bits-inf, round-at}
 use Rattle.floats.specs.Bits.{Narrowed, NarrowedBits}
 use Rattle.floats.proofs.Model.{Top, top-of, moved, normal-lo, zero-val, of-low, of-high, of-nan}
 

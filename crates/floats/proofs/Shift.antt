@@ -5,7 +5,7 @@ use native.Mathlib.Nat.{le-trans, lt-of-le-of-lt, mod-le, mod-eq-of-lt, div-mul-
 use native.Mathlib.Omega.{arith}
 use lib.Pow.{pow-pos, pow-lt}
 use lib.Ieee.Nearest.{closest}
-use Rattle.rules.proofs.NearestOrder.{near-lt, near-eq, near-gt}
+use Rattle.rules.proofs.numerals.Order.{near-lt, near-eq, near-gt}
 
 -- ---- the code's remainder and half, for an n of 64 bits and a d from 1 to 63
 module _ (n d : ℕ) (N : n < 2 ^ 64) (lo : 1 ≤ d) (hi : d < 64) where

@@ -7,7 +7,7 @@ use lib.Pow.{shl-lt}
 use lib.Dec.{lit<, lit≤}
 use lib.Count.{leadingZeros}
 use lib.Ieee.{nan, binary32, binary64, ofFields, toBits}
-use Rattle.rules.proofs.NearestPattern.{pattern-high, pattern-low}
+use Rattle.rules.proofs.numerals.Pattern.{pattern-high, pattern-low}
 use Rattle.rules.specs.Floats as floats
 use Rattle.floats.specs.Bits.{Widened, WidenedBits}
 use Rattle.floats.proofs.Model.{Top, top-of, moved, normal-lo, zero-val, of-low, of-high, of-nan}

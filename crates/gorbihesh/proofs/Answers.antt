@@ -13,9 +13,9 @@ use Rattle.rules.specs.Stored.{encode}
 use Rattle.rules.specs.Setup.{readSetup}
 use Rattle.rules.specs.Parsing.{parse}
 use Rattle.rules.specs.Answers.{Answer, Left, storedReply, fitting, leave, call, parseReply, parseLeft}
-use Rattle.rules.proofs.Refusals.{number-some}
+use Rattle.rules.proofs.stored.Refusals.{number-some}
 use Rattle.rules.proofs.rewriting.Measures.{weight-length}
-use Rattle.rules.proofs.Weights.{weight-some}
+use Rattle.rules.proofs.stored.Weights.{weight-some}
 use Rattle.numbers.specs.Laid.{Put}
 use Rattle.parser.specs.Parsed.{answerOf, Parses}
 use Rattle.parser.specs.declared.parse.Parsed.{Parsed}

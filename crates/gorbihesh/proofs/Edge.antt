@@ -5,7 +5,7 @@ use mathlib.Core.List.{List}
 use Rattle.rules.specs.Numbers.{listMost, rewriterBytes, selectionBytes}
 use Rattle.rules.specs.Bytes.{Bytes}
 use Rattle.rules.specs.Answers.{Answer, Left, parseLeft, rewriteLeft, selectLeft}
-use Rattle.rules.proofs.Spans.{rewrite-small}
+use Rattle.rules.proofs.rewriting.Spans.{rewrite-small}
 use Rattle.parser.specs.Parsed.{answerOf, leftOf, Parses}
 use Rattle.parser.specs.declared.parse.Parsed.{Parsed}
 use Rattle.parser.specs.declared.parse.Parsed.the-variants as parsed

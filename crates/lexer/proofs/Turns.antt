@@ -11,8 +11,8 @@ use Rattle.rules.specs.Numbers.{Refusal, number, textMost, Read, got, refused, 
 use Rattle.rules.specs.Analysis.{isSpace}
 use Rattle.rules.specs.Lexing.{Token, lex}
 use Rattle.rules.specs.Lexing as lexing
-use Rattle.rules.proofs.Tokenizing.{tokensLeft, lex-left, left-none, left-space, left-refused, left-token, token-shorter, lex-few, lex-standing, Standing}
-use Rattle.rules.proofs.Refusals.{got-same}
+use Rattle.rules.proofs.text.Tokenizing.{tokensLeft, lex-left, left-none, left-space, left-refused, left-token, token-shorter, lex-few, lex-standing, Standing}
+use Rattle.rules.proofs.stored.Refusals.{got-same}
 use Rattle.analysis.specs.Tokens.{OneWord}
 use Rattle.row.specs.Row.{roomLeast, entryAt, entry, tokensOf, LaidBelow, Laid, wordNote, Worded, Kept}
 use Rattle.lexer.specs.Tokens.{Makes}

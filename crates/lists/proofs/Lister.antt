@@ -11,8 +11,8 @@ use Rattle.rules.specs.Bytes.{bodyOf, restOf, wholeOf, isPart}
 use Rattle.rules.specs.Reading.{isWord}
 use Rattle.rules.specs.Lists.{isValue, isFieldWith}
 use Rattle.rules.proofs.Bools.{and-l, both}
-use Rattle.rules.proofs.Parts.{part-is}
-use Rattle.rules.proofs.Leaves.{word-is}
+use Rattle.rules.proofs.stored.Parts.{part-is}
+use Rattle.rules.proofs.stored.Leaves.{word-is}
 use Rattle.parts.specs.Part.{Plain}
 use Rattle.stretches.proofs.Joining.{text-later}
 use Rattle.lists.specs.List.{isHeld}

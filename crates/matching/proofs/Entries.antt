@@ -16,8 +16,8 @@ use Rattle.rules.specs.Reading.{isWord}
 use Rattle.rules.specs.Lists.{Entry, place, value, isValue, isFieldWith, isEntry, entryOf}
 use Rattle.rules.specs.Matching.{isHere, isAt, followsFrom, startsOn, sameNumbers, liesIn, isInside}
 use Rattle.rules.proofs.Bools.{clash, split, and-l, and-r, either}
-use Rattle.rules.proofs.Parts.{empty-nil, length-body, length-whole, part-is, field-is}
-use Rattle.rules.proofs.Equal.{same-eq}
+use Rattle.rules.proofs.stored.Parts.{empty-nil, length-body, length-whole, part-is, field-is}
+use Rattle.rules.proofs.stored.Equal.{same-eq}
 use Rattle.matching.specs.Entry.{isPlace, isOf, fieldOf, textOf, positionOf, bitsOf}
 
 -- ---- one entry

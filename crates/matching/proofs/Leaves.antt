@@ -17,10 +17,10 @@ use Rattle.rules.specs.Checked.{Is, Stored}
 use Rattle.rules.specs.Lists.{Entry}
 use Rattle.rules.specs.Matching.{isAt, followsFrom, startsOn, hasTerm, hasPhrase, hasRange, matches}
 use Rattle.rules.proofs.Bools.{and-l, and-r}
-use Rattle.rules.proofs.Parts.{part-is, field-is, none-empty, some-empty}
-use Rattle.rules.proofs.Rows.{first, others, each-done, each-next}
-use Rattle.rules.proofs.Leaves.{BoundIs, is-open, is-included, is-excluded, bound-is, at-open, at-included, at-excluded}
-use Rattle.rules.proofs.Views.{View, v-term, v-phrase, v-boolean, v-boost, v-constantScore, v-matchAll, v-matchNone, v-whole, v-float, viewed, at-tag, AsTerm, as-term, AsPhrase, as-phrase, AsRange, as-range, as-match-all}
+use Rattle.rules.proofs.stored.Parts.{part-is, field-is, none-empty, some-empty}
+use Rattle.rules.proofs.stored.Rows.{first, others, each-done, each-next}
+use Rattle.rules.proofs.stored.Leaves.{BoundIs, is-open, is-included, is-excluded, bound-is, at-open, at-included, at-excluded}
+use Rattle.rules.proofs.stored.Views.{View, v-term, v-phrase, v-boolean, v-boost, v-constantScore, v-matchAll, v-matchNone, v-whole, v-float, viewed, at-tag, AsTerm, as-term, AsPhrase, as-phrase, AsRange, as-range, as-match-all}
 use Rattle.matching.specs.Order.{ordered, keeps}
 use Rattle.matching.specs.Truth.{Truth, StoredAs, IsLeaf}
 

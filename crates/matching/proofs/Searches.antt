@@ -5,8 +5,8 @@ use mathlib.Core.List.{List}
 use mathlib.Core.Bool.{Bool, true, false, not}
 use lib.ListN.{length}
 use Rattle.rules.specs.Bytes.{isEmpty, restOf, every, each, some, all}
-use Rattle.rules.proofs.Parts.{more-empty, less-empty}
-use Rattle.rules.proofs.Rows.{first, others, some-done, some-yes, some-no, all-done, all-yes, all-no}
+use Rattle.rules.proofs.stored.Parts.{more-empty, less-empty}
+use Rattle.rules.proofs.stored.Rows.{first, others, some-done, some-yes, some-no, all-done, all-yes, all-no}
 
 -- of some, which stops where P is true; of all, which stops where P is false
 abbrev pub ask : {A : Type 0} → Bool → (A → Bool) → List A → Bool

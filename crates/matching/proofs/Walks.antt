@@ -15,10 +15,10 @@ use Rattle.rules.specs.Checked.{Is, Are, StoredClauses}
 use Rattle.rules.specs.Lists.{Entry}
 use Rattle.rules.specs.Matching.{allows, matches}
 use Rattle.rules.proofs.Bools.{and-no-l}
-use Rattle.rules.proofs.Parts.{less-empty, more-empty, length-body, length-whole, whole-le, part-is}
-use Rattle.rules.proofs.Tags.{kind-back}
-use Rattle.rules.proofs.Equal.{encode-injective}
-use Rattle.rules.proofs.Views.{View, viewed, at-tag, AsBoolean, as-boolean, as-boost, as-constant-score, Front, front-of, no-front}
+use Rattle.rules.proofs.stored.Parts.{less-empty, more-empty, length-body, length-whole, whole-le, part-is}
+use Rattle.rules.proofs.stored.Tags.{kind-back}
+use Rattle.rules.proofs.stored.Equal.{encode-injective}
+use Rattle.rules.proofs.stored.Views.{View, viewed, at-tag, AsBoolean, as-boolean, as-boost, as-constant-score, Front, front-of, no-front}
 use Rattle.matching.specs.declared.level.Level.{Level}
 use Rattle.matching.specs.declared.truth.Next.{Next}
 use Rattle.matching.specs.declared.truth.Next.the-variants.{Done, Query as Goes}

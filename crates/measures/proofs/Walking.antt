@@ -15,12 +15,12 @@ use Rattle.rules.specs.Stored.{kindTag, encodeBound, encodeWords, encode, encod
 use Rattle.rules.specs.Checked.{Is, Stored}
 use Rattle.rules.specs.Rewriting.{weight, weights, largest, largests}
 use Rattle.rules.proofs.Bools.{clash}
-use Rattle.rules.proofs.Bigs.{read-big}
-use Rattle.rules.proofs.Parts.{more-empty, less-empty, empty-nil, rest-part, whole-part, whole-le}
-use Rattle.rules.proofs.Sizes.{length-encode}
+use Rattle.rules.proofs.stored.Bigs.{read-big}
+use Rattle.rules.proofs.stored.Parts.{more-empty, less-empty, empty-nil, rest-part, whole-part, whole-le}
+use Rattle.rules.proofs.stored.Sizes.{length-encode}
 use Rattle.rules.proofs.rewriting.Measures.{weight-length}
-use Rattle.rules.proofs.Weights.{largest-below}
-use Rattle.rules.proofs.Equal.{encode-injective}
+use Rattle.rules.proofs.stored.Weights.{largest-below}
+use Rattle.rules.proofs.stored.Equal.{encode-injective}
 use Rattle.measures.specs.Measure.{skipOf, worthOf, leastOf, Weighs, Largest}
 
 -- ---- what is left of a walk

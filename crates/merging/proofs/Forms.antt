@@ -16,13 +16,13 @@ use Rattle.rules.specs.Reading.{kindOf}
 use Rattle.rules.specs.Floats.{widened}
 use Rattle.rules.specs.Rewriting.{isNeeded, ifShould, summable, standsFor, base, boostOf}
 use Rattle.rules.proofs.Bools.{fails, alike}
-use Rattle.rules.proofs.Bigs.{read-big}
-use Rattle.rules.proofs.Parts.{more-empty, less-empty}
-use Rattle.rules.proofs.Tags.{kind-back}
-use Rattle.rules.proofs.Inverse.{boost-below}
-use Rattle.rules.proofs.Equal.{encode-injective, encodes-injective}
-use Rattle.rules.proofs.Sizes.{length-encode}
-use Rattle.rules.proofs.Views.{Front, front-of, no-front, viewed}
+use Rattle.rules.proofs.stored.Bigs.{read-big}
+use Rattle.rules.proofs.stored.Parts.{more-empty, less-empty}
+use Rattle.rules.proofs.stored.Tags.{kind-back}
+use Rattle.rules.proofs.stored.Inverse.{boost-below}
+use Rattle.rules.proofs.stored.Equal.{encode-injective, encodes-injective}
+use Rattle.rules.proofs.stored.Sizes.{length-encode}
+use Rattle.rules.proofs.stored.Views.{Front, front-of, no-front, viewed}
 use Rattle.rules.proofs.rewriting.Boosts.{widened-one}
 use Rattle.rules.proofs.rewriting.Kinds.{stands-is, stands-self}
 

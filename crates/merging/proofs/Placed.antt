@@ -10,7 +10,7 @@ use Rattle.rules.specs.Bytes.{part, tagOf, sizeOf, wholeOf}
 use Rattle.rules.specs.Query.{Kind, Query, Clauses, none, clause}
 use Rattle.rules.specs.Stored.{kindTag, encode, encodes, Valids}
 use Rattle.rules.specs.Checked.{Is, Are}
-use Rattle.rules.proofs.Parts.{whole-part, size-part}
+use Rattle.rules.proofs.stored.Parts.{whole-part, size-part}
 use Rattle.numbers.specs.Laid.{header}
 use Rattle.places.specs.Within.{within}
 use Rattle.places.proofs.Standing.{split-at, first, second, both-length}

@@ -15,9 +15,9 @@ use Rattle.rules.specs.Floats.{one, plus, widened}
 use Rattle.rules.specs.Rewriting.{summable, standsFor, base, boostOf}
 use Rattle.rules.specs.ByPlace.{held, sameKind, seen, total, sumFrom}
 use Rattle.rules.proofs.Bools.{and-no-l, and-no-r, both}
-use Rattle.rules.proofs.Parts.{body-part, rest-part}
-use Rattle.rules.proofs.Equal.{equal-bytes}
-use Rattle.rules.proofs.Views.{Front}
+use Rattle.rules.proofs.stored.Parts.{body-part, rest-part}
+use Rattle.rules.proofs.stored.Equal.{equal-bytes}
+use Rattle.rules.proofs.stored.Views.{Front}
 use Rattle.merging.specs.Merge.{TakenUp, Summed, MergedIs}
 use Rattle.merging.proofs.Laid.{base-end}
 use Rattle.merging.proofs.Forms.{are-same, front, no-clause, front-is, front-are}

@@ -7,7 +7,7 @@ use native.Mathlib.Numerals.{add-one, add-two, add-three}
 use lib.ListN.{length, getD, take, drop, set, replicate, length-append, length-drop, take-append-drop}
 use lib.Seq.{take-at, drop-at, take-take, drop-drop, take-add, drop-append-le, length-take-le, take-length, drop-length, sets, sets-eq, paste, paste-suc}
 use Rattle.rules.specs.Bytes.{big, part}
-use Rattle.rules.proofs.Widths.{big-two, big-four}
+use Rattle.rules.proofs.stored.Widths.{big-two, big-four}
 use Rattle.numbers.specs.Laid.{laid, Put, header}
 
 -- ---- one stretch

@@ -17,8 +17,8 @@ use Rattle.rules.specs.Setup.{FieldEntry, isAnalyzer, isFieldEntry, Setup, isSe
 use Rattle.rules.specs.Parsing.{Made, nothing, made, Kept, tokenOf, isAt, queryFound, queryOf, orMatchNone, wholeQuery, parseClauses, parseTokens, parse}
 use Rattle.rules.specs.Answers.{storedReply, fitting, leave, call, parseReply, parseLeft}
 use Rattle.rules.proofs.Bools.{clash, both, and-l, and-r}
-use Rattle.rules.proofs.Sizes.{length-match-none}
-use Rattle.rules.proofs.Tokenizing.{Standing, placeOf, lex-few, lex-standing}
+use Rattle.rules.proofs.stored.Sizes.{length-match-none}
+use Rattle.rules.proofs.text.Tokenizing.{Standing, placeOf, lex-few, lex-standing}
 use Rattle.numbers.specs.Laid.{laid, Put, header}
 use Rattle.numbers.proofs.Laying.{laid-front}
 use Rattle.row.specs.Row.{roomLeast, tokensOf}

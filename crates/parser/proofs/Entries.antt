@@ -15,7 +15,7 @@ use Rattle.rules.specs.Numbers.{Read, got, refused, need, onRead, badSetup}
 use Rattle.rules.specs.Bytes.{isText, all, isField}
 use Rattle.rules.specs.Setup.{FieldEntry, fieldEntry, isAnalyzer, isFieldEntry, isSetup, entriesStep, entriesIn, setupWith, readSetup}
 use Rattle.rules.proofs.Bools.{clash, both, and-l, and-r, and-no-l, and-no-r}
-use Rattle.rules.proofs.Parts.{text-step}
+use Rattle.rules.proofs.stored.Parts.{text-step}
 use Rattle.fields.specs.Fields.{rowText, entryAt, entriesTo, arrayEntries}
 use Rattle.parser.specs.Noted.{RowPut, Entered}
 

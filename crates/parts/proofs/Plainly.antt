@@ -9,7 +9,7 @@ use borrow.Author.Tests.{le-leb}
 use Rattle.rules.specs.Numbers.{fieldTag, fieldMost}
 use Rattle.rules.specs.Bytes.{isText, sizeOf, bodyOf, restOf, isPart}
 use Rattle.rules.proofs.Bools.{both}
-use Rattle.rules.proofs.Parts.{part-is, body-shorter, less-empty}
+use Rattle.rules.proofs.stored.Parts.{part-is, body-shorter, less-empty}
 use Rattle.parts.specs.Part.{Plain}
 use Rattle.stretches.proofs.Joining.{text-first, text-later}
 

@@ -6,8 +6,8 @@ use Rattle.rules.specs.Numbers.{selectionBytes, selectionDepth}
 use Rattle.rules.specs.Bytes.{Bytes}
 use Rattle.rules.specs.Checked.{Stored}
 use Rattle.rules.specs.Reading.{numberOf, readForSelection}
-use Rattle.rules.proofs.Refusals.{number-not}
-use Rattle.rules.proofs.Accepted.{Accepted, accepted, stored}
+use Rattle.rules.proofs.stored.Refusals.{number-not}
+use Rattle.rules.proofs.stored.Accepted.{Accepted, accepted, stored}
 use Rattle.measures.specs.Measure.{Weighs, Largest}
 use Rattle.probe_stored.specs.Probe.{weightRead, largestRead}
 

@@ -14,13 +14,12 @@ use Rattle.rules.specs.Query.{Query, equal}
 use Rattle.rules.specs.Stored.{encode}
 use Rattle.rules.specs.Checked.{Is}
 use Rattle.rules.specs.Reading.{numberOf, readForRewriting}
-use Rattle.rules.specs.Rewriting.{rewriteOnce, Rewritten, rewritten, oneRoundMore, rounds, rewrite}
+use Rattle.rules.specs.Rewriting.{rewriteOnce, Rewritten, rewritten, oneRoundMore, rounds, rewrite, bulk, resultOf, countOf}
 use Rattle.rules.specs.Answers.{zeros, leave, fitting, call, rewrittenReply, rewriteReply, rewriteLeft}
-use Rattle.rules.proofs.Equal.{equal-eq, equal-bytes, same-eq, same-refl}
-use Rattle.rules.proofs.Refusals.{number-got, number-not}
-use Rattle.rules.proofs.Sound.{read-sound}
-use Rattle.rules.proofs.rewriting.Measures.{bulk, bulk-is, measured, weight-length}
-use Rattle.rules.proofs.rewriting.Rounds.{resultOf, countOf}
+use Rattle.rules.proofs.stored.Equal.{equal-eq, equal-bytes, same-eq, same-refl}
+use Rattle.rules.proofs.stored.Refusals.{number-got, number-not}
+use Rattle.rules.proofs.stored.Sound.{read-sound}
+use Rattle.rules.proofs.rewriting.Measures.{bulk-is, measured, weight-length}
 use Rattle.rules.proofs.rewriting.Weights.{valid-once, any-fuel}
 use Rattle.numbers.specs.Laid.{laid, Put}
 use Rattle.numbers.proofs.Laying.{laid-front}

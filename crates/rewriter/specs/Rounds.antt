@@ -7,7 +7,7 @@ use Rattle.rules.specs.Query.{Query}
 use Rattle.rules.specs.Stored.{encode}
 use Rattle.rules.specs.Checked.{Is}
 use Rattle.rules.specs.Answers.{Left}
-use Rattle.rules.proofs.rewriting.Measures.{bulk}
+use Rattle.rules.specs.Rewriting.{bulk}
 use Rattle.places.specs.Within.{within}
 
 -- a query in the first n bytes of the room, and space for its rounds

@@ -8,9 +8,8 @@ use stretches::same;
 ghost use mathlib.Core.Path.{_≡_};
 ghost use Rattle.rules.specs.Query.{Query};
 ghost use Rattle.rules.specs.Checked.{Is};
-ghost use Rattle.rules.specs.Rewriting.{rewrite};
+ghost use Rattle.rules.specs.Rewriting.{rewrite, resultOf, countOf};
 ghost use Rattle.rules.specs.Answers.{rewriteLeft};
-ghost use Rattle.rules.proofs.rewriting.Rounds.{resultOf, countOf};
 ghost use Rattle.places.specs.Within.{within};
 ghost use Rattle.rewriter.specs.Rounds.{Ready, Settled, left};
 

@@ -14,15 +14,16 @@ use Rattle.rules.specs.Bytes.{Bytes}
 use Rattle.rules.specs.Query.{Query}
 use Rattle.rules.specs.Stored.{encode}
 use Rattle.rules.specs.Reading.{readForRewriting}
-use Rattle.rules.specs.Rewriting.{weight, Rewritten, rewritten, rewrite}
+use Rattle.rules.specs.Rewriting.{weight, Rewritten, rewritten, rewrite, resultOf, countOf}
 use Rattle.rules.specs.Lists.{Entry, readList}
 use Rattle.rules.specs.Answers.{Reply, Left as CallLeft, zeros, leave as callLeaves, fitting as replyFitting, call, rewrittenReply, rewriteReply, rewriteLeft, selected}
+use Rattle.rules.specs.Matching.{IsChosen, RisingFrom}
 use Rattle.rules.proofs.Bools.{clash}
-use Rattle.rules.proofs.Refusals.{got-same, number-some}
-use Rattle.rules.proofs.Sound.{read-sound}
-use Rattle.rules.proofs.Choices.{IsChosen, RisingFrom, chosen-few, selection}
-use Rattle.rules.proofs.Demands.{Demand, demand}
-use Rattle.rules.proofs.rewriting.Rounds.{resultOf, countOf, result-after}
+use Rattle.rules.proofs.stored.Refusals.{got-same, number-some}
+use Rattle.rules.proofs.stored.Sound.{read-sound}
+use Rattle.rules.proofs.choosing.Choices.{chosen-few, selection}
+use Rattle.rules.proofs.choosing.Demands.{Demand, demand}
+use Rattle.rules.proofs.rewriting.Rounds.{result-after}
 use Rattle.rules.proofs.rewriting.Bounds.{length-after}
 use Rattle.rewriter.specs.Rounds.{left as rewriterLeft}
 use Rattle.selection.specs.declared.select.Selected.{Selected}

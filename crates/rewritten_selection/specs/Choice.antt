@@ -11,7 +11,7 @@ use Rattle.rules.specs.Reading.{readForRewriting}
 use Rattle.rules.specs.Rewriting.{weight, largest}
 use Rattle.rules.specs.Lists.{Entry, readList}
 use Rattle.rules.specs.Answers.{Reply, zeros, rewriteReply, selected}
-use Rattle.rules.proofs.Choices.{IsChosen, RisingFrom}
+use Rattle.rules.specs.Matching.{IsChosen, RisingFrom}
 
 -- room for what the rewriter makes of any query: no round passes it
 abbrev pub heldRoom : ℕ

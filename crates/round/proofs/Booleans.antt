@@ -12,10 +12,10 @@ use Rattle.rules.specs.Bytes.{big, part}
 use Rattle.rules.specs.Query.{Kind, Query, boolean, matchNone, Clauses, none, clause}
 use Rattle.rules.specs.Stored.{kindTag, encode, encodes}
 use Rattle.rules.specs.Checked.{Are}
-use Rattle.rules.specs.Rewriting.{mergedBoolean, lone, loneOrMerged, shouldCount, onlyMustNot, ofLive}
+use Rattle.rules.specs.Rewriting.{mergedBoolean, lone, loneOrMerged, shouldCount, onlyMustNot, ofLive, bulk, bulks}
 use Rattle.rules.specs.ByPlace.{mergedByPlace}
 use Rattle.rules.proofs.Bools.{clash}
-use Rattle.rules.proofs.rewriting.Measures.{bulk, bulks, bulks-are}
+use Rattle.rules.proofs.rewriting.Measures.{bulks-are}
 use Rattle.rules.proofs.rewriting.Bounds.{Bounded, BoundedAll, bounds-law}
 use Rattle.rules.proofs.rewriting.Walk.{merged-law}
 use Rattle.rules.proofs.rewriting.Places.{boolean-by-place}

@@ -9,10 +9,10 @@ use Rattle.rules.specs.Bytes.{part, tagOf, sizeOf}
 use Rattle.rules.specs.Query.{Kind, Query, Clauses, none, clause}
 use Rattle.rules.specs.Stored.{kindTag, encode, encodes}
 use Rattle.rules.specs.Checked.{Is, Are}
-use Rattle.rules.specs.Rewriting.{isNone, isNeeded, isDead, live, rewriteOnce, rewriteEach}
+use Rattle.rules.specs.Rewriting.{isNone, isNeeded, isDead, live, rewriteOnce, rewriteEach, bulk, bulks}
 use Rattle.rules.specs.ByPlace.{snoc}
 use Rattle.rules.proofs.Bools.{fails}
-use Rattle.rules.proofs.rewriting.Measures.{bulk, bulks, bulks-are}
+use Rattle.rules.proofs.rewriting.Measures.{bulks-are}
 use Rattle.rules.proofs.rewriting.Weights.{valid-once}
 use Rattle.rules.proofs.rewriting.Walk.{join, join-none, none-is}
 use Rattle.numbers.specs.Laid.{Put, header}

@@ -12,10 +12,10 @@ use Rattle.rules.specs.Stored.{kindTag, encode, Valid}
 use Rattle.rules.specs.Checked.{Is}
 use Rattle.rules.specs.Rewriting.{boosted, scored, lone}
 use Rattle.rules.specs.Floats.{times}
-use Rattle.rules.proofs.Bigs.{read-big}
-use Rattle.rules.proofs.Inverse.{boost-below}
-use Rattle.rules.proofs.Sizes.{length-encode}
-use Rattle.rules.proofs.Views.{View, v-boost, v-constantScore, at-tag}
+use Rattle.rules.proofs.stored.Bigs.{read-big}
+use Rattle.rules.proofs.stored.Inverse.{boost-below}
+use Rattle.rules.proofs.stored.Sizes.{length-encode}
+use Rattle.rules.proofs.stored.Views.{View, v-boost, v-constantScore, at-tag}
 use Rattle.numbers.specs.Laid.{laid, Put, header}
 use Rattle.numbers.proofs.Laying.{length-laid, there-laid, laid-over, laid-inside, put-then, put-body}
 use Rattle.places.specs.Within.{within, Stands}
@@ -48,7 +48,7 @@ score-form q h = go (at-tag (encode q) _ 5 q h refl refl)
     go (v-constantScore {q}) = (q, refl)
 
 pub none-form : (q : Query) → tagOf (encode q) ≡ 7 → q ≡ matchNone
-none-form q h = Rattle.rules.proofs.Views.as-match-none (at-tag (encode q) _ 7 q h refl refl) .0
+none-form q h = Rattle.rules.proofs.stored.Views.as-match-none (at-tag (encode q) _ 7 q h refl refl) .0
 
 pub boosted-none : (b : ℕ) (q : Query) → tagOf (encode q) ≡ 7 → boosted b q ≡ matchNone
 unfolding boosted

@@ -12,10 +12,10 @@ use Rattle.rules.specs.Query.{Word, Query, term, phrase, boolean, boost, consta
 use Rattle.rules.specs.Stored.{encode, encodes, Valid, Valids}
 use Rattle.rules.specs.Checked.{Is, Are}
 use Rattle.rules.specs.Floats.{widened, isOne}
-use Rattle.rules.specs.Rewriting.{boosted, scored, phrased, isDead, live, ofLive, rewriteBoolean, rewriteOnce, rewriteEach}
-use Rattle.rules.proofs.Bigs.{read-big}
-use Rattle.rules.proofs.Views.{View, v-phrase, v-boolean, at-tag}
-use Rattle.rules.proofs.rewriting.Measures.{bulk, bulks, bulk-is, bulks-are, measured}
+use Rattle.rules.specs.Rewriting.{boosted, scored, phrased, isDead, live, ofLive, rewriteBoolean, rewriteOnce, rewriteEach, bulk, bulks}
+use Rattle.rules.proofs.stored.Bigs.{read-big}
+use Rattle.rules.proofs.stored.Views.{View, v-phrase, v-boolean, at-tag}
+use Rattle.rules.proofs.rewriting.Measures.{bulk-is, bulks-are, measured}
 use Rattle.rules.proofs.rewriting.Bounds.{Bounded, BoundedAll, bounds-law}
 use Rattle.rules.proofs.rewriting.Weights.{Lightens, LightensAll, weight-law, valid-once}
 use Rattle.rules.proofs.rewriting.Walk.{once-law, each-law, live-law}

@@ -12,7 +12,7 @@ use Rattle.rules.specs.Query.{Kind, must, should, mustNot, filter, Query, Claus
 use Rattle.rules.specs.Stored.{kindTag, encodes}
 use Rattle.rules.specs.Checked.{Are, StoredClauses}
 use Rattle.rules.specs.Rewriting.{onlyMustNot, shouldCount, isMustNot, ifShould}
-use Rattle.rules.proofs.Views.{Front}
+use Rattle.rules.proofs.stored.Views.{Front}
 use Rattle.round.specs.Clauses.{isOneClause}
 use Rattle.merging.proofs.Forms.{are-same, front, no-clause, front-are}
 

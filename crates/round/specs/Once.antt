@@ -7,8 +7,7 @@ use lib.ListN.{length, take}
 use Rattle.rules.specs.Query.{Query, Clauses}
 use Rattle.rules.specs.Stored.{encodes}
 use Rattle.rules.specs.Checked.{Is, Are}
-use Rattle.rules.proofs.rewriting.Measures.{bulk, bulks}
-use Rattle.rules.specs.Rewriting.{isDead, live, rewriteEach}
+use Rattle.rules.specs.Rewriting.{isDead, live, rewriteEach, bulk, bulks}
 use Rattle.places.specs.Within.{within, Stands}
 use Rattle.round.specs.declared.once.Kept.{Kept}
 use Rattle.round.specs.declared.once.Kept.the-variants.{Dead, Upto}

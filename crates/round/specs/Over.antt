@@ -4,7 +4,7 @@ use mathlib.Core.List.{List}
 use lib.ListN.{length, take, drop}
 use Rattle.rules.specs.Query.{Word, Kind, Query, phrase, Clauses, none, clause}
 use Rattle.rules.specs.Checked.{Is, Are}
-use Rattle.rules.proofs.rewriting.Measures.{bulks}
+use Rattle.rules.specs.Rewriting.{bulks}
 use Rattle.places.specs.Within.{within}
 
 -- a query of n bytes stands at a, and h more bytes are to go before it

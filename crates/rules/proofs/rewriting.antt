@@ -11,3 +11,4 @@ pub mod Tidiness
 pub mod Truth
 pub mod Places
 pub mod Worked
+pub mod Spans

@@ -1,8 +1,9 @@
 -- Which records a query is true of. Section 'Matching and selection'.
 use mathlib.Core.Path.{_≡_}
-use Prim.Native.Nat.{ℕ, _+_}
+use Prim.Native.Nat.{ℕ, _+_, _≤_, _<_}
 use mathlib.Core.List.{List, [], _∷_, List·Memᴰ}
 use mathlib.Core.Bool.{Bool, true, false, not, _&&_, _||_, cond}
+use lib.ListN.{length, getD}
 use lib.Dec.{leb, eqb}
 use lib.IntN.{ℤ, pos, _+ℤ_}
 use lib.Signed.{leZ, ltZ}
@@ -146,3 +147,14 @@ chosenFrom n q (r ∷ rs) = cond (matches r q) (n ∷ chosenFrom (n + 1) q rs) (
 
 abbrev pub chosen : Query → List (List Entry) → List ℕ
 chosen q rs = chosenFrom 0 q rs
+
+-- ---- what a selection is to list
+
+-- the k-th record, from 0, is there and the query is true of it
+abbrev pub IsChosen : Query → List (List Entry) → ℕ → Type 0
+IsChosen q rs k = (k < length rs) × (matches (getD rs k []) q ≡ true)
+
+-- each is above the one before it, and none is below n
+unfoldable pub RisingFrom : ℕ → List ℕ → Type 0
+RisingFrom n [] = Unit {0}
+RisingFrom n (x ∷ xs) = (n ≤ x) × RisingFrom (x + 1) xs

@@ -2,9 +2,11 @@
 use Prim.Native.Nat.{ℕ, zero, suc, _+_, max}
 use mathlib.Core.List.{List, [], _∷_}
 use mathlib.Core.Bool.{Bool, true, false, not, _&&_, _||_, cond}
+use lib.ListN.{length}
 use lib.Dec.{leb, ltb}
 use lib.Ieee.{Float}
 use Rattle.rules.specs.Query.{Word, word, Kind, must, should, mustNot, filter, Query, term, phrase, boolean, boost, constantScore, matchAll, matchNone, range, Clauses, none, clause, equal}
+use Rattle.rules.specs.Stored.{encodeBound, encodeWords}
 use Rattle.rules.specs.Floats.{one, widened, narrowed, plus, times, isOne}
 
 -- ---- measures
@@ -39,6 +41,38 @@ unfoldable mutual
   pub largests : Clauses → ℕ
   largests none = 0
   largests (clause k q cs) = max (largest q) (largests cs)
+
+-- how many clauses, nested ones too
+unfoldable mutual
+  pub clauseCount : Query → ℕ
+  clauseCount (term f t) = 0
+  clauseCount (phrase f ws) = 0
+  clauseCount (boolean m cs) = clauseCounts cs
+  clauseCount (boost b q) = clauseCount q
+  clauseCount (constantScore q) = clauseCount q
+  clauseCount matchAll = 0
+  clauseCount matchNone = 0
+  clauseCount (range n f l u) = 0
+
+  pub clauseCounts : Clauses → ℕ
+  clauseCounts none = 0
+  clauseCounts (clause k q cs) = 1 + clauseCount q + clauseCounts cs
+
+-- bytes of the stored form, and one more for each clause: merging takes a clause of 6 bytes or more and adds a boost of 7
+unfoldable mutual
+  pub bulk : Query → ℕ
+  bulk (term f t) = 9 + length f + length t
+  bulk (phrase f ws) = 6 + length f + length (encodeWords ws)
+  bulk (boolean m cs) = 8 + bulks cs
+  bulk (boost b q) = 7 + bulk q
+  bulk (constantScore q) = 3 + bulk q
+  bulk matchAll = 3
+  bulk matchNone = 3
+  bulk (range n f l u) = 6 + length f + length (encodeBound l) + length (encodeBound u)
+
+  pub bulks : Clauses → ℕ
+  bulks none = 0
+  bulks (clause k q cs) = 4 + bulk q + bulks cs
 
 -- ---- a boost, a constant score and a phrase, of what is inside after its own round
 
@@ -244,6 +278,13 @@ unfoldable mutual
 
 pub data Rewritten : Type 0 where
   rewritten : Query → ℕ → Rewritten
+
+-- the query and the count of an answer
+abbrev pub resultOf : Rewritten → Query
+resultOf (rewritten q n) = q
+
+abbrev pub countOf : Rewritten → ℕ
+countOf (rewritten q n) = n
 
 abbrev pub oneRoundMore : Rewritten → Rewritten
 oneRoundMore (rewritten q n) = rewritten q (suc n)

@@ -15,7 +15,8 @@ use Rattle.rules.specs.Query.{Query}
 use Rattle.rules.specs.Reading.{readForSelection}
 use Rattle.rules.specs.Lists.{Entry, readList}
 use Rattle.rules.specs.Answers.{selected, rowBytes, selectLeft, call}
-use Rattle.rules.proofs.Choices.{IsChosen, RisingFrom, exact, rising, alone, selection}
+use Rattle.rules.specs.Matching.{IsChosen, RisingFrom}
+use Rattle.rules.proofs.choosing.Choices.{exact, rising, alone, selection}
 use Rattle.selection.specs.declared.select.Selected.the-variants.{Refused, Chosen}
 use Rattle.selection.specs.Select.{within, answerOf, rowsAfter, Selects, SelectsBytes}
 use Rattle.selection.proofs.Selections.{length-rows, fits-bytes}

@@ -18,12 +18,12 @@ use Rattle.rules.specs.Lists.{isEntry, entryOf, isRecord, recordOf, readList}
 use Rattle.rules.specs.Matching.{bit, matches, chosenFrom, chosen}
 use Rattle.rules.specs.Answers.{Left, zeros, leave, fitting, call, selected, rowBytes, rowsReply, selectLeft}
 use Rattle.rules.proofs.Bools.{alike, and-l, and-r}
-use Rattle.rules.proofs.Refusals.{number-got, number-not, number-some, on-number}
-use Rattle.rules.proofs.Bigs.{length-big}
-use Rattle.rules.proofs.Parts.{part-is, less-empty, more-empty, rest-shorter}
-use Rattle.rules.proofs.Rows.{first, others, each-done, each-next, Row, done, next, row}
-use Rattle.rules.proofs.Accepted.{Accepted, accepted, Listed, listed as list-accepted}
-use Rattle.rules.proofs.Choices.{selection, selected-is, chosen-few}
+use Rattle.rules.proofs.stored.Refusals.{number-got, number-not, number-some, on-number}
+use Rattle.rules.proofs.stored.Bigs.{length-big}
+use Rattle.rules.proofs.stored.Parts.{part-is, less-empty, more-empty, rest-shorter}
+use Rattle.rules.proofs.stored.Rows.{first, others, each-done, each-next, Row, done, next, row}
+use Rattle.rules.proofs.stored.Accepted.{Accepted, accepted, Listed, listed as list-accepted}
+use Rattle.rules.proofs.choosing.Choices.{selection, selected-is, chosen-few}
 use Rattle.numbers.specs.Laid.{laid, Put}
 use Rattle.selection.specs.declared.select.Selected.the-variants.{Refused, Chosen}
 use Rattle.matching.specs.Truth.{Truth, StoredFor}

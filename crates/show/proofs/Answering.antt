@@ -15,17 +15,16 @@ use Rattle.rules.specs.Query.{Query}
 use Rattle.rules.specs.Stored.{encode, Valid}
 use Rattle.rules.specs.Reading.{readForRewriting}
 use Rattle.rules.specs.Checked.{Is}
-use Rattle.rules.specs.Rewriting.{Rewritten, rewritten, weight, rewrite}
+use Rattle.rules.specs.Rewriting.{Rewritten, rewritten, weight, rewrite, resultOf, countOf}
 use Rattle.rules.specs.Show.{decimal, noKind, show, showRewritten, showParsed, orRefusal, showSetup, firstLine, secondLine, showText}
 use Rattle.rules.specs.Parsing.{parse}
 use Rattle.rules.specs.Answers.{Left, Reply, zeros, leave, fitting, call, storedReply, rewrittenReply, rewriteReply, rewriteLeft}
-use Rattle.rules.proofs.Refusals.{number-some}
-use Rattle.rules.proofs.Parts.{none-empty, empty-nil}
-use Rattle.rules.proofs.Sizes.{length-encode}
-use Rattle.rules.proofs.Steps.{read-long}
-use Rattle.rules.proofs.Sound.{read-sound}
+use Rattle.rules.proofs.stored.Refusals.{number-some}
+use Rattle.rules.proofs.stored.Parts.{none-empty, empty-nil}
+use Rattle.rules.proofs.stored.Sizes.{length-encode}
+use Rattle.rules.proofs.stored.Steps.{read-long}
+use Rattle.rules.proofs.stored.Sound.{read-sound}
 use Rattle.rules.proofs.rewriting.Measures.{weight-length}
-use Rattle.rules.proofs.rewriting.Rounds.{resultOf, countOf}
 use Rattle.rules.proofs.rewriting.Weights.{few-rounds, valid-rewrite}
 use Rattle.rules.proofs.rewriting.Bounds.{within-bytes}
 use Rattle.numbers.specs.Laid.{laid}

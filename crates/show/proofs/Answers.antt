@@ -16,7 +16,7 @@ use Rattle.rules.specs.Parsing.{parse}
 use Rattle.rules.specs.Rewriting.{Rewritten, rewritten, rewrite}
 use Rattle.rules.specs.Show.{showRewritten, showParsed, showSetup, firstLine, secondLine, orRefusal, showText}
 use Rattle.rules.specs.Answers.{Answer, Left, leave, call}
-use Rattle.rules.proofs.Refusals.{number-some}
+use Rattle.rules.proofs.stored.Refusals.{number-some}
 use Rattle.show.specs.Answer.{textReply, showLeft, leftOf}
 use Rattle.show.specs.declared.call.Shown.{Shown}
 use Rattle.show.specs.declared.call.Shown.the-variants.{Refused, Bytes}

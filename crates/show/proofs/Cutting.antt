@@ -15,8 +15,8 @@ use Rattle.rules.specs.Setup.{Setup, readSetup, entriesIn, setupWith, isSetup}
 use Rattle.rules.specs.Parsing.{parse}
 use Rattle.rules.specs.Show.{inWord, firstLine, secondLine, operatorIn, showSetup}
 use Rattle.rules.specs.Answers.{call, storedReply, parseReply, parseLeft}
-use Rattle.rules.proofs.Parts.{cut-from, none-empty, some-empty}
-use Rattle.rules.proofs.Pieces.{front-yes, front-no, front-nil, front-is, after-is, front-after, front-most}
+use Rattle.rules.proofs.stored.Parts.{cut-from, none-empty, some-empty}
+use Rattle.rules.proofs.text.Pieces.{front-yes, front-no, front-nil, front-is, after-is, front-after, front-most}
 use Rattle.show.specs.Lines.{other, operatorNumber, lineOperator, writtenIn}
 
 -- ---- the first byte b

@@ -9,8 +9,8 @@ use Rattle.rules.specs.Bytes.{ascii, big}
 use Rattle.rules.specs.Query.{Word, word, Kind, must, should, mustNot, filter, Numbers, whole, float, Bound, unbounded, included, excluded, Query, term, phrase, boolean, boost, constantScore, matchAll, matchNone, range, Clauses, none, clause}
 use Rattle.rules.specs.Stored.{encode, encodes, encodeWords, Valid, Valids, ValidWords}
 use Rattle.rules.specs.Show.{decimal, hex, isPlain, shown, shownField, shownWords, shownNumbers, shownBound, kindName, noKind, line, show, showClauses}
-use Rattle.rules.proofs.Bigs.{length-big}
-use Rattle.rules.proofs.Sizes.{length-word, length-term, length-phrase, length-boolean, length-boost, length-constant-score, length-match-all, length-match-none, length-range, length-clause}
+use Rattle.rules.proofs.stored.Bigs.{length-big}
+use Rattle.rules.proofs.stored.Sizes.{length-word, length-term, length-phrase, length-boolean, length-boost, length-constant-score, length-match-all, length-match-none, length-range, length-clause}
 use Rattle.show.specs.Lays.{hexByte, shownByte}
 use Rattle.show.proofs.Decimals.{decimal-long}
 use Rattle.show.proofs.Texts.{shown-cons}

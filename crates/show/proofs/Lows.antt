@@ -14,7 +14,7 @@ use Rattle.rules.specs.Numerals.{Numeral, bad, infinite, notNumber, decimal, is
 use Rattle.rules.specs.Setup.{Setup, isSetup, readSetup, setupWith, entriesIn}
 use Rattle.rules.specs.Parsing.{Made, nothing, made, Found, found, Kept, Conjunction, Modifier, textAt, queryFound, isAt, onMade, stopsAt, conjunctionAt, afterConjunction, modifierAt, afterModifier, boostAt, plainAt, quotedAt, closedAt, bracketAt, bodyAt, clauseAt, addClause, parseClauses, wholeQuery, parseTokens, parse}
 use Rattle.rules.specs.Analysis.{isSpace, endsTerm, front, after}
-use Rattle.rules.proofs.Refusals.{no-got}
+use Rattle.rules.proofs.stored.Refusals.{no-got}
 use Rattle.rules.specs.Show.{inWord, operatorIn, showSetup, firstLine, secondLine}
 use Rattle.show.specs.Lines.{writtenIn}
 

@@ -13,14 +13,14 @@ use Rattle.rules.specs.Stored.{rangeTag, encode, encodes}
 use Rattle.rules.specs.Reading.{isWord, wordOf, isBound, boundOf}
 use Rattle.rules.specs.Checked.{Is, Stored}
 use Rattle.rules.specs.Show.{hex, shownField, shownWords, shownBound, shownNumbers}
-use Rattle.rules.proofs.Bigs.{write-big}
-use Rattle.rules.proofs.Parts.{part-is, field-is, bytes-body, bytes-take, more-empty, less-empty}
-use Rattle.rules.proofs.Rows.{each-next, each-done}
-use Rattle.rules.proofs.Leaves.{word-is, BoundIs, is-open, is-included, is-excluded, bound-is, at-open, at-included, at-excluded}
-use Rattle.rules.proofs.Tags.{QueryTag, t-term, t-phrase, t-boolean, t-boost, t-constantScore, t-matchAll, t-matchNone, t-range}
-use Rattle.rules.proofs.Views as views
-use Rattle.rules.proofs.Inverse.{decode-encode}
-use Rattle.rules.proofs.Sizes.{length-encode, length-boolean, length-boost, length-constant-score, length-clause}
+use Rattle.rules.proofs.stored.Bigs.{write-big}
+use Rattle.rules.proofs.stored.Parts.{part-is, field-is, bytes-body, bytes-take, more-empty, less-empty}
+use Rattle.rules.proofs.stored.Rows.{each-next, each-done}
+use Rattle.rules.proofs.stored.Leaves.{word-is, BoundIs, is-open, is-included, is-excluded, bound-is, at-open, at-included, at-excluded}
+use Rattle.rules.proofs.stored.Tags.{QueryTag, t-term, t-phrase, t-boolean, t-boost, t-constantScore, t-matchAll, t-matchNone, t-range}
+use Rattle.rules.proofs.stored.Views as views
+use Rattle.rules.proofs.stored.Inverse.{decode-encode}
+use Rattle.rules.proofs.stored.Sizes.{length-encode, length-boolean, length-boost, length-constant-score, length-clause}
 use Rattle.show.specs.Node.{queryIn, node, HoldsTerm, termText, wordText, HoldsPhrase, phraseText, HoldsMinimum, booleanText, boostText, rangeName, HoldsRange, rangeText}
 
 -- ---- the query of stored bytes

@@ -15,8 +15,8 @@ use Rattle.rules.specs.Analysis.{front, after}
 use Rattle.rules.specs.Setup.{Setup, readSetup, entriesIn, setupWith, isSetup}
 use Rattle.rules.specs.Parsing.{parse}
 use Rattle.rules.specs.Show.{inLine, inWord, firstLine, secondLine, showSetup, showParsed, orRefusal, showText}
-use Rattle.rules.proofs.Equal.{same-eq}
-use Rattle.rules.proofs.Pieces.{front-take, after-is, front-after}
+use Rattle.rules.proofs.stored.Equal.{same-eq}
+use Rattle.rules.proofs.text.Pieces.{front-take, after-is, front-after}
 use Rattle.show.specs.Lines.{operatorNumber, lineOperator}
 use Rattle.show.proofs.Cutting.{show-setup, two-refused}
 

@@ -11,9 +11,9 @@ use Rattle.rules.specs.Query.{Kind, must, should, mustNot, filter, Query, term,
 use Rattle.rules.specs.Stored.{kindTag, encode, encodes}
 use Rattle.rules.specs.Checked.{Are, Stored, StoredClauses}
 use Rattle.rules.specs.Show.{kindName, line, noKind, show, showClauses}
-use Rattle.rules.proofs.Parts.{more-empty, less-empty, body-shorter, length-rest}
-use Rattle.rules.proofs.Views as views
-use Rattle.rules.proofs.Inverse.{clauses-encodes}
+use Rattle.rules.proofs.stored.Parts.{more-empty, less-empty, body-shorter, length-rest}
+use Rattle.rules.proofs.stored.Views as views
+use Rattle.rules.proofs.stored.Inverse.{clauses-encodes}
 use Rattle.show.specs.Node.{queryIn, rowIn, node, inside, kindText, ToShow, ToShowAll}
 use Rattle.show.proofs.Nodes.{depths-length, query-in, stored-whole, boolean-at, boost-at, score-at}
 

@@ -11,7 +11,7 @@ use borrow.Author.Tests.{le-leb, lt-leb, ne-eqb}
 use lib.Seq.{drop-cons, drop-length}
 use Rattle.rules.specs.Bytes.{ascii}
 use Rattle.rules.specs.Show.{hex, isPlain, shown, shownField}
-use Rattle.rules.proofs.Parts.{none-empty, some-empty}
+use Rattle.rules.proofs.stored.Parts.{none-empty, some-empty}
 use Rattle.show.specs.Lays.{hexByte, shownByte}
 
 pub hex-next : (s : List ℕ) (k : ℕ) → k < length s → hex (drop k s) ≡ hexByte (getD s k 0) ++ hex (drop (k + 1) s)

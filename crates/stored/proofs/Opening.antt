@@ -16,9 +16,9 @@ use Rattle.rules.specs.Stored.{isBoost}
 use Rattle.rules.specs.Reading.{isQuery, bodyIn, decode}
 use Rattle.rules.proofs.Bools.{and-l, and-r, alike}
 use Rattle.rules.proofs.Chains.{nothing}
-use Rattle.rules.proofs.Parts.{part-is, whole-le, length-body, length-rest}
-use Rattle.rules.proofs.Refusals.{number-some}
-use Rattle.rules.proofs.Steps.{in-boolean, in-boost, in-constant-score}
+use Rattle.rules.proofs.stored.Parts.{part-is, whole-le, length-body, length-rest}
+use Rattle.rules.proofs.stored.Refusals.{number-some}
+use Rattle.rules.proofs.stored.Steps.{in-boolean, in-boost, in-constant-score}
 use Rattle.stored.specs.Read.{verdict, said, isLeaf, isMinimum, isRecord, isBoosted, cut, rowOf, closedAt, IsFault, Within, HoldsRow, HoldsQuery, IsLeafRecord}
 use Rattle.stored.proofs.Reader.{inside-leaf, constant-verdict, boost-is-bad, boost-verdict, boolean-is-bad, boolean-verdict, record-bad, record-deep, record-in}
 

@@ -14,10 +14,10 @@ use Rattle.rules.specs.Bytes.{ofBig, isEmpty, tagOf, bodyOf, restOf, wholeOf, i
 use Rattle.rules.specs.Query.{whole, float, Query, matchAll, matchNone, boolean, boost, constantScore, clause}
 use Rattle.rules.specs.Stored.{theNan, isBoost}
 use Rattle.rules.specs.Reading.{numberOf, sound, closed, emptyIn, termIn, phraseIn, isBound, rangeIn, boostIn, constantScoreIn, kindOf, added, booleanIn, bodyIn, decode, readWithin}
-use Rattle.rules.proofs.Parts.{field-is, part-is}
-use Rattle.rules.proofs.Leaves.{BoundIs, is-open, is-included, is-excluded, bound-is}
-use Rattle.rules.proofs.Refusals.{number-some, need-yes, need-no}
-use Rattle.rules.proofs.Steps.{clausesOf, clauses-done, clauses-bad, clauses-next, boolean-bad, boolean-in, decode-bad, decode-deep, decode-in, read-long, read-within}
+use Rattle.rules.proofs.stored.Parts.{field-is, part-is}
+use Rattle.rules.proofs.stored.Leaves.{BoundIs, is-open, is-included, is-excluded, bound-is}
+use Rattle.rules.proofs.stored.Refusals.{number-some, need-yes, need-no}
+use Rattle.rules.proofs.stored.Steps.{clausesOf, clauses-done, clauses-bad, clauses-next, boolean-bad, boolean-in, decode-bad, decode-deep, decode-in, read-long, read-within}
 use Rattle.stored.specs.Read.{verdict, said, isTerm, isPhrase, isRange, isLeaf, isMinimum, isClause, isRecord, isBoosted, after}
 
 -- ---- parts that passed a test are whole

@@ -10,7 +10,7 @@ use lib.Seq.{getD-set-same, getD-set-other}
 use Rattle.rules.specs.Numbers.{malformedQuery, number}
 use Rattle.rules.specs.Bytes.{isEmpty}
 use Rattle.rules.specs.Reading.{decode}
-use Rattle.rules.proofs.Parts.{less-empty}
+use Rattle.rules.proofs.stored.Parts.{less-empty}
 use Rattle.stored.specs.Read.{verdict, cut, rowOf, after, IsFault, Within, PastClause, IntoClause, LastClause}
 use Rattle.stored.proofs.Reader.{clauses-end}
 use Rattle.stored.proofs.Opening.{cut-all, length-cut, cut-cut, drop-cut}

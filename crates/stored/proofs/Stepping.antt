@@ -12,9 +12,9 @@ use Rattle.rules.specs.Numbers.{termTag, malformedQuery, number, Read, got, ref
 use Rattle.rules.specs.Bytes.{isEmpty, tagOf, sizeOf, bodyOf, restOf, wholeOf, isPart}
 use Rattle.rules.specs.Reading.{isKind, isQuery, termIn, bodyIn, decode}
 use Rattle.rules.proofs.Bools.{and-l, and-four, both}
-use Rattle.rules.proofs.Parts.{more-empty, part-is, whole-le, length-body}
-use Rattle.rules.proofs.Refusals.{number-some, need-yes}
-use Rattle.rules.proofs.Steps.{in-term}
+use Rattle.rules.proofs.stored.Parts.{more-empty, part-is, whole-le, length-body}
+use Rattle.rules.proofs.stored.Refusals.{number-some, need-yes}
+use Rattle.rules.proofs.stored.Steps.{in-term}
 use Rattle.stored.specs.Read.{verdict, said, isTerm, isClause, isSimple, cut, rowOf, after, IsFault, Within, HoldsRow, IsLeafRecord, PastClause, IntoClause, LastClause}
 use Rattle.stored.proofs.Reader.{clauses-are-bad, clause-fault, clause-good, clause-after, record-in}
 use Rattle.stored.proofs.Opening.{cut-cut}

@@ -12,9 +12,9 @@ use lib.Bits.{bitAnd, bitOr, bitXor, and-le-l, and-le-r, and-block, and-high, or
 use borrow.Author.Tests.{leb-true, le-leb, eqb-true, eq-eqb}
 use Rattle.rules.specs.Bytes.{Bytes, onto, ofBig, big, isText, same}
 use Rattle.rules.proofs.Bools.{alike, and-l, and-r, both, and-no-r}
-use Rattle.rules.proofs.Bigs.{write-big}
-use Rattle.rules.proofs.Parts.{none-empty, empty-nil, bytes-take, cut-from, text-step}
-use Rattle.rules.proofs.Equal.{same-refl, same-eq}
+use Rattle.rules.proofs.stored.Bigs.{write-big}
+use Rattle.rules.proofs.stored.Parts.{none-empty, empty-nil, bytes-take, cut-from, text-step}
+use Rattle.rules.proofs.stored.Equal.{same-refl, same-eq}
 
 -- ---- bits
 

@@ -10,7 +10,7 @@ use borrow.Author.Tests.{eq-eqb, ne-eqb, eqb-true, leb-true, le-ltb}
 use Rattle.rules.specs.Bytes.{isText}
 use Rattle.rules.specs.Analysis.{isSpace, endsTerm, isLetter, classOf, classes}
 use Rattle.rules.proofs.Bools.{fails, clash, and-l, and-r}
-use Rattle.rules.proofs.Classes.{everyFrom, at-each, entries, class-within, space-flag, end-flag, letter-flag}
+use Rattle.rules.proofs.text.Classes.{everyFrom, at-each, entries, class-within, space-flag, end-flag, letter-flag}
 
 pub text-byte : (s : List ℕ) (i : ℕ) → isText s ≡ true → getD s i 0 < 128
 unfolding isText

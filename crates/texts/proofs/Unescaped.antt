@@ -14,7 +14,7 @@ use Rattle.rules.specs.Lexing.{Piece, piece, before, isQuote, isBackslash, term
 use Rattle.rules.specs.Bytes.{all}
 use Rattle.rules.specs.Analysis.{endsTerm, isLetter}
 use Rattle.rules.proofs.Bools.{split, clash, both, and-l, and-r}
-use Rattle.rules.proofs.Tokenizing.{Unescaping, term-unescapes, term-stop, quoted-stop}
+use Rattle.rules.proofs.text.Tokenizing.{Unescaping, term-unescapes, term-stop, quoted-stop}
 use Rattle.row.specs.Row.{roomLeast, Kept}
 use Rattle.texts.specs.Texts.{onFront, Letters, Reads}
 use Rattle.texts.specs.declared.Ended.{Ended}

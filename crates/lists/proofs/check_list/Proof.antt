@@ -2,7 +2,7 @@
 use mathlib.Core.Path.{sym, _∙_}
 use denote.Ref.{now}
 use borrow.Author.Needs.{needs}
-use Rattle.rules.proofs.Entries as entries
+use Rattle.rules.proofs.choosing.Entries as entries
 use Rattle.lists.proofs.check_list.Statement.{statement}
 use Rattle.lists.proofs.check_list.Tie as tie
 

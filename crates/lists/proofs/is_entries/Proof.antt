@@ -3,9 +3,9 @@ use mathlib.Core.Path.{_≡_, refl, sym, ap, _∙_}
 use lib.ListN.{length}
 use denote.Ref.{now}
 use borrow.Author.Needs.{needs}
-use Rattle.rules.proofs.Entries as entries
-use Rattle.rules.proofs.Rows as rows
-use Rattle.rules.proofs.Parts as parts
+use Rattle.rules.proofs.choosing.Entries as entries
+use Rattle.rules.proofs.stored.Rows as rows
+use Rattle.rules.proofs.stored.Parts as parts
 use Rattle.rules.proofs.Bools as bools
 use Rattle.rules.specs.Lists.{isEntry}
 use Rattle.rules.specs.Bytes.{every}

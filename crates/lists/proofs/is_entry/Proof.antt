@@ -3,8 +3,8 @@ use mathlib.Core.Path.{sym, ap, _∙_}
 use native.Mathlib.Omega.{arith}
 use denote.Ref.{now}
 use borrow.Author.Needs.{needs}
-use Rattle.rules.proofs.Entries as entries
-use Rattle.rules.proofs.Parts as parts
+use Rattle.rules.proofs.choosing.Entries as entries
+use Rattle.rules.proofs.stored.Parts as parts
 use Rattle.rules.proofs.Bools as bools
 use Rattle.rules.specs.Lists.{isFieldWith}
 use Rattle.rules.specs.Query.{whole, float}

@@ -7,7 +7,7 @@ use lib.ListN.{take}
 use denote.Ref.{now}
 use borrow.Author.Tests.{eq-eqb, ne-eqb}
 use borrow.Author.Needs.{needs}
-use Rattle.rules.proofs.Parts as parts
+use Rattle.rules.proofs.stored.Parts as parts
 use Rattle.rules.specs.Bytes.{ofBig}
 use Rattle.measures.proofs.least.Statement.{statement}
 use Rattle.measures.proofs.least.Tie as tie

@@ -6,8 +6,8 @@ use native.Mathlib.Omega.{arith}
 use lib.ListN.{take}
 use denote.Ref.{now}
 use borrow.Author.Needs.{needs}
-use Rattle.rules.proofs.Parts as parts
-use Rattle.rules.proofs.Widths as widths
+use Rattle.rules.proofs.stored.Parts as parts
+use Rattle.rules.proofs.stored.Widths as widths
 use Rattle.numbers.proofs.big8.Statement.{statement}
 use Rattle.numbers.proofs.big8.Tie as tie
 

@@ -18,7 +18,7 @@ use lib.Ieee.Bits.{ofBits-toBits, ofBits-fits, toBits-lt, toBits-ofBits, nanBits
 use Rattle.rules.specs.Stored.{theNan, isBoost}
 use Rattle.rules.specs.Floats.{one, rounded, widened, narrowed, times, isOne}
 use Rattle.rules.proofs.Bools.{clash, both, and-l, and-r, or-l, either, alike}
-use Rattle.rules.proofs.Inverse.{boost-below}
+use Rattle.rules.proofs.stored.Inverse.{boost-below}
 
 -- ---- rounding what fits
 

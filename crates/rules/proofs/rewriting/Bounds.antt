@@ -7,11 +7,11 @@ use lib.ListN.{length}
 use Rattle.rules.specs.Numbers.{rewriterBytes, rewriterDepth, selectionBytes, selectionDepth}
 use Rattle.rules.specs.Query.{Kind, must, should, mustNot, filter, Query, term, phrase, boolean, boost, constantScore, matchAll, matchNone, range, Clauses, none, clause, depth}
 use Rattle.rules.specs.Stored.{encodeWords, encode}
-use Rattle.rules.specs.Rewriting.{largest, largests, base, lone, rewriteOnce, rounds}
-use Rattle.rules.proofs.Sizes.{length-word}
+use Rattle.rules.specs.Rewriting.{largest, largests, base, lone, rewriteOnce, rounds, resultOf, clauseCount, bulk, bulks}
+use Rattle.rules.proofs.stored.Sizes.{length-word}
 use Rattle.rules.proofs.rewriting.Walk.{Law, join, once-law}
-use Rattle.rules.proofs.rewriting.Rounds.{resultOf, afterRounds, after-law, rounds-law}
-use Rattle.rules.proofs.rewriting.Measures.{clauseCount, bulk, bulks, bulk-is, measured, reach, unboosted, reaches, unboosted-reach, unboosted-base}
+use Rattle.rules.proofs.rewriting.Rounds.{afterRounds, after-law, rounds-law}
+use Rattle.rules.proofs.rewriting.Measures.{bulk-is, measured, reach, unboosted, reaches, unboosted-reach, unboosted-base}
 
 -- q is in no measure above p; ds in none above cs
 pub record Bounded (p q : Query) : Type 0 where

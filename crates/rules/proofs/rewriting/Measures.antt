@@ -5,40 +5,10 @@ use native.Mathlib.Omega.{arith}
 use lib.ListN.{length}
 use Rattle.rules.specs.Query.{Query, term, phrase, boolean, boost, constantScore, matchAll, matchNone, range, Clauses, none, clause, depth, depths}
 use Rattle.rules.specs.Stored.{encodeBound, encodeWords, encode, encodes}
-use Rattle.rules.specs.Rewriting.{weight, weights, base}
-use Rattle.rules.proofs.Sizes.{length-term, length-phrase, length-boolean, length-boost, length-constant-score, length-match-all, length-match-none, length-range, length-none, length-clause}
+use Rattle.rules.specs.Rewriting.{weight, weights, base, clauseCount, clauseCounts, bulk, bulks}
+use Rattle.rules.proofs.stored.Sizes.{length-term, length-phrase, length-boolean, length-boost, length-constant-score, length-match-all, length-match-none, length-range, length-none, length-clause}
 
--- ---- bytes, and one more for each clause: merging takes a clause of 6 bytes or more and adds a boost of 7
-
-unfoldable mutual
-  pub clauseCount : Query → ℕ
-  clauseCount (term f t) = 0
-  clauseCount (phrase f ws) = 0
-  clauseCount (boolean m cs) = clauseCounts cs
-  clauseCount (boost b q) = clauseCount q
-  clauseCount (constantScore q) = clauseCount q
-  clauseCount matchAll = 0
-  clauseCount matchNone = 0
-  clauseCount (range n f l u) = 0
-
-  pub clauseCounts : Clauses → ℕ
-  clauseCounts none = 0
-  clauseCounts (clause k q cs) = 1 + clauseCount q + clauseCounts cs
-
-unfoldable mutual
-  pub bulk : Query → ℕ
-  bulk (term f t) = 9 + length f + length t
-  bulk (phrase f ws) = 6 + length f + length (encodeWords ws)
-  bulk (boolean m cs) = 8 + bulks cs
-  bulk (boost b q) = 7 + bulk q
-  bulk (constantScore q) = 3 + bulk q
-  bulk matchAll = 3
-  bulk matchNone = 3
-  bulk (range n f l u) = 6 + length f + length (encodeBound l) + length (encodeBound u)
-
-  pub bulks : Clauses → ℕ
-  bulks none = 0
-  bulks (clause k q cs) = 4 + bulk q + bulks cs
+-- ---- bulk
 
 mutual
   unfolding bulk clauseCount

@@ -8,7 +8,7 @@ use Rattle.rules.specs.Floats.{one, plus}
 use Rattle.rules.specs.Rewriting.{summable, standsFor, base, boostOf, Merged, empty, merged, put, addMerged, mergeOnto}
 use Rattle.rules.specs.ByPlace.{held}
 use Rattle.rules.proofs.Bools.{clash, both}
-use Rattle.rules.proofs.Equal.{equal-refl}
+use Rattle.rules.proofs.stored.Equal.{equal-refl}
 use Rattle.rules.proofs.rewriting.Kinds.{stands-self}
 
 -- ---- a clause is added

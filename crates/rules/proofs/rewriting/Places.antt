@@ -11,8 +11,8 @@ use Rattle.rules.specs.Floats.{one, plus}
 use Rattle.rules.specs.Rewriting.{summable, standsFor, base, boostOf, Merged, empty, merged, addMerged, mergeOnto, reboosted, clausesOf, mergedBoolean}
 use Rattle.rules.specs.ByPlace.{held, sameKind, seen, total, sumFrom, snoc, mergedByPlace}
 use Rattle.rules.proofs.Bools.{clash, fails, alike, both, and-l, and-r, or-false, or-assoc, absorb}
-use Rattle.rules.proofs.Tags.{kind-back}
-use Rattle.rules.proofs.Equal.{equal-eq, equal-refl}
+use Rattle.rules.proofs.stored.Tags.{kind-back}
+use Rattle.rules.proofs.stored.Equal.{equal-eq, equal-refl}
 use Rattle.rules.proofs.rewriting.Kinds.{stands-self, stands-same, stands-on}
 use Rattle.rules.proofs.rewriting.Walk.{join, join-none}
 use Rattle.rules.proofs.rewriting.Merging.{takes, raised, add-empty, add-merged, add-by, Other, AllOther, all-other-add}

@@ -4,16 +4,8 @@ use Prim.Native.Nat.{ℕ, zero, suc, _≤_}
 use mathlib.Core.Bool.{Bool, true, false, cond}
 use native.Mathlib.Omega.{arith}
 use Rattle.rules.specs.Query.{Query, Clauses, equal}
-use Rattle.rules.specs.Rewriting.{rewriteOnce, Rewritten, rewritten, oneRoundMore, rounds}
+use Rattle.rules.specs.Rewriting.{rewriteOnce, Rewritten, rewritten, oneRoundMore, rounds, resultOf, countOf}
 use Rattle.rules.proofs.rewriting.Walk.{Law, once-law}
-
--- ---- the query and the count of an answer
-
-abbrev pub resultOf : Rewritten → Query
-resultOf (rewritten q n) = q
-
-abbrev pub countOf : Rewritten → ℕ
-countOf (rewritten q n) = n
 
 pub result-more : (r : Rewritten) → resultOf (oneRoundMore r) ≡ resultOf r
 result-more (rewritten q n) = refl

@@ -8,13 +8,13 @@ use lib.Dec.{leb, ltb}
 use lib.Ieee.{Float}
 use Rattle.rules.specs.Query.{Word, word, Kind, must, should, mustNot, filter, Query, term, phrase, boolean, boost, constantScore, matchAll, matchNone, range, Clauses, none, clause, equal}
 use Rattle.rules.specs.Floats.{one, widened, narrowed, plus, isOne}
-use Rattle.rules.specs.Rewriting.{weight, isNone, boosted, scored, phrased, scores, summable, standsFor, base, boostOf, Merged, empty, merged, addMerged, mergeOnto, reboosted, clausesOf, mergedBoolean, lone, loneOrMerged, shouldCount, onlyMustNot, ofLive, isDead, live, rewriteBoolean, rewriteOnce, rewriteEach, rounds, rewrite}
+use Rattle.rules.specs.Rewriting.{weight, isNone, boosted, scored, phrased, scores, summable, standsFor, base, boostOf, Merged, empty, merged, addMerged, mergeOnto, reboosted, clausesOf, mergedBoolean, lone, loneOrMerged, shouldCount, onlyMustNot, ofLive, isDead, live, rewriteBoolean, rewriteOnce, rewriteEach, rounds, rewrite, resultOf}
 use Rattle.rules.specs.ByPlace.{held}
 use Rattle.rules.specs.Tidy.{Apart, Distinct, Tidy, Tidies}
 use Rattle.rules.proofs.Bools.{clash, and-l}
 use Rattle.rules.proofs.rewriting.Kinds.{stands-same}
 use Rattle.rules.proofs.rewriting.Merging.{raised, add-empty, add-by, Other, AllOther, all-other-merge}
-use Rattle.rules.proofs.rewriting.Rounds.{resultOf, result-once}
+use Rattle.rules.proofs.rewriting.Rounds.{result-once}
 use Rattle.rules.proofs.rewriting.Weights.{one-weight}
 
 -- ---- no boost of a boost

@@ -9,14 +9,14 @@ use lib.Ieee.{Float}
 use borrow.Author.Tests.{leb-true, le-leb, lt-leb}
 use Rattle.rules.specs.Query.{Kind, must, should, mustNot, filter, Query, term, phrase, boolean, boost, constantScore, matchAll, matchNone, range, Clauses, none, clause}
 use Rattle.rules.specs.Floats.{narrowed, isOne}
-use Rattle.rules.specs.Rewriting.{weight, largest, largests, isNone, isNeeded, isMustNot, scores, standsFor, base, reboosted, lone, shouldCount, onlyMustNot, isDead, rewriteOnce, rounds, rewrite}
+use Rattle.rules.specs.Rewriting.{weight, largest, largests, isNone, isNeeded, isMustNot, scores, standsFor, base, reboosted, lone, shouldCount, onlyMustNot, isDead, rewriteOnce, rounds, rewrite, resultOf}
 use Rattle.rules.specs.Lists.{Entry}
 use Rattle.rules.specs.Matching.{bit, allows, countsFor, anyNeeded, enough, matches, allAllow, shouldsTrue}
 use Rattle.rules.proofs.Bools.{clash, alike, and-false, and-same, and-swap, or-same, or-swap}
-use Rattle.rules.proofs.Phrases.{no-phrase, one-phrase}
+use Rattle.rules.proofs.choosing.Phrases.{no-phrase, one-phrase}
 use Rattle.rules.proofs.rewriting.Kinds.{stands-needed, stands-allows}
 use Rattle.rules.proofs.rewriting.Walk.{Law, join, none-is, once-law}
-use Rattle.rules.proofs.rewriting.Rounds.{resultOf, afterRounds, after-law, rounds-law}
+use Rattle.rules.proofs.rewriting.Rounds.{afterRounds, after-law, rounds-law}
 use Rattle.rules.proofs.rewriting.Bounds.{Bounded, BoundedAll, bounds-law}
 
 -- ---- counts of Should clauses

@@ -10,7 +10,7 @@ use Rattle.rules.specs.Query.{Word, word, Kind, Query, term, phrase, boo
 use Rattle.rules.specs.Floats.{one, widened, narrowed, plus, times, isOne}
 use Rattle.rules.specs.Rewriting.{isNone, boosted, scored, phrased, isNeeded, isMustNot, scores, summable, standsFor, base, boostOf, Merged, empty, merged, put, addMerged, mergeOnto, reboosted, clausesOf, mergedBoolean, lone, loneOrMerged, shouldCount, onlyMustNot, ofLive, isDead, live, rewriteBoolean, rewriteOnce, rewriteEach}
 use Rattle.rules.proofs.Bools.{clash, and-l, and-r, and-true, or-no-l, or-no-r}
-use Rattle.rules.proofs.Equal.{equal-eq}
+use Rattle.rules.proofs.stored.Equal.{equal-eq}
 use Rattle.rules.proofs.rewriting.Boosts.{one-one}
 
 -- ---- clauses before others

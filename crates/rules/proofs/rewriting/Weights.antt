@@ -7,12 +7,12 @@ use native.Mathlib.Omega.{arith}
 use Rattle.rules.specs.Query.{Kind, must, should, mustNot, filter, Query, term, phrase, boolean, boost, constantScore, matchAll, matchNone, range, Clauses, none, clause, equal}
 use Rattle.rules.specs.Stored.{ValidWords, Valid, Valids}
 use Rattle.rules.specs.Floats.{widened}
-use Rattle.rules.specs.Rewriting.{weight, weights, lone, rewriteOnce, Rewritten, rewritten, oneRoundMore, rounds, rewrite}
+use Rattle.rules.specs.Rewriting.{weight, weights, lone, rewriteOnce, Rewritten, rewritten, oneRoundMore, rounds, rewrite, resultOf, countOf}
 use Rattle.rules.proofs.Bools.{clash}
-use Rattle.rules.proofs.Equal.{equal-eq, equal-refl}
+use Rattle.rules.proofs.stored.Equal.{equal-eq, equal-refl}
 use Rattle.rules.proofs.rewriting.Boosts.{narrowed-widened, times-boost, narrowed-boost, zero-boost}
 use Rattle.rules.proofs.rewriting.Walk.{Law, join, once-law}
-use Rattle.rules.proofs.rewriting.Rounds.{resultOf, countOf, result-more, count-more, afterRounds, kept-after, kept-rounds}
+use Rattle.rules.proofs.rewriting.Rounds.{result-more, count-more, afterRounds, kept-after, kept-rounds}
 
 -- ---- the law
 

@@ -4,7 +4,7 @@ use native.Mathlib.Omega.{arith}
 use lib.ListN.{length, getD, drop}
 use borrow.Author.Needs.{needs}
 use borrow.Author.Tests.{eq-eqb, ne-eqb}
-use Rattle.rules.proofs.Tokenizing.{quoted-unescapes}
+use Rattle.rules.proofs.text.Tokenizing.{quoted-unescapes}
 use Rattle.rules.specs.Lexing.{quotedText, isQuote, isBackslash}
 use Rattle.rules.specs.Numbers.{openQuote}
 use Rattle.texts.proofs.Unescaped.{Reading, reading-none, reading-at, reading-fault, reading-turn, reading-dangling, escape-most, quote-ends, quote-over}

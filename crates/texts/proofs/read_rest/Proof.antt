@@ -6,7 +6,7 @@ use lib.ListN.{length, getD, take, drop}
 use Rattle.rules.specs.Numbers.{onRead}
 use Rattle.rules.specs.Analysis.{endsTerm}
 use Rattle.rules.specs.Lexing.{termText}
-use Rattle.rules.proofs.Tokenizing.{term-unescapes}
+use Rattle.rules.proofs.text.Tokenizing.{term-unescapes}
 use Rattle.texts.specs.Texts.{onFront}
 use Rattle.texts.proofs.Flags.{text-byte, end-told, no-end-told}
 use Rattle.texts.proofs.Unescaped.{Reading, reading-on, reading-at, reading-turn, reading-dangling, term-ends, term-over}

@@ -1,5 +1,5 @@
 -- `clauses::leaf::phrase_len` meets its contract.
-use Rattle.rules.proofs.Tokens.{tokens-most}
+use Rattle.rules.proofs.text.Tokens.{tokens-most}
 use Rattle.clauses.proofs.Tallying.{words-most, phrase-length-none, phrase-length-one, phrase-length-many}
 use mathlib.Core.Path.{sym, _∙_}
 use native.Mathlib.Omega.{arith}

@@ -2,7 +2,7 @@
 use Rattle.clauses.proofs.Tallying.{spelled-length}
 use Rattle.numbers.proofs.Laying.{put-body}
 use Rattle.analysis.specs.Tokens.{spelled}
-use Rattle.rules.proofs.Sizes.{length-term}
+use Rattle.rules.proofs.stored.Sizes.{length-term}
 use native.Mathlib.Omega.{arith}
 use Rattle.clauses.proofs.leaf.put_clause.Statement.{statement}
 use Rattle.clauses.proofs.leaf.put_clause.Tie as tie

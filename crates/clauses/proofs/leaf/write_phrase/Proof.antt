@@ -2,7 +2,7 @@
 use Prim.Native.Nat.{_-_}
 use mathlib.Core.Path.{refl, _∙_}
 use Rattle.rules.specs.Analysis.{tokenize}
-use Rattle.rules.proofs.Sizes.{length-phrase}
+use Rattle.rules.proofs.stored.Sizes.{length-phrase}
 use Rattle.clauses.proofs.Writing.{phrase-put}
 use native.Mathlib.Omega.{arith}
 use Rattle.clauses.proofs.leaf.put_words.Reads as put-words-reads

@@ -3,7 +3,7 @@ use Prim.Native.Nat.{_+_, _-_}
 use mathlib.Core.Path.{ap}
 use lib.ListN.{length, take, drop}
 use Rattle.analysis.specs.Tokens.{spelled}
-use Rattle.rules.proofs.Sizes.{length-term}
+use Rattle.rules.proofs.stored.Sizes.{length-term}
 use Rattle.counted.specs.Kinds.{madeLength}
 use Rattle.clauses.proofs.Fronts.{put-empty}
 use Rattle.clauses.proofs.Tallying.{spelled-length}

@@ -4,7 +4,7 @@ use Prim.Native.Nat.{_+_}
 use Rattle.row.specs.Row.{tokensOf}
 use Rattle.rules.specs.Numerals.{numeralBits}
 use Rattle.rules.specs.Reading.{numberOf}
-use Rattle.rules.proofs.Refusals.{number-not, number-got}
+use Rattle.rules.proofs.stored.Refusals.{number-not, number-got}
 use Rattle.clauses.proofs.Bodies.{boost-none, boost-missing, boost-refused, boost-got, boosted-length}
 use Rattle.clauses.proofs.Rows.{kind-in, text-is, place-step-two}
 use native.Mathlib.Omega.{arith}

@@ -10,7 +10,7 @@ use borrow.Author.Needs.{needs}
 use Rattle.clauses.proofs.Writing.{slice-length}
 use Rattle.clauses.proofs.Steps.{led, past-one}
 use Rattle.counted.specs.Kinds.{madeBytes}
-use Rattle.rules.proofs.Refusals.{no-got}
+use Rattle.rules.proofs.stored.Refusals.{no-got}
 use Rattle.rules.specs.Parsing.{queryOf}
 use Rattle.rules.specs.Setup.{Setup}
 use Rattle.rules.specs.Query.{Clauses}

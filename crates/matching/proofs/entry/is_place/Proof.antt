@@ -1,6 +1,6 @@
 -- `matching::entry::is_place` meets its contract.
 use native.Mathlib.Omega.{arith}
-use Rattle.rules.proofs.Parts as parts
+use Rattle.rules.proofs.stored.Parts as parts
 use Rattle.matching.proofs.Entries as entries
 use Rattle.matching.proofs.entry.is_place.Statement.{statement}
 use Rattle.matching.proofs.entry.is_place.Tie as tie

@@ -4,7 +4,7 @@ use lib.ListN.{drop}
 use denote.Ref.{now}
 use borrow.Author.Needs.{needs}
 use Rattle.rules.specs.Bytes.{bodyOf, restOf}
-use Rattle.rules.proofs.Parts as parts
+use Rattle.rules.proofs.stored.Parts as parts
 use Rattle.matching.proofs.Entries as entries
 use Rattle.matching.proofs.entry.text.Statement.{statement}
 use Rattle.matching.proofs.entry.text.Tie as tie

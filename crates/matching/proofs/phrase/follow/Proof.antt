@@ -11,7 +11,7 @@ use Rattle.rules.specs.Reading.{wordOf, isWord}
 use Rattle.rules.specs.Matching.{followsFrom}
 use Rattle.rules.specs.Lists.{entryOf}
 use Rattle.rules.specs.Bytes.{ofBig, each}
-use Rattle.rules.proofs.Parts as parts
+use Rattle.rules.proofs.stored.Parts as parts
 use Rattle.rules.proofs.Bools as bools
 use Rattle.matching.proofs.Leaves as leaves
 use Rattle.matching.proofs.Searches as searches

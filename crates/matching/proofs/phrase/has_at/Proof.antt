@@ -4,7 +4,7 @@ use mathlib.Core.Path.{sym, _∙_}
 use lib.ListN.{length}
 use Rattle.rules.specs.Lists.{entryOf, isEntry}
 use Rattle.rules.specs.Matching.{isAt}
-use Rattle.rules.proofs.Parts as parts
+use Rattle.rules.proofs.stored.Parts as parts
 use Rattle.matching.proofs.Entries as entries
 use Rattle.matching.proofs.Searches as searches
 use Rattle.matching.proofs.phrase.has_at.Statement.{statement}

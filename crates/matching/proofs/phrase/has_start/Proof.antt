@@ -6,7 +6,7 @@ use Rattle.rules.specs.Matching.{startsOn}
 use Rattle.rules.specs.Reading.{wordOf}
 use Rattle.rules.specs.Lists.{isEntry, entryOf}
 use Rattle.rules.specs.Bytes.{each}
-use Rattle.rules.proofs.Parts as parts
+use Rattle.rules.proofs.stored.Parts as parts
 use Rattle.matching.proofs.Entries as entries
 use Rattle.matching.proofs.Searches as searches
 use Rattle.matching.proofs.phrase.has_start.Statement.{statement}

@@ -7,7 +7,7 @@ use denote.Ref.{now}
 use borrow.Author.Needs.{needs}
 use Rattle.rules.specs.Lists.{entryOf}
 use Rattle.rules.specs.Bytes.{ofBig, bodyOf, restOf, each}
-use Rattle.rules.proofs.Parts as parts
+use Rattle.rules.proofs.stored.Parts as parts
 use Rattle.matching.proofs.Leaves as leaves
 use Rattle.matching.proofs.phrase.phrase_true.Statement.{statement}
 use Rattle.matching.proofs.phrase.phrase_true.Tie as tie

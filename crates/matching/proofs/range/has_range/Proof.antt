@@ -5,7 +5,7 @@ use lib.ListN.{length}
 use Rattle.rules.specs.Lists.{entryOf, isEntry}
 use Rattle.rules.specs.Matching.{isInside, hasRange}
 use Rattle.rules.specs.Reading.{boundOf}
-use Rattle.rules.proofs.Parts as parts
+use Rattle.rules.proofs.stored.Parts as parts
 use Rattle.matching.specs.Entry.{numbers}
 use Rattle.matching.proofs.Entries as entries
 use Rattle.matching.proofs.Searches as searches

@@ -3,7 +3,7 @@ use mathlib.Core.Path.{sym, _∙_}
 use native.Mathlib.Omega.{arith}
 use denote.Ref.{now}
 use borrow.Author.Needs.{needs}
-use Rattle.rules.proofs.Parts as parts
+use Rattle.rules.proofs.stored.Parts as parts
 use Rattle.matching.specs.Entry.{numbers}
 use Rattle.matching.proofs.Leaves as leaves
 use Rattle.matching.proofs.range.keeps.Statement.{statement}

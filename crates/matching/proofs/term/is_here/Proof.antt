@@ -2,7 +2,7 @@
 use native.Mathlib.Omega.{arith}
 use denote.Ref.{now}
 use borrow.Author.Needs.{needs}
-use Rattle.rules.proofs.Parts as parts
+use Rattle.rules.proofs.stored.Parts as parts
 use Rattle.matching.proofs.Entries as entries
 use Rattle.matching.proofs.term.is_here.Statement.{statement}
 use Rattle.matching.proofs.term.is_here.Tie as tie

@@ -2,7 +2,7 @@
 use mathlib.Core.Path.{ap, _∙_}
 use native.Mathlib.Omega.{arith}
 use lib.ListN.{length-set}
-use Rattle.rules.proofs.Parts as parts
+use Rattle.rules.proofs.stored.Parts as parts
 use Rattle.matching.proofs.Walks as walks
 use Rattle.matching.proofs.truth.clause.Statement.{statement}
 use Rattle.matching.proofs.truth.clause.Tie as tie

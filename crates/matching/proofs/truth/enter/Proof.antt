@@ -7,7 +7,7 @@ use lib.ListN.{length, take}
 use denote.Ref.{now}
 use borrow.Author.Needs.{needs}
 use Rattle.rules.specs.Bytes.{ofBig}
-use Rattle.rules.proofs.Parts as parts
+use Rattle.rules.proofs.stored.Parts as parts
 use Rattle.matching.specs.Truth.{cut}
 use Rattle.matching.proofs.Walks as walks
 use Rattle.matching.proofs.truth.enter.Statement.{statement}

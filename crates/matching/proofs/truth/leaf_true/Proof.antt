@@ -4,7 +4,7 @@ use native.Mathlib.Omega.{arith}
 use denote.Ref.{now}
 use Rattle.rules.specs.Lists.{entryOf}
 use Rattle.rules.specs.Bytes.{each}
-use Rattle.rules.proofs.Parts as parts
+use Rattle.rules.proofs.stored.Parts as parts
 use Rattle.matching.proofs.Leaves as leaves
 use Rattle.matching.proofs.truth.leaf_true.Statement.{statement}
 use Rattle.matching.proofs.truth.leaf_true.Tie as tie

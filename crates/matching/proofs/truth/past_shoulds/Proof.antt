@@ -3,7 +3,7 @@ use mathlib.Core.Bool.{true}
 use mathlib.Core.Path.{sym, _∙_}
 use Prim.Native.Nat.{_-_}
 use native.Mathlib.Omega.{arith}
-use Rattle.rules.proofs.Parts as parts
+use Rattle.rules.proofs.stored.Parts as parts
 use Rattle.matching.specs.Truth.{Past}
 use Rattle.matching.proofs.Walks as walks
 use Rattle.matching.proofs.truth.past_shoulds.Statement.{statement}

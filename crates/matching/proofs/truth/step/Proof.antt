@@ -4,7 +4,7 @@ use native.Mathlib.Omega.{arith}
 use denote.Ref.{now}
 use Rattle.rules.specs.Lists.{entryOf}
 use Rattle.rules.specs.Bytes.{each}
-use Rattle.rules.proofs.Parts as parts
+use Rattle.rules.proofs.stored.Parts as parts
 use Rattle.matching.specs.Truth.{Truth, outcome}
 use Rattle.matching.proofs.Walks as walks
 use Rattle.matching.proofs.truth.step.Statement.{statement}

@@ -2,7 +2,7 @@
 use native.Mathlib.Omega.{arith}
 use denote.Ref.{now}
 use borrow.Author.Needs.{needs}
-use Rattle.rules.proofs.Parts as parts
+use Rattle.rules.proofs.stored.Parts as parts
 use Rattle.merging.proofs.Forms as forms
 use Rattle.merging.proofs.merge.base.Statement.{statement}
 use Rattle.merging.proofs.merge.base.Tie as tie

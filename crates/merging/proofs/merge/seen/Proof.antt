@@ -4,7 +4,7 @@ use mathlib.Core.Logic.{⊎-elim}
 use native.Mathlib.Omega.{arith}
 use lib.ListN.{length}
 use borrow.Author.Needs.{needs}
-use Rattle.rules.proofs.Parts as parts
+use Rattle.rules.proofs.stored.Parts as parts
 use Rattle.merging.proofs.Seeking as seeking
 use Rattle.merging.proofs.Forms as forms
 use Rattle.merging.proofs.merge.seen.Statement.{statement}

@@ -2,7 +2,7 @@
 use mathlib.Core.Path.{refl, ap}
 use native.Mathlib.Omega.{arith}
 use lib.ListN.{length}
-use Rattle.rules.proofs.Parts as parts
+use Rattle.rules.proofs.stored.Parts as parts
 use Rattle.merging.proofs.Seeking as seeking
 use Rattle.merging.proofs.Forms as forms
 use Rattle.merging.proofs.merge.total.Statement.{statement}

@@ -4,7 +4,7 @@ use borrow.Author.Needs.{needs}
 use Rattle.rules.specs.Numbers.{fieldTag}
 use Rattle.rules.specs.Bytes.{isField}
 use Rattle.rules.proofs.Bools as bools
-use Rattle.rules.proofs.Parts as parts
+use Rattle.rules.proofs.stored.Parts as parts
 use Rattle.rules.proofs.Chains as chains
 use Rattle.parts.proofs.part.is_field_part.Statement.{statement}
 use Rattle.parts.proofs.part.is_field_part.Tie as tie

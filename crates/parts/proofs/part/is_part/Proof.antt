@@ -6,7 +6,7 @@ use lib.Dec.{eqb}
 use borrow.Author.Needs.{needs}
 use Rattle.rules.proofs.Chains as chains
 use Rattle.rules.proofs.Bools as bools
-use Rattle.rules.proofs.Parts as parts
+use Rattle.rules.proofs.stored.Parts as parts
 use Rattle.parts.proofs.part.is_part.Statement.{statement}
 use Rattle.parts.proofs.part.is_part.Tie as tie
 

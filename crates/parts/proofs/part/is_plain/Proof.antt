@@ -1,6 +1,6 @@
 -- `parts::part::is_plain` meets its contract.
 use Rattle.parts.proofs.Plainly as plainly
-use Rattle.rules.proofs.Parts as parts
+use Rattle.rules.proofs.stored.Parts as parts
 use Rattle.rules.proofs.Bools as bools
 use Rattle.rules.specs.Numbers.{fieldTag}
 use denote.Ref.{now}

@@ -1,7 +1,7 @@
 -- `parts::part::is_within` meets its contract.
 use native.Mathlib.Omega.{arith}
 use borrow.Author.Needs.{needs}
-use Rattle.rules.proofs.Parts as parts
+use Rattle.rules.proofs.stored.Parts as parts
 use Rattle.rules.proofs.Chains as chains
 use Rattle.rules.proofs.Bools as bools
 use Rattle.parts.proofs.part.is_within.Statement.{statement}

@@ -3,7 +3,7 @@ use mathlib.Core.Path.{sym}
 use native.Mathlib.Omega.{arith}
 use borrow.Author.Needs.{needs}
 use Rattle.rules.specs.Bytes.{wholeOf}
-use Rattle.rules.proofs.Parts as parts
+use Rattle.rules.proofs.stored.Parts as parts
 use Rattle.parts.proofs.part.whole.Statement.{statement}
 use Rattle.parts.proofs.part.whole.Tie as tie
 

@@ -4,7 +4,7 @@ use native.Mathlib.Omega.{arith}
 use lib.ListN.{length, length-drop}
 use denote.Ref.{now}
 use borrow.Author.Needs.{needs}
-use Rattle.rules.proofs.Parts as parts
+use Rattle.rules.proofs.stored.Parts as parts
 use Rattle.rules.specs.Bytes.{sizeOf}
 use Rattle.places.proofs.ends.end_of.Statement.{statement}
 use Rattle.places.proofs.ends.end_of.Tie as tie

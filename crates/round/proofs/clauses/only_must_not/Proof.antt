@@ -2,7 +2,7 @@
 use mathlib.Core.Path.{refl, ap}
 use native.Mathlib.Omega.{arith}
 use lib.ListN.{length}
-use Rattle.rules.proofs.Parts as parts
+use Rattle.rules.proofs.stored.Parts as parts
 use Rattle.round.proofs.Tallies as tallies
 use Rattle.round.proofs.clauses.only_must_not.Statement.{statement}
 use Rattle.round.proofs.clauses.only_must_not.Tie as tie

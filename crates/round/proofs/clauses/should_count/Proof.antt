@@ -2,7 +2,7 @@
 use mathlib.Core.Path.{ap}
 use native.Mathlib.Omega.{arith}
 use lib.ListN.{length}
-use Rattle.rules.proofs.Parts as parts
+use Rattle.rules.proofs.stored.Parts as parts
 use Rattle.round.proofs.Tallies as tallies
 use Rattle.round.proofs.clauses.should_count.Statement.{statement}
 use Rattle.round.proofs.clauses.should_count.Tie as tie

@@ -9,7 +9,7 @@ use denote.Ref.{now}
 use borrow.Author.Needs.{needs}
 use borrow.Fn.Kinds.{In}
 use borrow.Fn.PlainCycle.{Measures, is, falls, and}
-use Rattle.rules.proofs.Parts as parts
+use Rattle.rules.proofs.stored.Parts as parts
 use Rattle.rules.specs.Bytes.{ofBig}
 use Rattle.floats.proofs.sums.is_one_bits.Reads as is-one-bits-reads
 use Rattle.numbers.proofs.big2.Reads as big2-reads

@@ -7,7 +7,7 @@ use native.Mathlib.Omega.{arith}
 use lib.ListN.{take, length-drop}
 use denote.Ref.{now}
 use borrow.Author.Needs.{needs}
-use Rattle.rules.proofs.Parts as parts
+use Rattle.rules.proofs.stored.Parts as parts
 use Rattle.rules.specs.Bytes.{ofBig}
 use Rattle.round.proofs.Finishing as finishing
 use Rattle.round.proofs.over.boost_over.Statement.{statement}

@@ -12,7 +12,7 @@ use Rattle.rules.specs.Lists.{isRecord, recordOf}
 use Rattle.rules.specs.Checked.{Is}
 use Rattle.rules.specs.Query.{Query}
 use Rattle.rules.specs.Bytes.{every, each}
-use Rattle.rules.proofs.Parts as parts
+use Rattle.rules.proofs.stored.Parts as parts
 use Rattle.selection.proofs.Selections as selections
 use Rattle.selection.proofs.select.count.Statement.{statement}
 use Rattle.selection.proofs.select.count.Tie as tie

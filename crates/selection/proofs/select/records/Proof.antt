@@ -7,7 +7,7 @@ use lib.ListN.{length}
 use denote.Ref.{now}
 use Rattle.rules.specs.Lists.{isRecord, recordOf}
 use Rattle.rules.specs.Bytes.{every, each}
-use Rattle.rules.proofs.Parts as parts
+use Rattle.rules.proofs.stored.Parts as parts
 use Rattle.selection.proofs.Selections as selections
 use Rattle.selection.proofs.select.records.Statement.{statement}
 use Rattle.selection.proofs.select.records.Tie as tie

@@ -3,7 +3,7 @@ use Rattle.rules.specs.Answers.{zeros}
 use lib.ListN.{replicate}
 use Rattle.show.proofs.Answering as answering
 use Rattle.show.specs.Lines.{writtenIn}
-use Rattle.rules.proofs.Parts as parts
+use Rattle.rules.proofs.stored.Parts as parts
 use lib.ListN.{take, drop, length, length-replicate}
 use Prim.Native.Nat.{ℕ, _-_}
 use mathlib.Core.Path.{sym, ap, _∙_}

@@ -1,5 +1,5 @@
 -- `show::node::put_bound` meets its contract.
-use Rattle.rules.proofs.Parts as parts
+use Rattle.rules.proofs.stored.Parts as parts
 use Rattle.rules.specs.Show.{hex}
 use Rattle.rules.specs.Bytes.{ascii}
 use denote.Ref.{now}

@@ -1,5 +1,5 @@
 -- `show::node::put_node` meets its contract.
-use Rattle.rules.proofs.Parts as parts
+use Rattle.rules.proofs.stored.Parts as parts
 use Rattle.rules.specs.Bytes.{ascii}
 use denote.Ref.{now}
 use Rattle.show.proofs.Nodes as nodes

@@ -1,7 +1,7 @@
 -- `show::node::put_word` meets its contract.
 use Rattle.show.specs.Node.{wordText}
-use Rattle.rules.proofs.Parts as parts
-use Rattle.rules.proofs.Leaves.{word-is}
+use Rattle.rules.proofs.stored.Parts as parts
+use Rattle.rules.proofs.stored.Leaves.{word-is}
 use Rattle.rules.specs.Show.{decimal, shown}
 use Rattle.rules.specs.Bytes.{ascii, ofBig}
 use lib.ListN.{take, drop}

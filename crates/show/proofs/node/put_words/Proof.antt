@@ -1,7 +1,7 @@
 -- `show::node::put_words` meets its contract.
 use Rattle.show.specs.Node.{wordText}
-use Rattle.rules.proofs.Parts as parts
-use Rattle.rules.proofs.Rows as rows
+use Rattle.rules.proofs.stored.Parts as parts
+use Rattle.rules.proofs.stored.Rows as rows
 use Rattle.rules.specs.Show.{shownWords}
 use Rattle.rules.specs.Reading.{isWord, wordOf}
 use Rattle.rules.specs.Bytes.{every, each, restOf}

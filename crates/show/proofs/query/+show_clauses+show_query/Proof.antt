@@ -3,7 +3,7 @@ use Rattle.show.proofs.Queries as queries
 use Rattle.show.proofs.Nodes as nodes
 use Rattle.show.proofs.Laying as laying
 use Rattle.show.specs.Node.{queryIn, rowIn, kindText}
-use Rattle.rules.proofs.Parts as parts
+use Rattle.rules.proofs.stored.Parts as parts
 use Rattle.rules.specs.Show.{show, showClauses}
 use Rattle.rules.specs.Checked.{StoredClauses}
 use Rattle.rules.specs.Bytes.{tagOf, bodyOf, restOf}

@@ -7,8 +7,8 @@ use lib.Dec.{eqb}
 use lib.ListN.{length}
 use denote.Ref.{now}
 use borrow.Author.Needs.{needs}
-use Rattle.rules.proofs.Leaves as leaves
-use Rattle.rules.proofs.Parts as parts
+use Rattle.rules.proofs.stored.Leaves as leaves
+use Rattle.rules.proofs.stored.Parts as parts
 use Rattle.rules.proofs.Chains as chains
 use Rattle.rules.proofs.Bools as bools
 use Rattle.stored.proofs.read.is_bound.Statement.{statement}

@@ -3,7 +3,7 @@ use Rattle.rules.specs.Numbers.{fieldTag, textTag}
 use Rattle.rules.specs.Bytes.{isText, isField, bodyOf, restOf, isPart}
 use Rattle.rules.proofs.Bools as bools
 use Rattle.rules.proofs.Chains as chains
-use Rattle.rules.proofs.Parts as parts
+use Rattle.rules.proofs.stored.Parts as parts
 use denote.Ref.{now}
 use mathlib.Core.Path.{ap, _∙_}
 use borrow.Author.Needs.{needs}

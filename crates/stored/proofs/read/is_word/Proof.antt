@@ -3,7 +3,7 @@ use mathlib.Core.Path.{ap, _∙_}
 use denote.Ref.{now}
 use borrow.Author.Tests.{le-leb, lt-leb}
 use borrow.Author.Needs.{needs}
-use Rattle.rules.proofs.Parts as parts
+use Rattle.rules.proofs.stored.Parts as parts
 use Rattle.rules.proofs.Chains as chains
 use Rattle.rules.proofs.Bools as bools
 use Rattle.rules.specs.Bytes.{isText}

@@ -4,7 +4,7 @@ use native.Mathlib.Omega.{arith}
 use lib.ListN.{length}
 use denote.Ref.{now}
 use borrow.Author.Needs.{needs}
-use Rattle.rules.proofs.Parts as parts
+use Rattle.rules.proofs.stored.Parts as parts
 use Rattle.rules.proofs.Bools as bools
 use Rattle.stored.specs.Read.{OfOpened}
 use Rattle.stored.proofs.Stepping as stepping

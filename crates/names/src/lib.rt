@@ -1,0 +1,184 @@
+// The numbers of the rules, each once, under the name that `rules/specs/Numbers` and `rules/specs/Lexing` give it: limits, rooms,
+// operators, analyzers, tags, kinds of token, refusals. Whoever uses one is proved against the definition of that name.
+
+// ---- limits
+
+pub const TEXT_MOST: usize = 1024;
+
+pub const FIELD_MOST: usize = 32;
+
+pub const ENTRIES_MOST: usize = 8;
+
+pub const BRACKETS_MOST: usize = 24;
+
+pub const NUMERAL_MOST: usize = 40;
+
+pub const CHUNK_MOST: usize = 255;
+
+pub const REWRITER_BYTES: usize = 32768;
+
+pub const REWRITER_DEPTH: usize = 64;
+
+pub const SELECTION_BYTES: usize = 65535;
+
+pub const SELECTION_DEPTH: usize = 192;
+
+pub const LIST_MOST: usize = 65536;
+
+// ---- working room of each call
+
+pub const PARSE_ROOM: usize = 5120;
+
+pub const REWRITE_ROOM: usize = 114687;
+
+pub const SELECT_ROOM: usize = 0;
+
+// ---- operators and analyzers
+
+pub const OR_OPERATOR: u8 = 0;
+
+pub const AND_OPERATOR: u8 = 1;
+
+pub const WHITESPACE_ANALYZER: u8 = 1;
+
+pub const SIMPLE_ANALYZER: u8 = 2;
+
+pub const KEYWORD_ANALYZER: u8 = 3;
+
+// ---- tags: queries
+
+pub const TERM_TAG: u8 = 0x01;
+
+pub const PHRASE_TAG: u8 = 0x02;
+
+pub const BOOLEAN_TAG: u8 = 0x03;
+
+pub const BOOST_TAG: u8 = 0x04;
+
+pub const CONSTANT_SCORE_TAG: u8 = 0x05;
+
+pub const MATCH_ALL_TAG: u8 = 0x06;
+
+pub const MATCH_NONE_TAG: u8 = 0x07;
+
+pub const WHOLE_RANGE_TAG: u8 = 0x08;
+
+pub const FLOAT_RANGE_TAG: u8 = 0x09;
+
+// ---- tags: what queries and entries hold
+
+pub const FIELD_TAG: u8 = 0x10;
+
+pub const TEXT_TAG: u8 = 0x11;
+
+pub const WORD_TAG: u8 = 0x12;
+
+pub const MINIMUM_TAG: u8 = 0x13;
+
+pub const VALUE_TAG: u8 = 0x14;
+
+// ---- tags: clauses
+
+pub const MUST_TAG: u8 = 0x20;
+
+pub const SHOULD_TAG: u8 = 0x21;
+
+pub const MUST_NOT_TAG: u8 = 0x22;
+
+pub const FILTER_TAG: u8 = 0x23;
+
+// ---- tags: bounds
+
+pub const OPEN_TAG: u8 = 0x30;
+
+pub const INCLUDED_TAG: u8 = 0x31;
+
+pub const EXCLUDED_TAG: u8 = 0x32;
+
+// ---- tags: lists
+
+pub const RECORD_TAG: u8 = 0x40;
+
+pub const PLACE_TAG: u8 = 0x41;
+
+pub const WHOLE_TAG: u8 = 0x44;
+
+pub const FLOAT_TAG: u8 = 0x45;
+
+// ---- kinds of token
+
+pub const END_KIND: u8 = 0;
+
+pub const TERM_KIND: u8 = 1;
+
+pub const QUOTED_KIND: u8 = 2;
+
+pub const COLON_KIND: u8 = 3;
+
+pub const PLUS_KIND: u8 = 4;
+
+pub const MINUS_KIND: u8 = 5;
+
+pub const NOT_KIND: u8 = 6;
+
+pub const AND_KIND: u8 = 7;
+
+pub const OR_KIND: u8 = 8;
+
+pub const OPEN_KIND: u8 = 9;
+
+pub const CLOSE_KIND: u8 = 10;
+
+pub const CARET_KIND: u8 = 11;
+
+pub const TILDE_KIND: u8 = 12;
+
+// ---- refusals
+
+pub const LONG_TEXT: u8 = 1;
+
+pub const NOT_ASCII: u8 = 2;
+
+pub const BAD_SETUP: u8 = 3;
+
+pub const OPEN_QUOTE: u8 = 4;
+
+pub const NOTHING_ESCAPED: u8 = 5;
+
+pub const RANGE_BRACKET: u8 = 6;
+
+pub const WILDCARD: u8 = 7;
+
+pub const FUZZY_TERM: u8 = 8;
+
+pub const SLOPPY_PHRASE: u8 = 9;
+
+pub const UNEXPECTED_END: u8 = 10;
+
+pub const UNEXPECTED_TOKEN: u8 = 11;
+
+pub const OPEN_BRACKET: u8 = 12;
+
+pub const BAD_NUMERAL: u8 = 13;
+
+pub const NO_NUMERAL: u8 = 14;
+
+pub const LONG_FIELD: u8 = 15;
+
+pub const MANY_BRACKETS: u8 = 16;
+
+pub const LONG_NUMERAL: u8 = 17;
+
+pub const LONG_ANSWER: u8 = 18;
+
+pub const LONG_QUERY: u8 = 19;
+
+pub const MALFORMED_QUERY: u8 = 20;
+
+pub const DEEP_QUERY: u8 = 21;
+
+pub const LONG_LIST: u8 = 22;
+
+pub const MALFORMED_LIST: u8 = 23;
+
+pub const SHORT_ROOM: u8 = 32;

@@ -1,0 +1,5 @@
+-- The laws of text: classes of bytes, the tokens that analyzers make, the tokens that lexing gives.
+pub mod Classes
+pub mod Pieces
+pub mod Tokens
+pub mod Tokenizing
