@@ -8,8 +8,20 @@
 #include <stdlib.h>
 #include <string.h>
 
-enum { DATE = 1, DIRECTORY = 2, VERSION = 4, JOBS = 8, REFUSALS = 16, NOBODY = 32, OUT = 64, UNFOLLOWED = 128, LAYOUT = 256,
-       KIND_OF_RECORD = 512, EVERY_MEMBER = 1023 };
+/* The members that a record must have. */
+enum {
+    DATE = 1,
+    DIRECTORY = 2,
+    VERSION = 4,
+    JOBS = 8,
+    REFUSALS = 16,
+    NOBODY = 32,
+    OUT = 64,
+    UNFOLLOWED = 128,
+    LAYOUT = 256,
+    KIND_OF_RECORD = 512,
+    EVERY_MEMBER = 1023
+};
 
 static void keep(char **place, char *text) {
     free(*place);

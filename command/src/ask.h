@@ -32,7 +32,9 @@ typedef struct {
     unsigned seen;    /* which members of the record were there */
 } inquiry;
 
-/* Looks for a path by its form. False where the text is no record of a night; all of it is read before anything is said. */
+/* Looks for a path by its form. False where the text is no record of a night; all of it is read before anything is
+ * said.
+ */
 int ask_record(const char *text, size_t length, const char *form, inquiry *q);
 
 void free_inquiry(inquiry *q);

@@ -1,6 +1,7 @@
 /* Catalogue lists: a record for each file, in as many lists of at most 64 KiB as it takes.
  *
- * A record holds these entries. Texts are made of the form of the path (names.h) in small letters, so that they are ASCII.
+ * A record holds these entries. Texts are made of the form of the path (names.h) in small letters, so that they are
+ * ASCII.
  *
  *     path   the words of the path, runs of letters, with their positions
  *     name   the file's name, whole

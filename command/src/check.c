@@ -1,5 +1,5 @@
-/* gorbihesh check SHEET DIRECTORY: each selector as it is read, clause by clause, with how many files each clause picks by
- * itself, and what looks like a mistake.
+/* gorbihesh check SHEET DIRECTORY: each selector as it is read, clause by clause, with how many files each clause
+ * picks by itself, and what looks like a mistake.
  */
 #include "look.h"
 #include "options.h"
@@ -38,8 +38,10 @@ static int only_leaves_out(part query) {
 
 static void point_at_clause(checker *c, const char *label, part query, size_t files) {
     if (label == idle) point_out(c, "changes nothing beside a clause that must be: brackets part them");
-    if (only_leaves_out(query)) point_out(c, "only leaves out, so it picks nothing: +all:files before it picks the rest");
-    else if (files == 0) point_out(c, label == not ? "leaves out nothing" : "picks nothing");
+    if (only_leaves_out(query))
+        point_out(c, "only leaves out, so it picks nothing: +all:files before it picks the rest");
+    else if (files == 0)
+        point_out(c, label == not ? "leaves out nothing" : "picks nothing");
 }
 
 /* A line for one query, counted by itself. */

@@ -1,5 +1,5 @@
-/* Reads JSON from beginning to end. The first thing that is no JSON ends the reading: every call then answers that there is
- * nothing more.
+/* Reads JSON from beginning to end. The first thing that is no JSON ends the reading: every call then answers that
+ * there is nothing more.
  */
 #ifndef JSON_READ_H
 #define JSON_READ_H

@@ -1,5 +1,5 @@
-/* Looks at the text of a selector for what is read otherwise than it looks: a word that is left out, a field that no file
- * has, a lower-case `and`, a sign before a blank, an empty bracket.
+/* Looks at the text of a selector for what is read otherwise than it looks: a word that is left out, a field that no
+ * file has, a lower-case `and`, a sign before a blank, an empty bracket.
  */
 #ifndef LOOK_H
 #define LOOK_H

@@ -1,8 +1,8 @@
 /* gorbihesh: the command. Reads its arguments and runs night, check or why. */
 #define _GNU_SOURCE /* getopt_long */
+#include "gorbihesh.h"
 #include "options.h"
 #include "status.h"
-#include "version.h"
 
 #include <errno.h>
 #include <getopt.h>

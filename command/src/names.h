@@ -1,8 +1,8 @@
 /* Names of files in ASCII. A name may hold any byte; its form is ASCII, and no two names have one form.
  *
- * In the form, the characters from blank to ~ stand for themselves. Every other byte is % and three octal digits, and so is
- * a % behind which three octal digits of a byte stand. `café 100%.txt` is `caf%303%251 100%.txt`. There are no letters in
- * what is escaped, so that the words of a form are those of the name.
+ * In the form, the characters from blank to ~ stand for themselves. Every other byte is % and three octal digits, and
+ * so is a % behind which three octal digits of a byte stand. `café 100%.txt` is `caf%303%251 100%.txt`. There are no
+ * letters in what is escaped, so that the words of a form are those of the name.
  *
  * The catalogue has the form in small letters. Printed, and in a record, a \ stands before each " and \ of the form.
  * So what is printed can be typed back between quotes: name:"caf%303%251 100%.txt".

@@ -6,7 +6,6 @@
 #include "memory.h"
 #include "output.h"
 #include "status.h"
-#include "version.h"
 
 #include <inttypes.h>
 #include <stdlib.h>

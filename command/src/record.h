@@ -1,5 +1,5 @@
-/* The record of a night, which the restore desk reads a year later: JSON, one object. And the list of picked files for the
- * copy that follows. command/README.md says what each member of the record holds.
+/* The record of a night, which the restore desk reads a year later: JSON, one object. And the list of picked files for
+ * the copy that follows. command/README.md says what each member of the record holds.
  */
 #ifndef RECORD_H
 #define RECORD_H

@@ -19,8 +19,8 @@ void report_picks(const result *r);
 /* Files by name; the first few of them unless all are wanted. */
 void report_files(const site *s, const picks *p, int want_all);
 
-/* What is not in the catalogue: links and the like on stdout, the first few unless all are wanted; what could not be read
- * on stderr.
+/* What is not in the catalogue: links and the like on stdout, the first few unless all are wanted; what could not be
+ * read on stderr.
  */
 void report_left_out(const site *s, int want_all);
 

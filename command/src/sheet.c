@@ -60,8 +60,8 @@ static char *name_of_line(stretch line, const char *colon, char why[FAULT_MOST])
     if (strlen(name) != (size_t)(before.to - before.from) || !is_name(name))
         snprintf(why, FAULT_MOST, "a job's name before the colon has letters, digits, - and _ alone");
     else if (is_field(name))
-        snprintf(why, FAULT_MOST, "`%s` is a field of the catalogue: write a job's name and a colon before the selector",
-                 name);
+        snprintf(why, FAULT_MOST,
+                 "`%s` is a field of the catalogue: write a job's name and a colon before the selector", name);
     else
         return name;
     free(name);

@@ -1,5 +1,5 @@
-/* The job sheet: a line `name: selector` for each job. Blank lines and lines that begin with # are left out, and so is a
- * byte order mark. A name has letters, digits, - and _; it is no field of the catalogue, and no other job has it,
+/* The job sheet: a line `name: selector` for each job. Blank lines and lines that begin with # are left out, and so is
+ * a byte order mark. A name has letters, digits, - and _; it is no field of the catalogue, and no other job has it,
  * whatever its capitals.
  */
 #ifndef SHEET_H

@@ -1,5 +1,5 @@
-/* Where the words and signs of a selector stand in its text. For what check says about the text; what a selector means, and
- * picks, gorbihesh_parse alone decides.
+/* Where the words and signs of a selector stand in its text. For what check says about the text; what a selector
+ * means, and picks, gorbihesh_parse alone decides.
  */
 #ifndef TOKENS_H
 #define TOKENS_H

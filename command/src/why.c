@@ -1,4 +1,6 @@
-/* gorbihesh why RECORD PATH: which jobs of that night picked a file, or that none did, or why it was not in the catalogue. */
+/* gorbihesh why RECORD PATH: which jobs of that night picked a file, or that none did, or why it was not in the
+ * catalogue.
+ */
 #include "ask.h"
 #include "memory.h"
 #include "names.h"

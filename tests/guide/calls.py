@@ -64,13 +64,13 @@ def printed(words):
     return subprocess.run([PROGRAM, *words], capture_output=True, text=True).stdout
 
 
-def picks(selectors):
-    """The files of the sample site that the command picks for each selector, or its refusal."""
+def picks(selectors, site=SITE):
+    """The files of a site that the command picks for each selector, or its refusal."""
     with tempfile.TemporaryDirectory() as folder:
         sheet, record = f"{folder}/jobs", f"{folder}/record"
         with open(sheet, "w") as to:
             to.write("".join(f"job-{i}: {s}\n" for i, s in enumerate(selectors)))
-        subprocess.run([PROGRAM, "night", "--record", record, SITE, sheet], stdout=subprocess.DEVNULL)
+        subprocess.run([PROGRAM, "night", "--record", record, site, sheet], stdout=subprocess.DEVNULL)
         night = json.load(open(record))
     found = {job["name"]: sorted(f["path"] for f in job["picks"]) for job in night["jobs"]}
     found |= {job["name"]: job["refusal"] for job in night["refused"]}

@@ -1,6 +1,8 @@
 """Every table of docs/SELECTORS.md that shows a selector, beside the programs."""
+import os
 import re
 import shlex
+import tempfile
 
 import calls
 import forms
@@ -76,6 +78,15 @@ def equals():
     return differ("Picks the same as", list(zip(one, calls.picks(other), calls.picks(one))))
 
 
+def foreign():
+    """A name outside ASCII, and the selector that the page gives for it."""
+    name, selector = re.search(r"`([^`]*)` is asked for by\s+`([^`]*)`", text()).groups()
+    with tempfile.TemporaryDirectory() as site:
+        open(os.path.join(site, name), "w").close()
+        [files] = calls.picks([selector], site)
+    return differ("outside ASCII", [(selector, 1, len(files))])
+
+
 def analyzers():
     rows = pages.with_columns(text(), "Typed", "whitespace", "simple", "keyword")
     told = []
@@ -143,4 +154,4 @@ def pointed_out():
 
 
 def wrong(keep):
-    return printed(keep) + pointed_out() + site() + examples() + equals() + typed() + operators() + analyzers() + refusals() + lucene()
+    return printed(keep) + pointed_out() + site() + examples() + equals() + foreign() + typed() + operators() + analyzers() + refusals() + lucene()
