@@ -17,8 +17,8 @@ test: ## the gate: every proof from nothing, every run beside the Rust
 edits: ## wrong versions of the code, each of which the prover must refuse
 	tests/edits/run
 
-run: $(ARCHIVE) ## a first look, on a sample site
-	examples/night/run
+run: $(ARCHIVE) ## a first look: the command on a sample site
+	command/run
 
 bench: $(ARCHIVE) ## times beside Rust, room and stack
 	tests/rust/bench

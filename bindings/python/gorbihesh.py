@@ -261,11 +261,11 @@ _HEADER = 3  # the bytes of a part's header: its tag, and the length of its body
 class _Tag(IntEnum):
     FIELD = 0x10
     WORD = 0x12
-    NUMBER = 0x14
+    VALUE = 0x14
     RECORD = 0x40
-    WORD_ENTRY = 0x41
-    WHOLE_ENTRY = 0x44
-    FLOAT_ENTRY = 0x45
+    PLACE = 0x41
+    WHOLE = 0x44
+    FLOAT = 0x45
 
 
 def _part(tag: _Tag, body: bytes) -> bytes:
@@ -283,15 +283,15 @@ class Record:
         body = _bytes(word)
         if not body.isascii():
             raise Unfit("a word has a character outside plain ASCII")
-        return self._add(_Tag.WORD_ENTRY, field, _Tag.WORD, place.to_bytes(4, "big") + body)
+        return self._add(_Tag.PLACE, field, _Tag.WORD, place.to_bytes(4, "big") + body)
 
     def add_whole(self, field: Text, value: int) -> Record:
         """A whole number of a field, of 64 bits with its sign."""
-        return self._add(_Tag.WHOLE_ENTRY, field, _Tag.NUMBER, value.to_bytes(8, "big", signed=True))
+        return self._add(_Tag.WHOLE, field, _Tag.VALUE, value.to_bytes(8, "big", signed=True))
 
     def add_float(self, field: Text, value: float) -> Record:
         """A float of a field."""
-        return self._add(_Tag.FLOAT_ENTRY, field, _Tag.NUMBER, struct.pack(">d", value))
+        return self._add(_Tag.FLOAT, field, _Tag.VALUE, struct.pack(">d", value))
 
     def _add(self, tag: _Tag, field: Text, of: _Tag, body: bytes) -> Record:
         name = _bytes(field)
