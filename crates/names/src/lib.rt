@@ -133,6 +133,14 @@ pub const CARET_KIND: u8 = 11;
 
 pub const TILDE_KIND: u8 = 12;
 
+// ---- classes of bytes, as flags of the lexer's table
+
+pub const SPACE_CLASS: u8 = 1;
+
+pub const END_CLASS: u8 = 2;
+
+pub const LETTER_CLASS: u8 = 4;
+
 // ---- refusals
 
 pub const LONG_TEXT: u8 = 1;
