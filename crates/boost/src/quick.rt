@@ -5,6 +5,8 @@ ghost use Prim.Native.Nat.{_*_, _^_, _<_};
 ghost use Rattle.rules.specs.Numerals.{nearest};
 ghost use Rattle.boost.specs.Digits.{shortMost};
 
+pub const POWERS: u32 = 8;
+
 const TENS: [u32; 8] = [1, 10, 100, 1000, 10000, 100000, 1000000, 10000000];
 
 fn ten(n: u32) -> u32

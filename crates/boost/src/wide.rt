@@ -4,6 +4,12 @@ ghost use mathlib.Core.Path.{_≡_};
 ghost use Prim.Native.Nat.{_*_, _^_, _<_};
 ghost use lib.Ieee.Nearest.{closest};
 ghost use Rattle.rules.specs.Numerals.{nearest};
+use names::EXPONENT_STEP;
+
+// Powers of ten below 10^12, and fewer than 18 digits.
+pub const POWERS: u32 = 12;
+
+pub const DIGITS: usize = 18;
 
 const TENS: [u64; 12] = [
     1,
@@ -61,5 +67,5 @@ pub fn quotient(d: u64, n: u32) -> u32
     let w = m / t;
     let y = u64::leading_zeros(w);
     let q = rounded(m, t << (40 - y));
-    (190 - z - y) * 0x80_0000 + (q as u32)
+    (190 - z - y) * EXPONENT_STEP + (q as u32)
 }
