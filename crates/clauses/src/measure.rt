@@ -12,6 +12,24 @@ use crate::start::one_at;
 use boost::numeral::fault;
 use counted::Counted;
 use counted::query_len;
+use names::BOOST_FRONT;
+use names::BRACKETS_MOST;
+use names::CARET_KIND;
+use names::CLOSE_KIND;
+use names::END_KIND;
+use names::FUZZY_TERM;
+use names::LONG_FIELD;
+use names::MANY_BRACKETS;
+use names::NO_NUMERAL;
+use names::NO_TAG;
+use names::OPEN_BRACKET;
+use names::OPEN_KIND;
+use names::QUOTED_KIND;
+use names::SLOPPY_PHRASE;
+use names::TERM_KIND;
+use names::TILDE_KIND;
+use names::UNEXPECTED_END;
+use names::UNEXPECTED_TOKEN;
 use row::field_part;
 use row::kind_at;
 use row::text_at;
@@ -35,7 +53,7 @@ fn boosted_len(len: usize) -> usize
     if len == 0 {
         return 0;
     }
-    7 + len
+    BOOST_FRONT + len
 }
 
 // A boost may follow at i what has `len` bytes.
@@ -44,8 +62,8 @@ fn with_boost(room: &[u8], n: usize, len: usize, i: usize) -> Measured
     ensures means { λ r. ⌜ ((st : Setup) (m : Made) → len ≡ madeLength m → MeansFound r (boostAt st (tokensOf (now (room .entry)) n) m i)) ⌝ }
     ensures within { λ r. ⌜ WithinBoost (tokensOf (now (room .entry)) n) n i len r ⌝ }
 {
-    if is_at(room, n, 11, i) {
-        if is_at(room, n, 1, i + 1) {
+    if is_at(room, n, CARET_KIND, i) {
+        if is_at(room, n, TERM_KIND, i + 1) {
             let e = fault(text_at(room, i + 1));
             if e != 0 {
                 return Measured::Refused(e);
@@ -55,7 +73,7 @@ fn with_boost(room: &[u8], n: usize, len: usize, i: usize) -> Measured
                 next: i + 2,
             };
         }
-        return Measured::Refused(14);
+        return Measured::Refused(NO_NUMERAL);
     }
     Measured::Clause { len: len, next: i }
 }
@@ -65,9 +83,9 @@ fn leaf_fault(plain: bool) -> u8
     ensures { λ r. ⌜ r ≡ number (leafFault plain) ⌝ }
 {
     if plain {
-        return 8;
+        return FUZZY_TERM;
     }
-    9
+    SLOPPY_PHRASE
 }
 
 // The term or the quote at i, in the field in force.
@@ -84,14 +102,14 @@ fn measure_leaf<'a>(
     ensures means { λ r. ⌜ ((st : Setup) (o : ℕ) → Tuned st o (now (room .entry)) n (now (default .entry)) from analyzer → MeansFound r (leafAt plain st (tokensOf (now (room .entry)) n) (nameFrom (now (room .entry)) (now (default .entry)) from) i)) ⌝ }
     ensures within { λ r. ⌜ WithinClause (tokensOf (now (room .entry)) n) n i r ⌝ }
 {
-    if is_at(room, n, 12, i + 1) {
+    if is_at(room, n, TILDE_KIND, i + 1) {
         return Measured::Refused(leaf_fault(plain));
     }
     let field = field_part(room, default, from);
     let text = text_at(room, i);
     let one = one_at(room, n, i, analyzer);
     let len = leaf_len(plain, one, text, analyzer, field.len());
-    if is_at(room, n, 11, i + 1) {
+    if is_at(room, n, CARET_KIND, i + 1) {
         return with_boost(room, n, len, i + 1);
     }
     Measured::Clause {
@@ -114,10 +132,10 @@ fn closing(room: &[u8], n: usize, g: Counted) -> Measured
             bytes,
             next,
         } => {
-            if is_at(room, n, 10, next) {
+            if is_at(room, n, CLOSE_KIND, next) {
                 return with_boost(room, n, query_len(count, tag, bytes), next + 1);
             }
-            Measured::Refused(12)
+            Measured::Refused(OPEN_BRACKET)
         }
     }
 }
@@ -138,14 +156,14 @@ fn measure_clause<'a>(
     ensures within { λ r. ⌜ WithinClause (tokensOf (now (room .entry)) n) n i r ⌝ }
 {
     match clause_start(room, n, from, analyzer, i) {
-        Start::Long => Measured::Refused(15),
+        Start::Long => Measured::Refused(LONG_FIELD),
         Start::At { from, analyzer, i } => {
             let t = kind_at(room, n, i);
-            if t == 1 || t == 2 {
-                return measure_leaf(room, n, default, from, analyzer, t == 1, i);
+            if t == TERM_KIND || t == QUOTED_KIND {
+                return measure_leaf(room, n, default, from, analyzer, t == TERM_KIND, i);
             }
-            if t == 9 {
-                if depth < 24 {
+            if t == OPEN_KIND {
+                if depth < BRACKETS_MOST {
                     let g = measure_query(
                         room,
                         n,
@@ -158,12 +176,12 @@ fn measure_clause<'a>(
                     );
                     return closing(room, n, g);
                 }
-                return Measured::Refused(16);
+                return Measured::Refused(MANY_BRACKETS);
             }
-            if t == 0 {
-                return Measured::Refused(10);
+            if t == END_KIND {
+                return Measured::Refused(UNEXPECTED_END);
             }
-            Measured::Refused(11)
+            Measured::Refused(UNEXPECTED_TOKEN)
         }
     }
 }
@@ -186,7 +204,7 @@ pub fn measure_query<'a>(
     let mut i = at;
     let mut s = Sum {
         count: 0,
-        tag: 0,
+        tag: NO_TAG,
         bytes: 0,
     };
     while kinds::more_at(room, n, i) {

@@ -1,5 +1,5 @@
 // The writing pass, run only when measuring met no fault and the output is long enough. The body of a clause is written
-// first, behind three bytes that are left for its header, and the header afterwards, when its length is known. Only a query in brackets
+// first, behind the bytes that are left for its header, and the header afterwards, when its length is known. Only a query in brackets
 // is measured once more: whether it stands alone must be known first, and it is lent the stretch that it fills exactly.
 use crate::kinds;
 use crate::kinds::is_at;
@@ -13,6 +13,14 @@ use boost::numeral::numeral;
 use counted::Counted;
 use counted::is_alone;
 use counted::query_len;
+use names::BOOLEAN_FRONT;
+use names::BOOLEAN_TAG;
+use names::BOOST_FRONT;
+use names::BOOST_TAG;
+use names::CARET_KIND;
+use names::HEADER;
+use names::OPEN_KIND;
+use names::TERM_KIND;
 use numbers::put_big4;
 use parts::write::put_header;
 use parts::write::put_minimum;
@@ -57,9 +65,9 @@ fn boost_size(room: &[u8], n: usize, i: usize) -> usize
     requires { ⌜ (n ≤ textMost) × (roomLeast ≤ length (now room)) × (i ≤ 4000) ⌝ }
     ensures { λ r. ⌜ r ≡ boostSize (tokensOf (now (room .entry)) n) i ⌝ }
 {
-    if is_at(room, n, 11, i) {
-        if is_at(room, n, 1, i + 1) {
-            return 7;
+    if is_at(room, n, CARET_KIND, i) {
+        if is_at(room, n, TERM_KIND, i + 1) {
+            return BOOST_FRONT;
         }
     }
     0
@@ -88,7 +96,7 @@ fn put_boost(
             next: i + 2,
         };
     }
-    let b = put_header(out, at, 0x04, end - at - 3);
+    let b = put_header(out, at, BOOST_TAG, end - at - HEADER);
     put_big4(out, b, bits_at(room, n, i + 1));
     Wrote {
         end: end,
@@ -137,8 +145,8 @@ fn put_query_front(out: &mut [u8], alone: bool) -> usize
     if alone {
         return 0;
     }
-    let len = out.len() - 3;
-    let b = put_header(out, 0, 0x03, len);
+    let len = out.len() - HEADER;
+    let b = put_header(out, 0, BOOLEAN_TAG, len);
     put_minimum(out, b, 0)
 }
 
@@ -150,7 +158,7 @@ fn body_start(alone: bool, at: usize) -> usize
     if alone {
         return at;
     }
-    at + 3
+    at + HEADER
 }
 
 // The conjunction c alters the kind of the clause that was kept last, whose header stands at `last`.
@@ -232,8 +240,8 @@ fn write_clause<'a>(
     match clause_start(room, n, from, analyzer, i) {
         Start::Long => Wrote { end: at, next: i },
         Start::At { from, analyzer, i } => {
-            if !is_at(room, n, 9, i) {
-                let plain = is_at(room, n, 1, i);
+            if !is_at(room, n, OPEN_KIND, i) {
+                let plain = is_at(room, n, TERM_KIND, i);
                 return write_leaf(
                     room,
                     n,
@@ -283,11 +291,11 @@ pub fn write_query<'a>(
     let mut last = 0;
     let mut i = at;
     while kinds::more_at(room, n, i) {
-        let c = kinds::conjunction_at(room, n, 8 < w, i);
+        let c = kinds::conjunction_at(room, n, BOOLEAN_FRONT < w, i);
         let j = kinds::after(c, i);
         let m = kinds::modifier_at(room, n, j);
         let k = kinds::after(m, j);
-        touch_last(out, 8 < w, last, operator, c);
+        touch_last(out, BOOLEAN_FRONT < w, last, operator, c);
         let start = body_start(alone, w);
         let r = write_clause(
             room,

@@ -8,6 +8,19 @@ use counted::is_alone;
 use counted::query_len;
 use fields::analyzer_among;
 use lexer::Lexed;
+use names::BAD_SETUP;
+use names::END_KIND;
+use names::ENTRIES_MOST;
+use names::FIELD_MOST;
+use names::HEADER;
+use names::LONG_ANSWER;
+use names::LONG_TEXT;
+use names::MATCH_NONE_TAG;
+use names::NOT_ASCII;
+use names::PARSE_ROOM;
+use names::SHORT_ROOM;
+use names::TEXT_MOST;
+use names::UNEXPECTED_TOKEN;
 use parts::write::put_header;
 use row::kind_at;
 use stretches::clear;
@@ -45,14 +58,14 @@ fn write_whole<'a>(
     ensures { λ r. ⌜ ((st : Setup) (cs : Clauses) (j : ℕ) → QueryToWrite (now (room .entry)) n (now (field .entry)) operator 0 analyzer 0 0 alone len st cs j → Delivers (got (orMatchNone (queryOf cs))) (now (out .entry)) r (now (out .exit))) ⌝ }
 {
     if len == 0 {
-        if out.len() < 3 {
-            return Parsed::Refused(18);
+        if out.len() < HEADER {
+            return Parsed::Refused(LONG_ANSWER);
         }
-        put_header(out, 0, 0x07, 0);
-        return Parsed::Bytes(3);
+        put_header(out, 0, MATCH_NONE_TAG, 0);
+        return Parsed::Bytes(HEADER);
     }
     if out.len() < len {
-        return Parsed::Refused(18);
+        return Parsed::Refused(LONG_ANSWER);
     }
     write_query(
         room,
@@ -89,7 +102,7 @@ fn parse_tokens<'a>(
             bytes,
             next,
         } => {
-            if kind_at(room, n, next) == 0 {
+            if kind_at(room, n, next) == END_KIND {
                 let len = query_len(count, tag, bytes);
                 return write_whole(
                     operator,
@@ -102,7 +115,7 @@ fn parse_tokens<'a>(
                     out,
                 );
             }
-            Parsed::Refused(11)
+            Parsed::Refused(UNEXPECTED_TOKEN)
         }
     }
 }
@@ -120,21 +133,21 @@ fn parse_text(
     requires { ⌜ roomLeast ≤ length (now room) ⌝ }
     ensures { λ r. ⌜ Delivers (andThen (readSetup operator analyzer (now (field .entry)) (now (fields .entry))) (λ st. parse st (now (text .entry)))) (now (out .entry)) r (now (out .exit)) ⌝ }
 {
-    let mut names = [[0u8; 32]; 8];
-    let mut lengths = [0u8; 8];
-    let mut analyzers = [0u8; 8];
+    let mut names = [[0u8; FIELD_MOST]; ENTRIES_MOST];
+    let mut lengths = [0u8; ENTRIES_MOST];
+    let mut analyzers = [0u8; ENTRIES_MOST];
     let count = setup::read_entries(fields, &mut names, &mut lengths, &mut analyzers);
-    if 8 < count {
-        return Parsed::Refused(3);
+    if ENTRIES_MOST < count {
+        return Parsed::Refused(BAD_SETUP);
     }
     if !setup::is_plain(operator, analyzer, field) {
-        return Parsed::Refused(3);
+        return Parsed::Refused(BAD_SETUP);
     }
-    if 1024 < text.len() {
-        return Parsed::Refused(1);
+    if TEXT_MOST < text.len() {
+        return Parsed::Refused(LONG_TEXT);
     }
     if !is_text(text) {
-        return Parsed::Refused(2);
+        return Parsed::Refused(NOT_ASCII);
     }
     match lexer::lex(text, room) {
         Lexed::Refused(e) => Parsed::Refused(e),
@@ -159,9 +172,9 @@ pub fn parse(
 ) -> Parsed
     ensures { λ r. ⌜ Parses operator analyzer (now (field .entry)) (now (fields .entry)) (now (text .entry)) (now (out .entry)) (now (room .entry)) (now (out .exit)) (now (room .exit)) r ⌝ }
 {
-    if room.len() < 5120 {
+    if room.len() < PARSE_ROOM {
         clear(room);
-        return Parsed::Refused(32);
+        return Parsed::Refused(SHORT_ROOM);
     }
     let p = parse_text(operator, analyzer, field, fields, text, out, room);
     clear(room);
