@@ -6,6 +6,7 @@ use crate::kinds::Measured;
 use crate::kinds::Sum;
 use crate::kinds::is_at;
 use crate::leaf::leaf_len;
+use crate::scope::Scope;
 use crate::start::Start;
 use crate::start::clause_start;
 use crate::start::one_at;
@@ -141,40 +142,29 @@ fn closing(room: &[u8], n: usize, g: Counted) -> Measured
 }
 
 // One clause at i, below `depth` open brackets.
-fn measure_clause<'a>(
-    room: &'a [u8],
-    n: usize,
-    default: &'a [u8],
-    operator: u8,
-    from: usize,
-    analyzer: u8,
-    depth: usize,
-    i: usize,
-) -> Measured
-    requires { ⌜ (Rowed (now room) n) × (Fielded (now room) n (now default) from) × (i ≤ 2000) × (depth ≤ 24) ⌝ }
-    ensures means { λ r. ⌜ ((st : Setup) → Tuned st operator (now (room .entry)) n (now (default .entry)) from analyzer → MeantClause st (tokensOf (now (room .entry)) n) n (nameFrom (now (room .entry)) (now (default .entry)) from) depth i r) ⌝ }
-    ensures within { λ r. ⌜ WithinClause (tokensOf (now (room .entry)) n) n i r ⌝ }
+fn measure_clause<'a>(room: &'a [u8], default: &'a [u8], p: Scope, i: usize) -> Measured
+    requires { ⌜ (Rowed (now room) (p .n)) × (Fielded (now room) (p .n) (now default) (p .from)) × (i ≤ 2000) × (p .depth ≤ 24) ⌝ }
+    ensures means { λ r. ⌜ ((st : Setup) → Tuned st (p .operator) (now (room .entry)) (p .n) (now (default .entry)) (p .from) (p .analyzer) → MeantClause st (tokensOf (now (room .entry)) (p .n)) (p .n) (nameFrom (now (room .entry)) (now (default .entry)) (p .from)) (p .depth) i r) ⌝ }
+    ensures within { λ r. ⌜ WithinClause (tokensOf (now (room .entry)) (p .n)) (p .n) i r ⌝ }
 {
-    match clause_start(room, n, from, analyzer, i) {
+    match clause_start(room, p.n, p.from, p.analyzer, i) {
         Start::Long => Measured::Refused(LONG_FIELD),
         Start::At { from, analyzer, i } => {
-            let t = kind_at(room, n, i);
+            let t = kind_at(room, p.n, i);
             if t == TERM_KIND || t == QUOTED_KIND {
-                return measure_leaf(room, n, default, from, analyzer, t == TERM_KIND, i);
+                return measure_leaf(room, p.n, default, from, analyzer, t == TERM_KIND, i);
             }
             if t == OPEN_KIND {
-                if depth < BRACKETS_MOST {
-                    let g = measure_query(
-                        room,
-                        n,
-                        default,
-                        operator,
-                        from,
-                        analyzer,
-                        depth + 1,
-                        i + 1,
-                    );
-                    return closing(room, n, g);
+                if p.depth < BRACKETS_MOST {
+                    let q = Scope {
+                        operator: p.operator,
+                        n: p.n,
+                        from: from,
+                        analyzer: analyzer,
+                        depth: p.depth + 1,
+                    };
+                    let g = measure_query(room, default, q, i + 1);
+                    return closing(room, p.n, g);
                 }
                 return Measured::Refused(MANY_BRACKETS);
             }
@@ -187,19 +177,10 @@ fn measure_clause<'a>(
 }
 
 // The clauses from `at` on, up to a closing bracket or the end.
-pub fn measure_query<'a>(
-    room: &'a [u8],
-    n: usize,
-    default: &'a [u8],
-    operator: u8,
-    from: usize,
-    analyzer: u8,
-    depth: usize,
-    at: usize,
-) -> Counted
-    requires { ⌜ (Rowed (now room) n) × (Fielded (now room) n (now default) from) × (at ≤ n) × (depth ≤ 24) ⌝ }
-    ensures means { λ r. ⌜ ((st : Setup) → Tuned st operator (now (room .entry)) n (now (default .entry)) from analyzer → MeantClauses st (tokensOf (now (room .entry)) n) n (nameFrom (now (room .entry)) (now (default .entry)) from) depth at r) ⌝ }
-    ensures within { λ r. ⌜ WithinClauses (tokensOf (now (room .entry)) n) n at r ⌝ }
+pub fn measure_query<'a>(room: &'a [u8], default: &'a [u8], p: Scope, at: usize) -> Counted
+    requires { ⌜ (Rowed (now room) (p .n)) × (Fielded (now room) (p .n) (now default) (p .from)) × (at ≤ p .n) × (p .depth ≤ 24) ⌝ }
+    ensures means { λ r. ⌜ ((st : Setup) → Tuned st (p .operator) (now (room .entry)) (p .n) (now (default .entry)) (p .from) (p .analyzer) → MeantClauses st (tokensOf (now (room .entry)) (p .n)) (p .n) (nameFrom (now (room .entry)) (now (default .entry)) (p .from)) (p .depth) at r) ⌝ }
+    ensures within { λ r. ⌜ WithinClauses (tokensOf (now (room .entry)) (p .n)) (p .n) at r ⌝ }
 {
     let mut i = at;
     let mut s = Sum {
@@ -207,15 +188,15 @@ pub fn measure_query<'a>(
         tag: NO_TAG,
         bytes: 0,
     };
-    while kinds::more_at(room, n, i) {
-        let c = kinds::conjunction_at(room, n, 0 < s.count, i);
+    while kinds::more_at(room, p.n, i) {
+        let c = kinds::conjunction_at(room, p.n, 0 < s.count, i);
         let j = kinds::after(c, i);
-        let m = kinds::modifier_at(room, n, j);
+        let m = kinds::modifier_at(room, p.n, j);
         let k = kinds::after(m, j);
-        match measure_clause(room, n, default, operator, from, analyzer, depth, k) {
+        match measure_clause(room, default, p, k) {
             Measured::Refused(e) => return Counted::Fault(e),
             Measured::Clause { len, next } => {
-                s = kinds::added(s, operator, c, m, len);
+                s = kinds::added(s, p.operator, c, m, len);
                 i = next;
             }
         }
