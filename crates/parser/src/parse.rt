@@ -2,6 +2,7 @@
 // The first half measures, so that what does not fit is refused before a byte is written. The room ends all zeros in every case.
 use crate::setup;
 use clauses::measure::measure_query;
+use clauses::scope::Scope;
 use clauses::write::write_query;
 use counted::Counted;
 use counted::is_alone;
@@ -45,17 +46,15 @@ pub enum Parsed {
 
 // The query of kept clauses, which has `len` bytes, goes to the output, if it fits; where none is kept, `len` is 0.
 fn write_whole<'a>(
-    operator: u8,
-    analyzer: u8,
-    field: &'a [u8],
-    n: usize,
     room: &'a [u8],
+    field: &'a [u8],
+    p: Scope,
     alone: bool,
     len: usize,
     out: &mut [u8],
 ) -> Parsed
-    requires { ⌜ (Rowed (now room) n) × (Fielded (now room) n (now field) 0) × (len ≤ 65000) × ((st : Setup) × (cs : Clauses) × (j : ℕ) × QueryToWrite (now room) n (now field) operator 0 analyzer 0 0 alone len st cs j) ⌝ }
-    ensures { λ r. ⌜ ((st : Setup) (cs : Clauses) (j : ℕ) → QueryToWrite (now (room .entry)) n (now (field .entry)) operator 0 analyzer 0 0 alone len st cs j → Delivers (got (orMatchNone (queryOf cs))) (now (out .entry)) r (now (out .exit))) ⌝ }
+    requires { ⌜ (Rowed (now room) (p .n)) × (Fielded (now room) (p .n) (now field) (p .from)) × (len ≤ 65000) × ((st : Setup) × (cs : Clauses) × (j : ℕ) × QueryToWrite (now room) (p .n) (now field) (p .operator) (p .from) (p .analyzer) (p .depth) 0 alone len st cs j) × (p .depth ≤ 24) ⌝ }
+    ensures { λ r. ⌜ ((st : Setup) (cs : Clauses) (j : ℕ) → QueryToWrite (now (room .entry)) (p .n) (now (field .entry)) (p .operator) (p .from) (p .analyzer) (p .depth) 0 alone len st cs j → Delivers (got (orMatchNone (queryOf cs))) (now (out .entry)) r (now (out .exit))) ⌝ }
 {
     if len == 0 {
         if out.len() < HEADER {
@@ -67,18 +66,7 @@ fn write_whole<'a>(
     if out.len() < len {
         return Parsed::Refused(LONG_ANSWER);
     }
-    write_query(
-        room,
-        n,
-        field,
-        operator,
-        0,
-        analyzer,
-        0,
-        0,
-        alone,
-        &mut out[0..len],
-    );
+    write_query(room, field, p, 0, alone, &mut out[0..len]);
     Parsed::Bytes(len)
 }
 
@@ -94,7 +82,14 @@ fn parse_tokens<'a>(
     requires { ⌜ (Rowed (now room) n) × (length (now field) ≤ fieldMost) × ((st : Setup) × Tuned st operator (now room) n (now field) 0 analyzer × (st .field ≡ now field)) ⌝ }
     ensures { λ r. ⌜ ((st : Setup) → Tuned st operator (now (room .entry)) n (now (field .entry)) 0 analyzer → st .field ≡ now (field .entry) → Delivers (parseTokens st (tokensOf (now (room .entry)) n)) (now (out .entry)) r (now (out .exit))) ⌝ }
 {
-    match measure_query(room, n, field, operator, 0, analyzer, 0, 0) {
+    let p = Scope {
+        operator: operator,
+        n: n,
+        from: 0,
+        analyzer: analyzer,
+        depth: 0,
+    };
+    match measure_query(room, field, p, 0) {
         Counted::Fault(e) => Parsed::Refused(e),
         Counted::Clauses {
             count,
@@ -104,16 +99,7 @@ fn parse_tokens<'a>(
         } => {
             if kind_at(room, n, next) == END_KIND {
                 let len = query_len(count, tag, bytes);
-                return write_whole(
-                    operator,
-                    analyzer,
-                    field,
-                    n,
-                    room,
-                    is_alone(count, tag),
-                    len,
-                    out,
-                );
+                return write_whole(room, field, p, is_alone(count, tag), len, out);
             }
             Parsed::Refused(UNEXPECTED_TOKEN)
         }
