@@ -5,7 +5,9 @@ ghost use lib.ListN.{getD};
 ghost use Rattle.rules.specs.Analysis.{isLetter, isGap};
 ghost use Rattle.rules.specs.Analysis.{lower as lowered};
 
-// The classes of an ASCII byte, by the lexer's table. A constant is laid out anew wherever it is read, so a loop names the table once and lends it.
+pub mod table;
+
+// The classes of an ASCII byte, by a table. A constant is laid out anew wherever it is read, so a loop names the table once and lends it.
 pub fn class_at(table: &[u8; 128], c: u8) -> u8
     requires { ⌜ c < 128 ⌝ }
     ensures { λ r. ⌜ r ≡ getD (now (table .entry)) c 0 ⌝ }

@@ -1,7 +1,11 @@
-// The lexer's table: each ASCII byte's classes, as flags.
+// The table of classes: each ASCII byte's, as flags. The lexer reads it, and the analyzers of words.
+use names::DIGIT_CLASS;
 use names::END_CLASS;
 use names::LETTER_CLASS;
+use names::MID_LETTERS_CLASS;
+use names::MID_NUMBERS_CLASS;
 use names::SPACE_CLASS;
+use names::UNDERSCORE_CLASS;
 
 pub const CLASSES: [u8; 128] = [
     0,
@@ -32,10 +36,10 @@ pub const CLASSES: [u8; 128] = [
     0,
     0,
     0,
-    0, // 1c
-    0, // 1d
-    0, // 1e
-    0, // 1f
+    0,
+    0,
+    0,
+    0,
     SPACE_CLASS + END_CLASS, // 20
     END_CLASS, // !
     END_CLASS, // "
@@ -43,27 +47,27 @@ pub const CLASSES: [u8; 128] = [
     0,
     0,
     0,
-    0,
+    MID_LETTERS_CLASS + MID_NUMBERS_CLASS, // '
     END_CLASS, // (
     END_CLASS, // )
     END_CLASS, // *
     0,
+    MID_NUMBERS_CLASS, // ,
     0,
+    MID_LETTERS_CLASS + MID_NUMBERS_CLASS, // .
     0,
-    0,
-    0,
-    0,
-    0,
-    0,
-    0,
-    0,
-    0,
-    0,
-    0,
-    0,
-    0,
-    END_CLASS, // :
-    0,
+    DIGIT_CLASS, // 0
+    DIGIT_CLASS, // 1
+    DIGIT_CLASS, // 2
+    DIGIT_CLASS, // 3
+    DIGIT_CLASS, // 4
+    DIGIT_CLASS, // 5
+    DIGIT_CLASS, // 6
+    DIGIT_CLASS, // 7
+    DIGIT_CLASS, // 8
+    DIGIT_CLASS, // 9
+    END_CLASS + MID_LETTERS_CLASS, // :
+    MID_NUMBERS_CLASS, // ;
     0,
     0,
     0,
@@ -99,7 +103,7 @@ pub const CLASSES: [u8; 128] = [
     0,
     END_CLASS, // ]
     END_CLASS, // ^
-    0,
+    UNDERSCORE_CLASS, // _
     0,
     LETTER_CLASS, // a
     LETTER_CLASS, // b
