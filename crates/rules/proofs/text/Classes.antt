@@ -102,8 +102,18 @@ module _ (c : ℕ) (h : 128 ≤ c) where
   unfolding wordBreak ascii
   no-value =
       rw (
-      ne-eqb c 0x0d (λ e. omega arith), ne-eqb c 0x0a (λ e. omega arith), above 0x0b 0x0c c (omega arith), ne-eqb c 0x20 (λ e. omega arith), no-letter, no-digit,
-      not-one 0x5f refl, not-one 0x3a refl, none-of c (0x2c ∷ 0x3b ∷ []) h two-below, not-one 0x2e refl, not-one 0x27 refl)
+        ne-eqb c 0x0d (λ e. omega arith),
+        ne-eqb c 0x0a (λ e. omega arith),
+        above 0x0b 0x0c c (omega arith),
+        ne-eqb c 0x20 (λ e. omega arith),
+        no-letter,
+        no-digit,
+        not-one 0x5f refl,
+        not-one 0x3a refl,
+        none-of c (0x2c ∷ 0x3b ∷ []) h two-below,
+        not-one 0x2e refl,
+        not-one 0x27 refl,
+      )
 
   pub class-beyond : classOf c ≡ 0
   unfolding classOf
