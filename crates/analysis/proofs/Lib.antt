@@ -1,7 +1,7 @@
 pub mod Spans
 pub mod Steps
 pub mod Chunks
-pub mod Walks
-pub mod Words
 pub mod Spelling
+pub mod OneToken
+pub mod Keeping
 pub mod Only

@@ -8,7 +8,7 @@ use lib.ListN.{length, length-map}
 use Rattle.rules.specs.Bytes.{isText}
 use Rattle.rules.specs.Analysis.{lower, lowercase}
 use Rattle.rules.proofs.text.Tokens.{lowercase-text}
-use Rattle.analysis.specs.Tokens.{spelled, writtenByte}
+use Rattle.analysis.specs.Tokens.{lowers, spelled, writtenByte}
 
 as-it-is : (t : List ℕ) → t ≡ map (λ c. c) t
 as-it-is [] = refl
@@ -17,7 +17,7 @@ as-it-is (c ∷ t) = ap (λ (u : List ℕ). c ∷ u) (as-it-is t)
 module _ (a : ℕ) (t : List ℕ) where
   pub spelled-bytes : spelled a t ≡ map (writtenByte a) t
   unfolding spelled writtenByte
-  spelled-bytes = pass (eqb a 2)
+  spelled-bytes = pass (lowers a)
     where
       pass : (b : Bool) → cond b (lowercase t) t ≡ map (λ c. cond b (lower c) c) t
       pass true = refl
@@ -28,7 +28,7 @@ module _ (a : ℕ) (t : List ℕ) where
 
   pub spelled-text : isText t ≡ true → isText (spelled a t) ≡ true
   unfolding spelled
-  spelled-text h = pass (eqb a 2)
+  spelled-text h = pass (lowers a)
     where
       pass : (b : Bool) → isText (cond b (lowercase t) t) ≡ true
       pass true = lowercase-text t h

@@ -21,7 +21,7 @@ use Rattle.rules.proofs.text.Pieces.{by-test, all-nil, all-cons, all-on
 use Rattle.rules.proofs.text.Classes.{isPlain, letter-value, digit-value}
 use Rattle.rules.proofs.text.Values.{inner-joins, outer-joins, over-joins, bridge-joins, bridge-far, past-joins}
 
-by-less : {A : Type 0} (i n : ℕ) → (i < n → A) → (n ≤ i → A) → A
+pub by-less : {A : Type 0} (i n : ℕ) → (i < n → A) → (n ≤ i → A) → A
 by-less {A} i n f g = pass (decLt i n)
   where
     pass : Dec (i < n) → A
@@ -422,6 +422,18 @@ module _ (s : List ℕ) where
       start-not at w
       ∙ skip-to (seekIn s (length s)) seek-leap (start - at) at start (omega arith) j l f
       ∙ sym (start-not start (within-not start j))
+
+  seek-low : (n i : ℕ) → i ≤ seekIn s n i
+  unfolding seekIn
+  seek-low zero i = omega arith
+  seek-low (suc n) i =
+      by-test (leb (length s) i || some isAlphanumeric (wordAt s i)) (λ e. rw (seek-here (suc n) i e) (omega arith))
+      (λ e. rw (seek-on n i e) (omega (arith, seek-low n (reach s (suc i)), reach-least (suc i))))
+
+  pub start-least : (at : ℕ) → at ≤ tokenStart s at
+  start-least at =
+      by-test (isWithin s at) (λ e. rw (start-within at e) (omega arith))
+      (λ e. rw (start-not at e) (omega (arith, seek-low (length s) (reach s at), reach-least at)))
 
   -- ---- a word found
 
