@@ -5,3 +5,6 @@ pub mod Spelling
 pub mod OneToken
 pub mod Keeping
 pub mod Only
+pub mod Bridges
+pub mod Seeking
+pub mod Packing

@@ -3,7 +3,7 @@
 use mathlib.Core.Path.{_≡_, refl, sym, ap, subst, fun-ext, _∙_}
 use mathlib.Core.Bool.{Bool, true, false, cond}
 use mathlib.Core.List.{List, [], _∷_, _++_, map, append-assoc}
-use Prim.Native.Nat.{ℕ, _+_, _-_, _≤_, _<_}
+use Prim.Native.Nat.{ℕ, suc, _+_, _-_, _≤_, _<_, min}
 use native.Mathlib.Decide.{ℕ-discrete}
 use native.Mathlib.Omega.{arith}
 use lib.ListN.{length, take, drop, length-take, length-drop, take-append-drop, drop-of-length-le}
@@ -12,9 +12,10 @@ use lib.Dec.{eqb}
 use borrow.Author.Tests.{ne-eqb}
 use Rattle.rules.specs.Numbers.{chunkMost}
 use Rattle.rules.specs.Analysis.{front, after, isLetter, lowercase, isWords, tokenTexts}
+use Rattle.rules.specs.Words.{reach}
 use Rattle.rules.specs.InWords.{tokenStart, piecesFrom}
 use Rattle.rules.proofs.Bools.{or-r, cond-yes, cond-no}
-use Rattle.rules.proofs.text.Pieces.{by-test, by-list, outside, front-nil, front-yes, front-no, front-after, front-most, after-is, first-length}
+use Rattle.rules.proofs.text.Pieces.{by-test, by-list, outside, front-nil, front-yes, front-no, front-after, front-most, front-is, after-is, first-length}
 use Rattle.rules.proofs.text.Tokens.{inWord, whitespace-none, whitespace-step, simple-none, simple-step, keyword-none, keyword-step, words-is}
 use Rattle.rules.proofs.text.Words.{start-end, start-least, pieces-first, pieces-end}
 use Rattle.analysis.specs.Tokens.{inside, firstOf, startFrom, textFrom, spelled, wordText, startOf, foundText, restTexts, FoundWord, Found}
@@ -235,3 +236,26 @@ rest-first a s = by-test (isWords a) (λ x. word-rest a s x 0 ∙ ap (map lowerc
 pub starts-onward : (a : ℕ) (s : List ℕ) (at : ℕ) → at ≤ startOf a s at
 starts-onward a s at =
     by-test (isWords a) (λ x. rw (word-start a s x at) (start-least s at)) (λ x. rw (run-start a s x at) (start-onward (inside a) s at))
+
+-- ---- its text is a part of the text
+
+taken : (n : ℕ) (l : List ℕ) → take (length (take n l)) l ≡ take n l
+taken n l = let w = take-append-seam (take n l) (drop n l) in rw (take-append-drop n l) at w
+
+first-part : (P : ℕ → Bool) (a : ℕ) (t : List ℕ) → firstOf a (front P t) ≡ take (length (firstOf a (front P t))) t
+unfolding firstOf
+first-part P a t = pass (eqb a 1) (eqb a 2)
+  where
+    pass : (b c : Bool) →
+        cond b (take chunkMost (front P t)) (cond c (take chunkMost (front P t)) (front P t))
+        ≡ take (length (cond b (take chunkMost (front P t)) (cond c (take chunkMost (front P t)) (front P t)))) t
+    pass true c = sym (part-is P chunkMost t)
+    pass false true = sym (part-is P chunkMost t)
+    pass false false = front-is P t
+
+pub text-part : (a : ℕ) (s : List ℕ) (at : ℕ) → foundText a s at ≡ take (length (foundText a s at)) (drop (startOf a s at) s)
+unfolding wordText textFrom
+text-part a s at =
+    by-test (isWords a)
+    (λ x. rw (word-text a s x at, word-start a s x at) (sym (taken (min chunkMost (reach s (suc (tokenStart s at)) - tokenStart s at)) (drop (tokenStart s at) s))))
+    (λ x. rw (run-text a s x at, run-start a s x at) (first-part (inside a) a (drop (startFrom (inside a) s at) s)))

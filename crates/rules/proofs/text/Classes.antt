@@ -1,6 +1,6 @@
 -- The class table's rule, by one test over all its entries, and what each flag says. Assumes nothing.
 use mathlib.Core.Path.{_≡_, refl, sym, _∙_, subst}
-use mathlib.Core.Bool.{Bool, true, false, _&&_, _||_, and-eq-true-iff}
+use mathlib.Core.Bool.{Bool, true, false, not, _&&_, _||_, and-eq-true-iff}
 use mathlib.Core.List.{List, [], _∷_}
 use Prim.Native.Nat.{ℕ, zero, suc, _+_, _/_, _%_, _≤_, _<_}
 use native.Mathlib.Nat.{add-zero, zero-add, add-suc, suc-add, le-of-suc-le-suc, not-suc-le-zero}
@@ -196,6 +196,9 @@ module _ (c : ℕ) where
 
   pub numbers-flag : eqb (classOf c / 8 % 2) 1 ≡ isMidNumbers (wordBreak c)
   numbers-flag = flag-law (λ x. eqb (x / 8 % 2) 1) (λ s e m n u d l. n) tt
+
+  pub joins-flag : eqb (classOf c / 4 % 4) 0 ≡ not (isMidLetters (wordBreak c) || isMidNumbers (wordBreak c))
+  joins-flag = flag-law (λ x. eqb (x / 4 % 4) 0) (λ s e m n u d l. not (m || n)) tt
 
   -- the higher ones are told by comparison
   pub plain-flag : leb 16 (classOf c) ≡ isPlain c

@@ -8,7 +8,7 @@ use native.Mathlib.Nat.{le-of-suc-le-suc, not-suc-le-zero}
 use native.Mathlib.Omega.{arith}
 use lib.Dec.{T}
 use lib.ListN.{length, getD}
-use Rattle.rules.specs.Words.{WordBreak, outside, cr, lf, newline, wSegSpace, aLetter, numeric, extendNumLet, midLetter, midNum, midNumLet, singleQuote, other, code, is, joins}
+use Rattle.rules.specs.Words.{WordBreak, outside, cr, lf, newline, wSegSpace, aLetter, numeric, extendNumLet, midLetter, midNum, midNumLet, singleQuote, other, code, is, isMidLetters, isMidNumbers, joins}
 use Rattle.rules.specs.InWords.{isSolid, isInner, bridged}
 use Rattle.rules.proofs.text.Classes.{both-left, both-right, sameFlag, same-flag}
 
@@ -149,3 +149,34 @@ over-test = tt
 pub over-joins : (a b c d : WordBreak) → bridged a b c ≡ true → joins a b c d ≡ true
 over-joins a b c d e =
     same-flag _ _ (of-given (bridged a b c) _ (of-four (λ a b c d. given (bridged a b c) (sameFlag (joins a b c d) true)) over-test a b c d) e)
+
+-- a letter or a digit first
+by-test : T (everyFour (λ z a b c. sameFlag (cond (is a aLetter) (is c aLetter && isMidLetters b) (isSolid a && (isSolid c && (not (is c aLetter) && isMidNumbers b)))) (bridged a b c)))
+unfolding bridged
+by-test = tt
+
+pub bridged-by : (a b c : WordBreak) → cond (is a aLetter) (is c aLetter && isMidLetters b) (isSolid a && (isSolid c && (not (is c aLetter) && isMidNumbers b))) ≡ bridged a b c
+bridged-by a b c =
+    same-flag _ _ (of-four (λ z a b c. sameFlag (cond (is a aLetter) (is c aLetter && isMidLetters b) (isSolid a && (isSolid c && (not (is c aLetter) && isMidNumbers b)))) (bridged a b c)) by-test other a b c)
+
+-- what joins nothing, and what stands beside nothing
+idle-test : T (everyFour (λ z a b c. given (not (isMidLetters b || isMidNumbers b)) (sameFlag (bridged a b c) false)))
+unfolding bridged
+idle-test = tt
+
+pub nothing-bridged : (a b c : WordBreak) → isMidLetters b || isMidNumbers b ≡ false → bridged a b c ≡ false
+nothing-bridged a b c e =
+    same-flag _ _ (of-given (not (isMidLetters b || isMidNumbers b)) _ (of-four (λ z a b c. given (not (isMidLetters b || isMidNumbers b)) (sameFlag (bridged a b c) false)) idle-test other a b c) (rw e))
+
+edge-test : T (everyFour (λ z a b c. sameFlag (bridged outside b c) false && sameFlag (bridged a b outside) false))
+unfolding bridged
+edge-test = tt
+
+edges : (a b c : WordBreak) → T (sameFlag (bridged outside b c) false && sameFlag (bridged a b outside) false)
+edges a b c = of-four (λ z a b c. sameFlag (bridged outside b c) false && sameFlag (bridged a b outside) false) edge-test other a b c
+
+pub no-first : (b c : WordBreak) → bridged outside b c ≡ false
+no-first b c = same-flag _ _ (both-left (sameFlag (bridged outside b c) false) (sameFlag (bridged other b outside) false) (edges other b c))
+
+pub no-last : (a b : WordBreak) → bridged a b outside ≡ false
+no-last a b = same-flag _ _ (both-right (sameFlag (bridged outside b other) false) (sameFlag (bridged a b outside) false) (edges a b other))

@@ -286,7 +286,7 @@ module _ (s : List ℕ) where
       (isWithin s at ≡ true)
       ⊎ ((joined s at ≡ false) × (at < length s) × (some isAlphanumeric (wordAt s at) ≡ true) × (isInner (valueAt s (suc (suc at))) ≡ true))
 
-  begins-way : (at : ℕ) → Begins at → OnWay (suc at)
+  pub begins-way : (at : ℕ) → Begins at → OnWay (suc at)
   unfolding isWithin
   begins-way at b =
       ⊎-elim
@@ -395,7 +395,7 @@ module _ (s : List ℕ) where
   seek-leap i h e =
       seek-enough (length s) (suc (length s)) i (omega arith) (omega arith) ∙ seek-on (length s) i (neither (lt-leb (length s) i h) e)
 
-  start-within : (at : ℕ) → isWithin s at ≡ true → tokenStart s at ≡ at
+  pub start-within : (at : ℕ) → isWithin s at ≡ true → tokenStart s at ≡ at
   unfolding tokenStart
   start-within at e = ap (λ (b : Bool). cond b at (seekIn s (length s) (reach s at))) e
 
