@@ -7,14 +7,11 @@ ghost use Rattle.boost.specs.Digits.{shortMost};
 
 pub const POWERS: u32 = 8;
 
-const TENS: [u32; 8] = [1, 10, 100, 1000, 10000, 100000, 1000000, 10000000];
-
 fn ten(n: u32) -> u32
     requires { ⌜ n < 8 ⌝ }
     ensures { λ r. ⌜ r ≡ 10 ^ n ⌝ }
 {
-    let k = n as usize;
-    TENS[k]
+    crate::powers::ten(n) as u32
 }
 
 // The pattern nearest to d / 10^n.

@@ -1,7 +1,7 @@
 // `rewrite_and_select` for programs in other languages: for tests alone, which link this crate's archive.
 use rewritten_selection::rewrite_and_select;
 ghost use mathlib.Core.Path.{_≡_};
-ghost use Rattle.rewritten_selection.specs.Choice.{left, choiceLeft, Demanded};
+ghost use Rattle.rewritten_selection.specs.Choice.{left, choiceLeft};
 
 // The refusal's number or 0, the records chosen, the rounds made.
 #[repr(C)]
@@ -19,10 +19,7 @@ pub extern "C" fn probe_rewrite_and_select(
     held: &mut [u8],
     room: &mut [u8],
 ) -> Answer
-    ensures answer { λ r. ⌜ left (r .refusal) (r .count) (r .rounds) (now (rows .exit)) (now (held .exit)) (now (room .exit))
-        ≡ choiceLeft (now (query .entry)) (now (list .entry)) (now (rows .entry)) (now (held .entry)) (now (room .entry)) ⌝ }
-    ensures demand { λ r. ⌜ Demanded (now (query .entry)) (now (list .entry)) (now (rows .entry)) (now (held .entry)) (now (room .entry))
-        (r .refusal) (r .count) (r .rounds) (now (rows .exit)) ⌝ }
+    ensures { λ r. ⌜ left (r .refusal) (r .count) (r .rounds) (now (rows .exit)) (now (held .exit)) (now (room .exit)) ≡ choiceLeft (now (query .entry)) (now (list .entry)) (now (rows .entry)) (now (held .entry)) (now (room .entry)) ⌝ }
 {
     let c = rewrite_and_select(query, list, rows, held, room);
     Answer {

@@ -1,6 +1,5 @@
 -- `vectors::line::pair` meets its contract.
 use Rattle.vectors.specs.Line.{pairAt}
-use native.Mathlib.Omega.{arith}
 use borrow.Author.Needs.{needs}
 use Rattle.vectors.proofs.line.pair.Statement.{statement}
 use Rattle.vectors.proofs.line.pair.Tie as tie

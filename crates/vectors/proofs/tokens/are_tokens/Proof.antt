@@ -1,7 +1,6 @@
 -- `vectors::tokens::are_tokens` is safe and ends. The loop's invariant: what was passed lies within the text and the row.
 use Prim.Native.Nat.{_-_, _≤_}
 use lib.ListN.{length}
-use native.Mathlib.Omega.{arith}
 use borrow.Author.Needs.{needs}
 use Rattle.vectors.proofs.tokens.are_tokens.Statement.{statement}
 use Rattle.vectors.proofs.tokens.are_tokens.Tie as tie

@@ -1,8 +1,8 @@
--- `boost::wide::ten` meets its contract. Assumes nothing.
-use Rattle.boost.proofs.Medium.{ten-at}
+-- `boost::powers::ten` meets its contract. Assumes nothing.
+use Rattle.boost.proofs.Tens.{ten-at}
 use borrow.Author.Needs.{needs}
-use Rattle.boost.proofs.wide.ten.Statement.{statement}
-use Rattle.boost.proofs.wide.ten.Tie as tie
+use Rattle.boost.proofs.powers.ten.Statement.{statement}
+use Rattle.boost.proofs.powers.ten.Tie as tie
 
 mul-result : tie.Need-mul-result
 mul-result c = search needs
