@@ -362,9 +362,7 @@ fn rows(s: &[u8], first: usize, sound: u8) -> u8
         if at < end {
             match step(&s[at..end], left) {
                 Next::Fault(r) => return r,
-                Next::Past(k) => {
-                    at = at + k;
-                }
+                Next::Past(k) => at = at + k,
                 Next::Into(a, e, l) => {
                     ends[n] = end as u16;
                     lefts[n] = left as u8;
@@ -381,10 +379,9 @@ fn rows(s: &[u8], first: usize, sound: u8) -> u8
                     left = l;
                 }
             }
+        } else if n == 0 {
+            return good;
         } else {
-            if n == 0 {
-                return good;
-            }
             n = n - 1;
             end = ends[n] as usize;
             left = lefts[n] as usize;
