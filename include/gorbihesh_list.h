@@ -76,10 +76,10 @@ static inline void gorbihesh_list_put_header(gorbihesh_list *l, int tag, size_t 
     gorbihesh_list_put_number(l, length, 2);
 }
 
-/* The first fault stays. */
+/* Spoils the record. A record is asked whether it is spoiled before anything else, so that its first fault stays. */
 static inline int gorbihesh_list_fault(gorbihesh_list *l, int answer) {
-    if (l->answer == GORBIHESH_LIST_DONE) l->answer = answer;
-    return l->answer;
+    l->answer = answer;
+    return answer;
 }
 
 static inline int gorbihesh_list_is_ascii(const void *text, size_t length) {
@@ -145,7 +145,6 @@ static inline int gorbihesh_list_word(gorbihesh_list *l, const char *field, size
     int answer;
     if (l->answer == GORBIHESH_LIST_DONE && !gorbihesh_list_is_ascii(text, text_length))
         return gorbihesh_list_fault(l, GORBIHESH_LIST_NOT_ASCII);
-    if (text_length > GORBIHESH_LIST_MOST) text_length = GORBIHESH_LIST_MOST; /* which has no place either */
     answer = gorbihesh_list_entry(l, GORBIHESH_LIST_WORD_ENTRY, field, field_length, front + text_length);
     if (answer != GORBIHESH_LIST_DONE) return answer;
     gorbihesh_list_put_header(l, GORBIHESH_LIST_PLACED, sizeof position + text_length);
