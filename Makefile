@@ -14,11 +14,11 @@ help: ## this list
 test: ## the gate: every proof from nothing, every run beside the Rust
 	.ci/run
 
-edits: ## wrong versions of the code, each of which the prover must refuse
-	tests/edits/run
+edits: ## wrong versions of the code, each of which the prover must refuse; make edits CRATE.. for some crates
+	tests/edits/run $(filter-out $@,$(MAKECMDGOALS))
 
-run: $(ARCHIVE) ## a first look, on a sample site
-	examples/night/run
+run: $(ARCHIVE) ## a first look: the command on a sample site
+	command/run
 
 bench: $(ARCHIVE) ## times beside Rust, room and stack
 	tests/rust/bench
@@ -33,3 +33,10 @@ uninstall: ## take away what install put there
 	library/install --remove
 
 target/lib/libgorbihesh.a: archive
+
+# the words behind `make edits` are crates, and nothing to make
+ifeq ($(firstword $(MAKECMDGOALS)),edits)
+$(filter-out edits,$(MAKECMDGOALS)):
+	@:
+.PHONY: $(filter-out edits,$(MAKECMDGOALS))
+endif

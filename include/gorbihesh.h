@@ -104,6 +104,42 @@ enum gorbihesh_refusal {
     GORBIHESH_SHORT_ROOM = 32        /* working room shorter than the call's constant */
 };
 
+/* ---- tags: the first byte of each part of a stored query or a catalogue list; its length in two bytes and
+ * its body follow. docs/FORMATS.md has both forms byte by byte, with an example of each.
+ */
+enum gorbihesh_tag {
+    /* queries */
+    GORBIHESH_TERM_TAG = 0x01,           /* field 10, text 11 */
+    GORBIHESH_PHRASE_TAG = 0x02,         /* field 10, any number of words 12 */
+    GORBIHESH_BOOLEAN_TAG = 0x03,        /* minimum 13, any number of clauses 20 to 23 */
+    GORBIHESH_BOOST_TAG = 0x04,          /* four bytes of float, a query */
+    GORBIHESH_CONSTANT_SCORE_TAG = 0x05, /* a query */
+    GORBIHESH_MATCH_ALL_TAG = 0x06,      /* nothing */
+    GORBIHESH_MATCH_NONE_TAG = 0x07,     /* nothing */
+    GORBIHESH_WHOLE_RANGE_TAG = 0x08,    /* field 10, lower and upper bound 30 to 32, of whole numbers */
+    GORBIHESH_FLOAT_RANGE_TAG = 0x09,    /* the same, of floats */
+    /* what queries and entries hold */
+    GORBIHESH_FIELD_TAG = 0x10,          /* 0 to 32 ASCII bytes */
+    GORBIHESH_TEXT_TAG = 0x11,           /* ASCII bytes */
+    GORBIHESH_WORD_TAG = 0x12,           /* four bytes of position, ASCII bytes */
+    GORBIHESH_MINIMUM_TAG = 0x13,        /* two bytes: how many Should clauses must be true */
+    GORBIHESH_VALUE_TAG = 0x14,          /* eight bytes of number */
+    /* clauses: each holds one query */
+    GORBIHESH_MUST_TAG = 0x20,           /* must be true */
+    GORBIHESH_SHOULD_TAG = 0x21,         /* may be true */
+    GORBIHESH_MUST_NOT_TAG = 0x22,       /* must not be true */
+    GORBIHESH_FILTER_TAG = 0x23,         /* must be true, and does not rank */
+    /* bounds of a range */
+    GORBIHESH_OPEN_TAG = 0x30,           /* nothing: no bound */
+    GORBIHESH_INCLUDED_TAG = 0x31,       /* eight bytes of number, itself inside */
+    GORBIHESH_EXCLUDED_TAG = 0x32,       /* eight bytes of number, itself outside */
+    /* catalogue lists */
+    GORBIHESH_RECORD_TAG = 0x40,         /* any number of entries 41, 44, 45 */
+    GORBIHESH_PLACE_TAG = 0x41,          /* an entry: field 10, word 12 */
+    GORBIHESH_WHOLE_TAG = 0x44,          /* an entry: field 10, value 14, a signed whole number */
+    GORBIHESH_FLOAT_TAG = 0x45           /* an entry: field 10, value 14, a float of 64 bits */
+};
+
 /* ---- the calls */
 
 typedef struct {

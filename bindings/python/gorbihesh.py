@@ -84,11 +84,14 @@ class Refused(ValueError):
     number: int
 
     def __init__(self, number: int) -> None:
-        super().__init__(words(number))
+        super().__init__(number)
         try:
             self.number = Refusal(number)
         except ValueError:
             self.number = number
+
+    def __str__(self) -> str:
+        return words(self.number)
 
 
 class Unfit(ValueError):
@@ -169,6 +172,10 @@ def _answer(answer: _Answer) -> _Answer:
     return answer
 
 
+def _written(buffer: _Buffer[ctypes.c_uint8], answer: _Answer) -> bytes:
+    return ctypes.string_at(buffer, answer.length)
+
+
 def _bytes(text: Text) -> bytes:
     """Characters outside ASCII become bytes outside ASCII, which the library refuses."""
     return text if isinstance(text, bytes) else text.encode("utf-8", "surrogatepass")
@@ -184,7 +191,8 @@ def version() -> str:
 
 def words(refusal: int) -> str:
     """A refusal in a technician's words: one line, no full stop."""
-    return _library.gorbihesh_words(refusal).decode("ascii")
+    said: bytes = _library.gorbihesh_words(refusal)
+    return said.decode("ascii")
 
 
 @dataclass(frozen=True)
@@ -218,7 +226,7 @@ def parse(text: Text, setup: Setup) -> bytes:
         room,
         len(room),
     )
-    return bytes(out[: _answer(answer).length])
+    return _written(out, _answer(answer))
 
 
 class Rewritten(NamedTuple):
@@ -233,7 +241,7 @@ def rewrite(query: bytes) -> Rewritten:
     out = _lend_buffer(SELECT_QUERY_MOST)
     room = _lend_buffer(_library.gorbihesh_rewrite_room())
     answer = _answer(_library.gorbihesh_rewrite(*_lend(query), out, len(out), room, len(room)))
-    return Rewritten(bytes(out[: answer.length]), answer.rounds)
+    return Rewritten(_written(out, answer), answer.rounds)
 
 
 def select(query: bytes, records: List | bytes) -> list[int]:
@@ -242,8 +250,7 @@ def select(query: bytes, records: List | bytes) -> list[int]:
     rows = _lend_buffer(min(len(data), LIST_MOST) // _HEADER * 4)  # no record is shorter than its header
     room = _lend_buffer(_library.gorbihesh_select_room())
     answer = _answer(_library.gorbihesh_select(*_lend(query), *_lend(data), rows, len(rows), room, len(room)))
-    picked = bytes(rows[: answer.length])
-    return [int.from_bytes(picked[at : at + 4], "big") for at in range(0, len(picked), 4)]
+    return [number for (number,) in struct.iter_unpack(">I", _written(rows, answer))]
 
 
 # ---- catalogue lists
@@ -254,11 +261,11 @@ _HEADER = 3  # the bytes of a part's header: its tag, and the length of its body
 class _Tag(IntEnum):
     FIELD = 0x10
     WORD = 0x12
-    NUMBER = 0x14
+    VALUE = 0x14
     RECORD = 0x40
-    WORD_ENTRY = 0x41
-    WHOLE_ENTRY = 0x44
-    FLOAT_ENTRY = 0x45
+    PLACE = 0x41
+    WHOLE = 0x44
+    FLOAT = 0x45
 
 
 def _part(tag: _Tag, body: bytes) -> bytes:
@@ -276,15 +283,15 @@ class Record:
         body = _bytes(word)
         if not body.isascii():
             raise Unfit("a word has a character outside plain ASCII")
-        return self._add(_Tag.WORD_ENTRY, field, _Tag.WORD, place.to_bytes(4, "big") + body)
+        return self._add(_Tag.PLACE, field, _Tag.WORD, place.to_bytes(4, "big") + body)
 
     def add_whole(self, field: Text, value: int) -> Record:
         """A whole number of a field, of 64 bits with its sign."""
-        return self._add(_Tag.WHOLE_ENTRY, field, _Tag.NUMBER, value.to_bytes(8, "big", signed=True))
+        return self._add(_Tag.WHOLE, field, _Tag.VALUE, value.to_bytes(8, "big", signed=True))
 
     def add_float(self, field: Text, value: float) -> Record:
         """A float of a field."""
-        return self._add(_Tag.FLOAT_ENTRY, field, _Tag.NUMBER, struct.pack(">d", value))
+        return self._add(_Tag.FLOAT, field, _Tag.VALUE, struct.pack(">d", value))
 
     def _add(self, tag: _Tag, field: Text, of: _Tag, body: bytes) -> Record:
         name = _bytes(field)

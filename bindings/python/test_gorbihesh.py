@@ -7,7 +7,9 @@ from __future__ import annotations
 import doctest
 import math
 import os
+import pickle
 import re
+import struct
 import subprocess
 import sys
 import tempfile
@@ -43,10 +45,17 @@ def unhex(digits: str) -> bytes:
     return b"" if digits == "-" else bytes.fromhex(digits)
 
 
+def between(tag: str, field: str, lower: bytes, upper: bytes) -> bytes:
+    """A range with both bounds inside, as document 01 stores it."""
+    parts = [("10", field.encode()), ("31", lower), ("31", upper)]
+    body = b"".join(bytes.fromhex(of) + len(part).to_bytes(2, "big") + part for of, part in parts)
+    return bytes.fromhex(tag) + len(body).to_bytes(2, "big") + body
+
+
 def members(enum: str) -> dict[str, int]:
     body = re.search(rf"enum {enum} \{{(.*?)\}};", HEADER, re.S)
     assert body is not None
-    return {name: int(number) for name, number in re.findall(r"GORBIHESH_(\w+) = (\d+)", body[1])}
+    return {name: int(number, 0) for name, number in re.findall(r"GORBIHESH_(\w+) = (\w+)", body[1])}
 
 
 class FixedLists(unittest.TestCase):
@@ -108,6 +117,8 @@ class BesideTheHeader(unittest.TestCase):
         self.assertEqual(dict(Refusal.__members__), refusals)
         self.assertEqual(dict(Operator.__members__), members("gorbihesh_operator"))
         self.assertEqual(dict(Analyzer.__members__), members("gorbihesh_analyzer"))
+        tags = members("gorbihesh_tag")
+        self.assertEqual({tag: tags[f"{tag.name}_TAG"] for tag in gorbihesh._Tag}, {tag: tag for tag in gorbihesh._Tag})
 
     def test_words(self) -> None:
         said = [gorbihesh.words(number) for number in (0, 99, *Refusal)]
@@ -131,7 +142,8 @@ class Calls(unittest.TestCase):
     def test_refusals(self) -> None:
         self.refuses(Refusal.LONG_TEXT, "a" * (gorbihesh.TEXT_MOST + 1))
         self.refuses(Refusal.OPEN_QUOTE, '"a')
-        for text in ("caf\u00e9", b"caf\xe9", "caf\udce9", "\ud800"):
+        texts: list[gorbihesh.Text] = ["caf\u00e9", b"caf\xe9", "caf\udce9", "\ud800"]
+        for text in texts:
             self.refuses(Refusal.NOT_ASCII, text)
         for length in (33, 255, 256, 256 + 32):
             self.refuses(Refusal.BAD_SETUP, "a", Setup("n" * length, Analyzer.SIMPLE))
@@ -139,6 +151,10 @@ class Calls(unittest.TestCase):
 
     def test_a_number_of_a_later_release(self) -> None:
         self.assertEqual(Refused(99).number, 99)
+
+    def test_a_refusal_between_processes(self) -> None:
+        copy = pickle.loads(pickle.dumps(Refused(Refusal.OPEN_QUOTE)))
+        self.assertEqual((copy.number, str(copy)), (Refusal.OPEN_QUOTE, gorbihesh.words(4)))
 
     def test_select(self) -> None:
         files = List()
@@ -167,6 +183,15 @@ class Calls(unittest.TestCase):
 
 
 class Lists(unittest.TestCase):
+    def test_numbers(self) -> None:
+        files = List()
+        for size, age in ((-5, 0.5), (7, -0.5)):
+            files.add(Record().add_whole("size", size).add_float("age", age))
+        sizes = between("08", "size", struct.pack(">q", -9), struct.pack(">q", 0))
+        ages = between("09", "age", struct.pack(">d", -1), struct.pack(">d", 0))
+        self.assertEqual(gorbihesh.select(sizes, files), [0])
+        self.assertEqual(gorbihesh.select(ages, files), [1])
+
     def test_every_kind_of_entry(self) -> None:
         record = Record().add_word("f", 2**32 - 1, "a").add_whole("size", -1).add_float("age", math.nan)
         record.add_word("", 0, "").add_whole("n" * gorbihesh.FIELD_MOST, -(2**63))

@@ -7,14 +7,15 @@ use std::fmt::{self, Display, Formatter};
 /// The bytes of a part's header: its tag, and the length of its body in two bytes.
 pub(crate) const HEADER: usize = 3;
 
+/// The header's names.
 mod tag {
     pub const FIELD: u8 = 0x10;
     pub const WORD: u8 = 0x12;
-    pub const NUMBER: u8 = 0x14;
+    pub const VALUE: u8 = 0x14;
     pub const RECORD: u8 = 0x40;
-    pub const WORD_ENTRY: u8 = 0x41;
-    pub const WHOLE_ENTRY: u8 = 0x44;
-    pub const FLOAT_ENTRY: u8 = 0x45;
+    pub const PLACE: u8 = 0x41;
+    pub const WHOLE: u8 = 0x44;
+    pub const FLOAT: u8 = 0x45;
 }
 
 /// Why a record does not go into a list.
@@ -63,21 +64,21 @@ impl Record {
         let word = word.as_ref();
         let body = [&place.to_be_bytes()[..], word].concat();
         let fault = (!word.is_ascii()).then_some(Unfit::NotAscii);
-        self.entry(tag::WORD_ENTRY, field.as_ref(), tag::WORD, &body, fault)
+        self.entry(tag::PLACE, field.as_ref(), tag::WORD, &body, fault)
     }
 
     /// A whole number of a field.
     #[must_use]
     pub fn whole(self, field: impl AsRef<[u8]>, value: i64) -> Self {
         let body = value.to_be_bytes();
-        self.entry(tag::WHOLE_ENTRY, field.as_ref(), tag::NUMBER, &body, None)
+        self.entry(tag::WHOLE, field.as_ref(), tag::VALUE, &body, None)
     }
 
     /// A float of a field.
     #[must_use]
     pub fn float(self, field: impl AsRef<[u8]>, value: f64) -> Self {
         let body = value.to_be_bytes();
-        self.entry(tag::FLOAT_ENTRY, field.as_ref(), tag::NUMBER, &body, None)
+        self.entry(tag::FLOAT, field.as_ref(), tag::VALUE, &body, None)
     }
 
     fn entry(mut self, tag: u8, field: &[u8], of: u8, body: &[u8], fault: Option<Unfit>) -> Self {

@@ -112,6 +112,31 @@ fn lists_of_bare_records_have_rows_enough() {
     assert!(rows.iter().copied().eq(0..list.count()));
 }
 
+/// A range with both bounds inside, as document 01 stores it.
+fn between(tag: u8, field: &str, bounds: [[u8; 8]; 2]) -> Query {
+    let mut body = vec![0x10, 0, u8::try_from(field.len()).expect("a short name")];
+    body.extend(field.bytes());
+    for bound in bounds {
+        body.extend([0x31, 0, 8]);
+        body.extend(bound);
+    }
+    let length = u8::try_from(body.len()).expect("a short query");
+    Query::from_bytes([&[tag, 0, length], &body[..]].concat())
+}
+
+#[test]
+fn numbers_are_found_by_ranges() {
+    let mut list = List::new();
+    for (size, age) in [(-5, 0.5), (7, -0.5)] {
+        let record = Record::new().whole("size", size).float("age", age);
+        list.push(&record).expect("space");
+    }
+    let sizes = between(0x08, "size", [-9, 0].map(i64::to_be_bytes));
+    assert_eq!(sizes.select(&list), Ok(vec![0]));
+    let ages = between(0x09, "age", [-1.0, 0.0].map(f64::to_be_bytes));
+    assert_eq!(ages.select(&list), Ok(vec![1]));
+}
+
 #[test]
 fn entries_of_each_kind_are_sound() {
     let mut list = List::new();
