@@ -56,7 +56,7 @@ static void look_at_clause(looker *l, token t) {
     char name[GORBIHESH_FIELD_MOST];
     size_t length = name_field(l->field, name);
     uint32_t refusal = read_selector(l->desk, name, length, t.at, t.length);
-    if (refusal != GORBIHESH_DONE || l->desk->parsed[0] != MATCH_NONE) return;
+    if (refusal != GORBIHESH_DONE || l->desk->parsed[0] != GORBIHESH_MATCH_NONE_TAG) return;
     point_at(l, t);
     fputs(" is left out: it has no word of `", stdout);
     print_typed(stdout, name, length);
