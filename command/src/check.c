@@ -97,7 +97,8 @@ static int check_over(const char *directory, const sheet *jobs, int want_all) {
     report_catalogue(&s);
     for (size_t i = 0; i < jobs->count; i++) status = also(status, check_job(&s, &s.results[i]));
     report_left_out(&s, want_all);
-    status = report_end(&s, also(status, status_of(&s)));
+    status = also(status, status_of(&s));
+    report_end(&s, status);
     close_site(&s);
     return status;
 }
