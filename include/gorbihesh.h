@@ -32,8 +32,8 @@
 extern "C" {
 #endif
 
-/* ---- version: of this header. gorbihesh_version gives that of the archive that is linked; one with another
- * major number has another layout of its answers, queries or lists, and must not be called by this header.
+/* ---- version: of this header. gorbihesh_version gives that of the library that is linked. Where the major
+ * numbers differ, so do the layouts of answers, queries or lists, and no other call may be made.
  */
 #define GORBIHESH_VERSION_MAJOR 1
 #define GORBIHESH_VERSION_MINOR 0
@@ -196,7 +196,8 @@ gorbihesh_answer gorbihesh_select(const uint8_t *query, size_t query_len,
                                   uint8_t *room, size_t room_len);
 
 /* A refusal in a technician's words: one line of ASCII, no full stop. Never NULL: a number that is no refusal of
- * this release has words too. The text is the archive's own; do not free it. */
+ * this release has words too. The text is the library's own and stays; do not free it.
+ */
 const char *gorbihesh_words(uint32_t refusal);
 
 #ifdef __cplusplus

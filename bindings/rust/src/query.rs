@@ -37,9 +37,8 @@ impl Query {
         let mut out = vec![0; SELECT_QUERY_MOST];
         let mut room = vec![0; calls::rewrite_room()];
         let answer = calls::rewrite(&self.0, &mut out, &mut room).done()?;
-        out.truncate(answer.length as usize);
         Ok(Rewritten {
-            query: Self(out),
+            query: Self::from_bytes(&out[..answer.length as usize]),
             rounds: answer.rounds,
         })
     }

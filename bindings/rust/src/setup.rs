@@ -76,8 +76,7 @@ impl Setup {
         let mut out = vec![0; REWRITE_QUERY_MOST];
         let mut room = vec![0; calls::parse_room()];
         let answer = calls::parse(self.lent(), text.as_ref(), &mut out, &mut room).done()?;
-        out.truncate(answer.length as usize);
-        Ok(Query::from_bytes(out))
+        Ok(Query::from_bytes(&out[..answer.length as usize]))
     }
 
     /// The same as bytes, for [`calls::parse`].
