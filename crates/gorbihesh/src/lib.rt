@@ -11,7 +11,7 @@ use selection::select::select_bytes;
 ghost use mathlib.Core.Path.{_≡_};
 ghost use Rattle.rules.specs.Numbers.{parseRoom, rewriteRoom, selectRoom};
 ghost use Rattle.rules.specs.Answers.{parseLeft, rewriteLeft, selectLeft};
-ghost use Rattle.gorbihesh.specs.Edge.{left, Told};
+ghost use Rattle.gorbihesh.specs.Edge.{left, Told, version};
 
 // The refusal's number or 0, the bytes written, the records chosen, the rounds made.
 #[repr(C)]
@@ -75,6 +75,15 @@ pub extern "C" fn gorbihesh_select(
         Selected::Refused(number) => told(number as u32, 0, 0, 0),
         Selected::Chosen(count) => told(0, ROW_BYTES * count as u32, count as u32, 0),
     }
+}
+
+// ---- the version
+
+#[no_mangle]
+pub extern "C" fn gorbihesh_version() -> u32
+    ensures { λ r. ⌜ r ≡ version ⌝ }
+{
+    1000000
 }
 
 // ---- the rooms

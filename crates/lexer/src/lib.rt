@@ -19,6 +19,7 @@ ghost use Rattle.rules.specs.Lexing.{lex};
 ghost use Rattle.row.specs.Row.{roomLeast, entryAt, entry};
 ghost use Rattle.lexer.specs.Lexing.{answerOf, Row};
 
+mod table;
 mod tokens;
 
 pub enum Lexed {
@@ -44,7 +45,7 @@ pub fn lex(text: &[u8], room: &mut [u8]) -> Lexed
     ensures answer { λ r. ⌜ r ≡ answerOf (lex (now (text .entry))) ⌝ }
     ensures row { λ r. ⌜ Row (lex (now (text .entry))) (now (room .exit)) ⌝ }
 {
-    let table = classes::CLASSES;
+    let table = table::CLASSES;
     let mut i = 0;
     let mut n: usize = 0;
     while i < text.len() {

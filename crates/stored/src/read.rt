@@ -14,6 +14,7 @@ use names::FILTER_TAG;
 use names::FLOAT_RANGE_TAG;
 use names::HEADER;
 use names::INCLUDED_TAG;
+use names::INFINITY;
 use names::LONG_QUERY;
 use names::MALFORMED_QUERY;
 use names::MATCH_ALL_TAG;
@@ -29,8 +30,10 @@ use names::REWRITER_BYTES;
 use names::REWRITER_DEPTH;
 use names::SELECTION_BYTES;
 use names::SELECTION_DEPTH;
+use names::SIGN;
 use names::TERM_TAG;
 use names::TEXT_TAG;
+use names::THE_NAN;
 use names::WORD_TAG;
 use numbers::big4;
 use parts::part::body;
@@ -183,13 +186,6 @@ fn is_record(s: &[u8]) -> bool
 {
     is_within(s, TERM_TAG, FLOAT_RANGE_TAG)
 }
-
-// A float's bits: the sign's, those of infinity, and those of the one NaN.
-const SIGN: u32 = 0x8000_0000;
-
-const INFINITY: u32 = 0x7f80_0000;
-
-const THE_NAN: u32 = 0x7fc0_0000;
 
 // There is one NaN: any other is malformed.
 fn is_boost(bits: u32) -> bool
