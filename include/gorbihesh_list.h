@@ -29,17 +29,6 @@
 extern "C" {
 #endif
 
-/* The parts of a list: each is a tag, a length of two bytes and a body. */
-enum gorbihesh_list_tag {
-    GORBIHESH_LIST_FIELD = 0x10,      /* a field's name */
-    GORBIHESH_LIST_PLACED = 0x12,     /* a position of four bytes and a text */
-    GORBIHESH_LIST_VALUE = 0x14,      /* eight bytes of a number */
-    GORBIHESH_LIST_RECORD = 0x40,     /* entries, each one of the next three */
-    GORBIHESH_LIST_WORD_ENTRY = 0x41, /* a field and a placed text */
-    GORBIHESH_LIST_WHOLE_ENTRY = 0x44, /* a field and a whole number, signed */
-    GORBIHESH_LIST_FLOAT_ENTRY = 0x45 /* a field and a float */
-};
-
 enum gorbihesh_list_answer {
     GORBIHESH_LIST_DONE = 0,
     GORBIHESH_LIST_FULL = 1,        /* no place behind the other records: start the next list */
@@ -76,10 +65,10 @@ static inline void gorbihesh_list_put_header(gorbihesh_list *l, int tag, size_t 
     gorbihesh_list_put_number(l, length, 2);
 }
 
-/* The first fault stays. */
+/* Spoils the record. A record is asked whether it is spoiled before anything else, so that its first fault stays. */
 static inline int gorbihesh_list_fault(gorbihesh_list *l, int answer) {
-    if (l->answer == GORBIHESH_LIST_DONE) l->answer = answer;
-    return l->answer;
+    l->answer = answer;
+    return answer;
 }
 
 static inline int gorbihesh_list_is_ascii(const void *text, size_t length) {
@@ -100,7 +89,7 @@ static inline int gorbihesh_list_entry(gorbihesh_list *l, int tag, const char *f
     if (value > left || 2 * GORBIHESH_LIST_HEADER + field_length > left - value)
         return gorbihesh_list_fault(l, l->count > 0 ? GORBIHESH_LIST_FULL : GORBIHESH_LIST_LONG_RECORD);
     gorbihesh_list_put_header(l, tag, GORBIHESH_LIST_HEADER + field_length + value);
-    gorbihesh_list_put_header(l, GORBIHESH_LIST_FIELD, field_length);
+    gorbihesh_list_put_header(l, GORBIHESH_FIELD_TAG, field_length);
     gorbihesh_list_put_text(l, field, field_length);
     return GORBIHESH_LIST_DONE;
 }
@@ -109,7 +98,7 @@ static inline int gorbihesh_list_number(gorbihesh_list *l, int tag, const char *
                                         uint64_t bits) {
     int answer = gorbihesh_list_entry(l, tag, field, field_length, GORBIHESH_LIST_HEADER + sizeof bits);
     if (answer != GORBIHESH_LIST_DONE) return answer;
-    gorbihesh_list_put_header(l, GORBIHESH_LIST_VALUE, sizeof bits);
+    gorbihesh_list_put_header(l, GORBIHESH_VALUE_TAG, sizeof bits);
     gorbihesh_list_put_number(l, bits, sizeof bits);
     return GORBIHESH_LIST_DONE;
 }
@@ -145,10 +134,9 @@ static inline int gorbihesh_list_word(gorbihesh_list *l, const char *field, size
     int answer;
     if (l->answer == GORBIHESH_LIST_DONE && !gorbihesh_list_is_ascii(text, text_length))
         return gorbihesh_list_fault(l, GORBIHESH_LIST_NOT_ASCII);
-    if (text_length > GORBIHESH_LIST_MOST) text_length = GORBIHESH_LIST_MOST; /* which has no place either */
-    answer = gorbihesh_list_entry(l, GORBIHESH_LIST_WORD_ENTRY, field, field_length, front + text_length);
+    answer = gorbihesh_list_entry(l, GORBIHESH_PLACE_TAG, field, field_length, front + text_length);
     if (answer != GORBIHESH_LIST_DONE) return answer;
-    gorbihesh_list_put_header(l, GORBIHESH_LIST_PLACED, sizeof position + text_length);
+    gorbihesh_list_put_header(l, GORBIHESH_WORD_TAG, sizeof position + text_length);
     gorbihesh_list_put_number(l, position, sizeof position);
     gorbihesh_list_put_text(l, text, text_length);
     return GORBIHESH_LIST_DONE;
@@ -156,14 +144,14 @@ static inline int gorbihesh_list_word(gorbihesh_list *l, const char *field, size
 
 /* A whole number of a field, for whole ranges. */
 static inline int gorbihesh_list_whole(gorbihesh_list *l, const char *field, size_t field_length, int64_t number) {
-    return gorbihesh_list_number(l, GORBIHESH_LIST_WHOLE_ENTRY, field, field_length, (uint64_t)number);
+    return gorbihesh_list_number(l, GORBIHESH_WHOLE_TAG, field, field_length, (uint64_t)number);
 }
 
 /* A float of a field, for float ranges. No range holds a NaN. */
 static inline int gorbihesh_list_float(gorbihesh_list *l, const char *field, size_t field_length, double number) {
     uint64_t bits;
     memcpy(&bits, &number, sizeof bits);
-    return gorbihesh_list_number(l, GORBIHESH_LIST_FLOAT_ENTRY, field, field_length, bits);
+    return gorbihesh_list_number(l, GORBIHESH_FLOAT_TAG, field, field_length, bits);
 }
 
 /* Ends the record: GORBIHESH_LIST_DONE and it is one more of the list, or what spoiled it and the list is as it was
@@ -175,7 +163,7 @@ static inline int gorbihesh_list_end(gorbihesh_list *l) {
     l->answer = GORBIHESH_LIST_NO_RECORD;
     l->end = l->length;
     if (answer != GORBIHESH_LIST_DONE) return answer;
-    gorbihesh_list_put_header(l, GORBIHESH_LIST_RECORD, end - l->length - GORBIHESH_LIST_HEADER);
+    gorbihesh_list_put_header(l, GORBIHESH_RECORD_TAG, end - l->length - GORBIHESH_LIST_HEADER);
     l->end = end;
     l->length = end;
     l->count++;

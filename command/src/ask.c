@@ -61,11 +61,10 @@ static int ask_file(json_reader *j, inquiry *q) {
     return is_asked;
 }
 
-static int ask_files(json_reader *j, inquiry *q) {
-    int is_picked = 0;
+static void ask_picks(json_reader *j, inquiry *q, recorded_job *r) {
+    r->has_picks = 1;
     json_opens(j, '[');
-    while (json_has_more(j, ']')) is_picked |= ask_file(j, q);
-    return is_picked;
+    while (json_has_more(j, ']')) r->is_picked |= ask_file(j, q);
 }
 
 static void free_job(recorded_job *r) {
@@ -79,39 +78,47 @@ static void add_job(recorded_jobs *row, recorded_job r) {
     row->at[row->count++] = r;
 }
 
-/* One object of `jobs`, of `refused`, or `nobody`; whether the path is among its picks. */
-static int ask_job(json_reader *j, inquiry *q, recorded_job *r) {
-    int is_picked = 0;
-    memset(r, 0, sizeof *r);
+/* One object of `jobs`, of `refused`, or `nobody`. */
+static recorded_job ask_job(json_reader *j, inquiry *q) {
+    recorded_job r = {NULL, 0, NULL, 0, NULL, 0, 0};
     json_opens(j, '{');
     while (json_has_more(j, '}')) {
         char *key = json_key(j);
-        if (strcmp(key, "name") == 0) keep(&r->name, json_text_or_null(j));
-        else if (strcmp(key, "line") == 0) r->line = json_number(j);
-        else if (strcmp(key, "selector") == 0) keep(&r->selector, json_text(j, &r->length));
-        else if (strcmp(key, "why") == 0) keep(&r->why, json_text(j, NULL));
-        else if (strcmp(key, "picks") == 0) is_picked |= ask_files(j, q);
+        if (strcmp(key, "name") == 0) keep(&r.name, json_text_or_null(j));
+        else if (strcmp(key, "line") == 0) r.line = json_number(j);
+        else if (strcmp(key, "selector") == 0) keep(&r.selector, json_text(j, &r.length));
+        else if (strcmp(key, "why") == 0) keep(&r.why, json_text(j, NULL));
+        else if (strcmp(key, "picks") == 0) ask_picks(j, q, &r);
         else json_skip(j);
         free(key);
     }
-    return is_picked;
+    return r;
 }
 
-/* Jobs that picked the path; of `refused`, all. */
-static void ask_jobs(json_reader *j, inquiry *q, recorded_jobs *row, int want_all) {
+/* Of the jobs that were run, those that picked the path. */
+static void ask_jobs(json_reader *j, inquiry *q) {
     json_opens(j, '[');
     while (json_has_more(j, ']')) {
-        recorded_job r;
-        int is_picked = ask_job(j, q, &r);
-        if (r.selector == NULL) j->is_sound = 0;
-        if (j->is_sound && (is_picked || want_all)) add_job(row, r);
+        recorded_job r = ask_job(j, q);
+        if (r.selector == NULL || !r.has_picks) j->is_sound = 0;
+        if (j->is_sound && r.is_picked) add_job(&q->picked_by, r);
+        else free_job(&r);
+    }
+}
+
+static void ask_refused(json_reader *j, inquiry *q) {
+    json_opens(j, '[');
+    while (json_has_more(j, ']')) {
+        recorded_job r = ask_job(j, q);
+        if (r.selector == NULL || r.why == NULL) j->is_sound = 0;
+        if (j->is_sound) add_job(&q->refused, r);
         else free_job(&r);
     }
 }
 
 static void ask_nobody(json_reader *j, inquiry *q) {
-    recorded_job nobody;
-    ask_job(j, q, &nobody);
+    recorded_job nobody = ask_job(j, q);
+    if (!nobody.has_picks) j->is_sound = 0;
     free_job(&nobody);
 }
 
@@ -159,8 +166,8 @@ static unsigned ask_member(json_reader *j, inquiry *q, const char *key) {
     if (strcmp(key, "date") == 0) return keep(&q->date, json_text(j, NULL)), DATE;
     if (strcmp(key, "directory") == 0) return keep(&q->directory, json_text(j, NULL)), DIRECTORY;
     if (strcmp(key, "version") == 0) return keep(&q->version, json_text(j, NULL)), VERSION;
-    if (strcmp(key, "jobs") == 0) return ask_jobs(j, q, &q->picked_by, 0), JOBS;
-    if (strcmp(key, "refused") == 0) return ask_jobs(j, q, &q->refused, 1), REFUSALS;
+    if (strcmp(key, "jobs") == 0) return ask_jobs(j, q), JOBS;
+    if (strcmp(key, "refused") == 0) return ask_refused(j, q), REFUSALS;
     if (strcmp(key, "nobody") == 0) return ask_nobody(j, q), NOBODY;
     if (strcmp(key, "left_out") == 0) return ask_notices(j, q), OUT;
     if (strcmp(key, "not_followed") == 0) return ask_notices(j, q), UNFOLLOWED;

@@ -5,13 +5,14 @@
 #include <stddef.h>
 #include <stdint.h>
 
-/* A job as the record has it; `why` where it was refused. */
+/* A job as the record has it: one that was run has picks, one that was refused has a `why`. */
 typedef struct {
     char *name; /* or NULL */
     uint64_t line;
     char *selector;
     size_t length;
     char *why;
+    int has_picks, is_picked; /* whether the path that is asked for is one of them */
 } recorded_job;
 
 typedef struct {

@@ -20,9 +20,9 @@ typedef struct {
 static const char entire[] = "whole", must[] = "must", not[] = "not", any[] = "any", idle[] = "idle";
 
 static const char *label_of(part boolean, int kind) {
-    if (kind == MUST) return must;
-    if (kind == MUST_NOT) return not;
-    return count_clauses(boolean, MUST) > 0 ? idle : any;
+    if (kind == GORBIHESH_MUST_TAG) return must;
+    if (kind == GORBIHESH_MUST_NOT_TAG) return not;
+    return count_clauses(boolean, GORBIHESH_MUST_TAG) > 0 ? idle : any;
 }
 
 static void point_out(checker *c, const char *what) {
@@ -33,7 +33,8 @@ static void point_out(checker *c, const char *what) {
 /* Whether a query has nothing but clauses to leave out. */
 static int only_leaves_out(part query) {
     query = without_boost(query);
-    return query.tag == BOOLEAN && count_clauses(query, MUST) + count_clauses(query, SHOULD) == 0;
+    return query.tag == GORBIHESH_BOOLEAN_TAG && count_clauses(query, GORBIHESH_MUST_TAG) == 0 &&
+           count_clauses(query, GORBIHESH_SHOULD_TAG) == 0;
 }
 
 static void point_at_clause(checker *c, const char *label, part query, size_t files) {
@@ -61,7 +62,7 @@ static void show_clause(checker *c, const char *label, part query, int depth) {
 /* The clauses of a Boolean, and below each those of its brackets. */
 static void show_clauses(checker *c, part query, int depth) {
     query = without_boost(query);
-    if (query.tag != BOOLEAN) return;
+    if (query.tag != GORBIHESH_BOOLEAN_TAG) return;
     for (part clause = first_clause(query);; clause = part_at(clause.end)) {
         show_clause(c, label_of(query, clause.tag), query_of(clause), depth);
         show_clauses(c, query_of(clause), depth + 1);
@@ -96,7 +97,8 @@ static int check_over(const char *directory, const sheet *jobs, int want_all) {
     report_catalogue(&s);
     for (size_t i = 0; i < jobs->count; i++) status = also(status, check_job(&s, &s.results[i]));
     report_left_out(&s, want_all);
-    status = report_end(&s, also(status, status_of(&s)));
+    status = also(status, status_of(&s));
+    report_end(&s, status);
     close_site(&s);
     return status;
 }

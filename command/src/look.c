@@ -34,7 +34,7 @@ static void look_at_field(looker *l, token t) {
     int field = field_named(name, name_field(t, name));
     if (field != FIELDS && !is_number_field(field) && l->desk->lists->having[field] > 0) return;
     point_at(l, t);
-    if (field != FIELDS && is_number_field(field)) puts(" holds numbers, which the text of a selector cannot ask for");
+    if (is_number_field(field)) puts(" holds numbers, which the text of a selector cannot ask for");
     else puts(" is a field that no file has; the fields are path, name, ext, kind and all");
 }
 
@@ -56,12 +56,13 @@ static void look_at_clause(looker *l, token t) {
     char name[GORBIHESH_FIELD_MOST];
     size_t length = name_field(l->field, name);
     uint32_t refusal = read_selector(l->desk, name, length, t.at, t.length);
-    if (refusal != GORBIHESH_DONE || l->desk->parsed[0] != MATCH_NONE) return;
+    if (refusal != GORBIHESH_DONE || l->desk->parsed[0] != GORBIHESH_MATCH_NONE_TAG) return;
+    int is_empty = t.kind == QUOTED && t.length == strlen("\"\"");
     point_at(l, t);
     fputs(" is left out: it has no word of `", stdout);
     print_typed(stdout, name, length);
-    puts(t.length > 2 && field_named(name, length) == PATH ? "`, whose words are letters alone; ask by name: or kind:"
-                                                           : "`");
+    puts(is_empty || field_named(name, length) != PATH ? "`"
+                                                       : "`, whose words are letters alone; ask by name: or kind:");
 }
 
 static void look_at_sign(looker *l, token t) {

@@ -29,15 +29,17 @@ static int write_files(const options *o, const site *s, int status) {
     return status;
 }
 
+/* Files are written before anything is printed: a reader of the output that goes away must not cost the record. */
 static int run_over(const options *o, const sheet *jobs) {
     site s;
     if (!open_site(&s, o->operands[0], jobs)) return CANNOT_READ;
     run_jobs(&s);
+    int status = write_files(o, &s, status_of(&s));
     report_catalogue(&s);
     for (size_t i = 0; i < jobs->count; i++) report_job(&s, &s.results[i], o->want_all);
     report_nobodys(&s, o->want_all);
     report_left_out(&s, o->want_all);
-    int status = report_end(&s, write_files(o, &s, status_of(&s)));
+    report_end(&s, status);
     close_site(&s);
     return status;
 }

@@ -1,6 +1,7 @@
 /* Reads stored queries as gorbihesh_parse writes them, which are sound. */
 #include "query.h"
 
+#include "gorbihesh.h"
 #include "names.h"
 #include "print.h"
 
@@ -14,7 +15,7 @@ part part_at(const uint8_t *at) {
 }
 
 part without_boost(part query) {
-    while (query.tag == BOOST) query = part_at(query.body + BOOST_BYTES);
+    while (query.tag == GORBIHESH_BOOST_TAG) query = part_at(query.body + BOOST_BYTES);
     return query;
 }
 
@@ -32,11 +33,11 @@ size_t count_clauses(part boolean, int kind) {
 /* Parts that hold parts are entered, and others passed. */
 static size_t step_over(part p) {
     switch (p.tag) {
-    case FIELD_PART:
-    case TEXT_PART:
-    case PLACED_PART:
-    case MINIMUM_PART: return p.length;
-    case BOOST: return HEADER + BOOST_BYTES;
+    case GORBIHESH_FIELD_TAG:
+    case GORBIHESH_TEXT_TAG:
+    case GORBIHESH_WORD_TAG:
+    case GORBIHESH_MINIMUM_TAG: return p.length;
+    case GORBIHESH_BOOST_TAG: return HEADER + BOOST_BYTES;
     default: return HEADER;
     }
 }
@@ -44,8 +45,8 @@ static size_t step_over(part p) {
 void make_texts_small(uint8_t *query, size_t length) {
     for (size_t at = 0; at < length;) {
         part p = part_at(query + at);
-        size_t text = at + HEADER + (p.tag == PLACED_PART ? POSITION_BYTES : 0);
-        if (p.tag == TEXT_PART || p.tag == PLACED_PART)
+        size_t text = at + HEADER + (p.tag == GORBIHESH_WORD_TAG ? POSITION_BYTES : 0);
+        if (p.tag == GORBIHESH_TEXT_TAG || p.tag == GORBIHESH_WORD_TAG)
             for (; text < at + p.length; text++) query[text] = (uint8_t)to_small(query[text]);
         at += step_over(p);
     }
@@ -101,7 +102,7 @@ static void print_boost(FILE *to, const uint8_t *bytes) {
 }
 
 void print_clause(FILE *to, part query) {
-    int is_bracket = query.tag == BOOLEAN;
+    int is_bracket = query.tag == GORBIHESH_BOOLEAN_TAG;
     if (is_bracket) putc('(', to);
     print_query(to, query);
     if (is_bracket) putc(')', to);
@@ -109,7 +110,7 @@ void print_clause(FILE *to, part query) {
 
 static void print_clauses(FILE *to, part boolean) {
     for (part clause = first_clause(boolean);; clause = part_at(clause.end)) {
-        fputs(clause.tag == MUST ? "+" : clause.tag == MUST_NOT ? "-" : "", to);
+        fputs(clause.tag == GORBIHESH_MUST_TAG ? "+" : clause.tag == GORBIHESH_MUST_NOT_TAG ? "-" : "", to);
         print_clause(to, query_of(clause));
         if (clause.end == boolean.end) return;
         putc(' ', to);
@@ -118,10 +119,10 @@ static void print_clauses(FILE *to, part boolean) {
 
 void print_query(FILE *to, part query) {
     switch (query.tag) {
-    case TERM: print_term(to, query); break;
-    case PHRASE: print_phrase(to, query); break;
-    case BOOLEAN: print_clauses(to, query); break;
-    case BOOST:
+    case GORBIHESH_TERM_TAG: print_term(to, query); break;
+    case GORBIHESH_PHRASE_TAG: print_phrase(to, query); break;
+    case GORBIHESH_BOOLEAN_TAG: print_clauses(to, query); break;
+    case GORBIHESH_BOOST_TAG:
         print_clause(to, part_at(query.body + BOOST_BYTES));
         print_boost(to, query.body);
         break;

@@ -6,26 +6,11 @@
 #include <stdint.h>
 #include <stdio.h>
 
-enum query_tag {
-    TERM = 0x01,
-    PHRASE = 0x02,
-    BOOLEAN = 0x03,
-    BOOST = 0x04,
-    MATCH_NONE = 0x07,
-    FIELD_PART = 0x10,
-    TEXT_PART = 0x11,
-    PLACED_PART = 0x12,
-    MINIMUM_PART = 0x13,
-    MUST = 0x20,
-    SHOULD = 0x21,
-    MUST_NOT = 0x22
-};
-
 /* A tag, a length of two bytes and a body. */
 typedef struct {
     const uint8_t *at;
     size_t length; /* with the header */
-    int tag;
+    int tag; /* enum gorbihesh_tag */
     const uint8_t *body, *end;
 } part;
 

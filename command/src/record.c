@@ -11,7 +11,7 @@
 #include <stdlib.h>
 #include <time.h>
 
-enum { SECONDS_A_DAY = 86400, DATE_MOST = 64 };
+enum { SECONDS_A_DAY = 86400, DAYS_MOST = 100000000, DATE_MOST = 64 };
 
 static void write_string(json_writer *w, const char *key, const char *text) { write_text(w, key, text, strlen(text)); }
 
@@ -24,12 +24,13 @@ static void write_date(json_writer *w) {
     write_string(w, "date", date);
 }
 
-/* A day that no calendar here reaches is told by its number. */
+/* A day that no calendar reaches is told by its number. */
 static void write_day(json_writer *w, int64_t day) {
     char date[DATE_MOST];
-    time_t seconds = (time_t)(day * SECONDS_A_DAY);
+    int is_far = day > DAYS_MOST || day < -DAYS_MOST;
+    time_t seconds = is_far ? 0 : (time_t)(day * SECONDS_A_DAY);
     struct tm parts;
-    if (gmtime_r(&seconds, &parts) == NULL || strftime(date, sizeof date, "%Y-%m-%d", &parts) == 0)
+    if (is_far || gmtime_r(&seconds, &parts) == NULL || strftime(date, sizeof date, "%Y-%m-%d", &parts) == 0)
         snprintf(date, sizeof date, "day %" PRId64, day);
     write_string(w, "changed", date);
 }

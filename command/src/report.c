@@ -104,9 +104,9 @@ static void report_idle_jobs(const site *s) {
     }
 }
 
-int report_end(const site *s, int status) {
+void report_end(const site *s, int status) {
     size_t refused = count_refused(s), left_out = s->tree.left_out.count;
-    if (status == ALL_WELL) return status;
+    if (status == ALL_WELL) return;
     putchar('\n');
     if (refused > 0) printf("%zu of %zu jobs refused; a refused job picks nothing\n", refused, s->sheet->count);
     if (s->sheet->count == 0) puts("the sheet has no job: nothing is kept");
@@ -114,5 +114,4 @@ int report_end(const site *s, int status) {
     report_idle_jobs(s);
     if (left_out > 0) printf("%zu left out of the catalogue, named on stderr\n", left_out);
     printf("status %d: %s\n", status, status_words(status));
-    return status;
 }

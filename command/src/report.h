@@ -25,8 +25,8 @@ void report_files(const site *s, const picks *p, int want_all);
 void report_left_out(const site *s, int want_all);
 
 /* Jobs refused, jobs that pick nothing, nothing to do at all: a line for each that applies; and the status in words,
- * where it is not ALL_WELL. Answers it.
+ * where it is not ALL_WELL.
  */
-int report_end(const site *s, int status);
+void report_end(const site *s, int status);
 
 #endif

@@ -75,4 +75,4 @@ uint32_t run_selector(desk *d, const char *text, size_t length, picks *p) {
 }
 
 /* "Match nothing" stays so whatever the catalogue holds. */
-int picks_none_ever(const desk *d) { return d->rewritten_len > 0 && d->rewritten[0] == MATCH_NONE; }
+int picks_none_ever(const desk *d) { return d->rewritten_len > 0 && d->rewritten[0] == GORBIHESH_MATCH_NONE_TAG; }

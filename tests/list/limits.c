@@ -29,20 +29,22 @@ static void two_records(void) {
     end_desk(&d);
 }
 
-static void empty_records(void) {
-    desk d = start_desk(GORBIHESH_LIST_MOST);
-    check_about("empty records");
+/* As many empty records as there is room for, three bytes each. */
+static void empty_records(size_t room) {
+    desk d = start_desk(room);
+    check_about("empty records in %zu bytes", room);
     uint32_t count = 0;
     while (gorbihesh_list_begin(&d.list) == GORBIHESH_LIST_DONE) {
         CHECK(gorbihesh_list_end(&d.list) == GORBIHESH_LIST_DONE);
         count++;
     }
-    CHECK(count == GORBIHESH_LIST_MOST / 3);
+    CHECK(gorbihesh_list_end(&d.list) == (count == 0 ? GORBIHESH_LIST_LONG_RECORD : GORBIHESH_LIST_FULL));
+    CHECK(count == (room < GORBIHESH_LIST_MOST ? room : GORBIHESH_LIST_MOST) / 3);
     check_count(&d, count);
     end_desk(&d);
 }
 
-/* Rooms of every length around a record of 20 bytes, and one that is longer than a list may be. */
+/* Rooms of every length around records of 20 bytes, and one that is longer than a list may be. */
 static void rooms(void) {
     for (size_t room = 0; room < 45; room++) {
         desk d = start_desk(room);
@@ -147,7 +149,8 @@ static void out_of_turn(void) {
 int main(void) {
     a_full_list();
     two_records();
-    empty_records();
+    for (size_t room = 0; room < 8; room++) empty_records(room);
+    empty_records(GORBIHESH_LIST_MOST);
     rooms();
     numbers_at_the_end();
     fields();

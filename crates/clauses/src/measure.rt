@@ -157,11 +157,11 @@ fn measure_clause<'a>(room: &'a [u8], default: &'a [u8], p: Scope, i: usize) -> 
             if t == OPEN_KIND {
                 if p.depth < BRACKETS_MOST {
                     let q = Scope {
-                        operator: p.operator,
                         n: p.n,
                         from: from,
-                        analyzer: analyzer,
                         depth: p.depth + 1,
+                        operator: p.operator,
+                        analyzer: analyzer,
                     };
                     let g = measure_query(room, default, q, i + 1);
                     return closing(room, p.n, g);

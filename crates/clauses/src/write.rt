@@ -227,11 +227,11 @@ fn write_clause<'a>(
         Start::Long => Wrote { end: at, next: i },
         Start::At { from, analyzer, i } => {
             let inner = Scope {
-                operator: p.operator,
                 n: p.n,
                 from: from,
-                analyzer: analyzer,
                 depth: p.depth + 1,
+                operator: p.operator,
+                analyzer: analyzer,
             };
             if !is_at(room, p.n, OPEN_KIND, i) {
                 let plain = is_at(room, p.n, TERM_KIND, i);

@@ -2,6 +2,7 @@
 // The names are an array of byte arrays, with their lengths and analyzers beside it.
 use names::ENTRIES_MOST;
 use names::FIELD_MOST;
+use numbers::wide;
 ghost use mathlib.Core.Path.{_≡_};
 ghost use mathlib.Core.List.{[]};
 ghost use Prim.Native.Nat.{_≤_, _<_, min};
@@ -14,12 +15,6 @@ fn least(x: usize, most: usize) -> usize
     ensures { λ r. ⌜ r ≡ min x most ⌝ }
 {
     if x <= most { x } else { most }
-}
-
-fn wide(x: u8) -> usize
-    ensures { λ r. ⌜ r ≡ x ⌝ }
-{
-    x as usize
 }
 
 // The first bytes of the k-th row are the field, as many as the field has.
@@ -37,8 +32,9 @@ fn is_row(names: &[[u8; FIELD_MOST]; ENTRIES_MOST], k: usize, field: &[u8]) -> b
     true
 }
 
-// The analyzer of a field, by arrays that are lent. A later entry replaces an earlier, so the search goes from the last.
-pub fn analyzer_among(
+// The analyzer of a field. A later entry replaces an earlier, so the search goes from the last. The arrays are lent: by value they would be copied
+// for every field that a text names.
+pub fn analyzer_of(
     names: &[[u8; FIELD_MOST]; ENTRIES_MOST],
     lengths: &[u8; ENTRIES_MOST],
     analyzers: &[u8; ENTRIES_MOST],
@@ -58,18 +54,4 @@ pub fn analyzer_among(
         }
     }
     default
-}
-
-// The same by arrays that are passed by value.
-pub fn analyzer_of(
-    names: [[u8; FIELD_MOST]; ENTRIES_MOST],
-    lengths: [u8; ENTRIES_MOST],
-    analyzers: [u8; ENTRIES_MOST],
-    count: usize,
-    default: u8,
-    field: &[u8],
-) -> u8
-    ensures { λ r. ⌜ r ≡ analyzerAmong default (arrayEntries names lengths analyzers count) (now (field .entry)) ⌝ }
-{
-    analyzer_among(&names, &lengths, &analyzers, count, default, field)
 }

@@ -7,7 +7,7 @@ use clauses::write::write_query;
 use counted::Counted;
 use counted::is_alone;
 use counted::query_len;
-use fields::analyzer_among;
+use fields::analyzer_of;
 use lexer::Lexed;
 use names::BAD_SETUP;
 use names::END_KIND;
@@ -83,11 +83,11 @@ fn parse_tokens<'a>(
     ensures { λ r. ⌜ ((st : Setup) → Tuned st operator (now (room .entry)) n (now (field .entry)) 0 analyzer → st .field ≡ now (field .entry) → Delivers (parseTokens st (tokensOf (now (room .entry)) n)) (now (out .entry)) r (now (out .exit))) ⌝ }
 {
     let p = Scope {
-        operator: operator,
         n: n,
         from: 0,
-        analyzer: analyzer,
         depth: 0,
+        operator: operator,
+        analyzer: analyzer,
     };
     match measure_query(room, field, p, 0) {
         Counted::Fault(e) => Parsed::Refused(e),
@@ -139,7 +139,7 @@ fn parse_text(
         Lexed::Refused(e) => Parsed::Refused(e),
         Lexed::Tokens(n) => {
             setup::note_fields(room, n, &names, &lengths, &analyzers, count, analyzer);
-            let a = analyzer_among(&names, &lengths, &analyzers, count, analyzer, field);
+            let a = analyzer_of(&names, &lengths, &analyzers, count, analyzer, field);
             parse_tokens(operator, a, field, n, room, out)
         }
     }

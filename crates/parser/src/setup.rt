@@ -1,6 +1,6 @@
 // The setup of a call: its entries are tested and read into arrays, and the analyzer of each field that the text names is noted
 // at the name's token, so that the parser hands down a number.
-use fields::analyzer_among;
+use fields::analyzer_of;
 use names::AND_OPERATOR;
 use names::ASCII_MOST;
 use names::COLON_KIND;
@@ -148,7 +148,7 @@ pub fn note_fields(
         if kind_at(room, n, i) != TERM_KIND {
             continue;
         }
-        let a = analyzer_among(names, lengths, analyzers, count, default, text_at(room, i));
+        let a = analyzer_of(names, lengths, analyzers, count, default, text_at(room, i));
         put_note(room, i, a);
     }
 }

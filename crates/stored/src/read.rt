@@ -14,6 +14,7 @@ use names::FILTER_TAG;
 use names::FLOAT_RANGE_TAG;
 use names::HEADER;
 use names::INCLUDED_TAG;
+use names::INFINITY;
 use names::LONG_QUERY;
 use names::MALFORMED_QUERY;
 use names::MATCH_ALL_TAG;
@@ -29,8 +30,10 @@ use names::REWRITER_BYTES;
 use names::REWRITER_DEPTH;
 use names::SELECTION_BYTES;
 use names::SELECTION_DEPTH;
+use names::SIGN;
 use names::TERM_TAG;
 use names::TEXT_TAG;
+use names::THE_NAN;
 use names::WORD_TAG;
 use numbers::big4;
 use parts::part::body;
@@ -183,13 +186,6 @@ fn is_record(s: &[u8]) -> bool
 {
     is_within(s, TERM_TAG, FLOAT_RANGE_TAG)
 }
-
-// A float's bits: the sign's, those of infinity, and those of the one NaN.
-const SIGN: u32 = 0x8000_0000;
-
-const INFINITY: u32 = 0x7f80_0000;
-
-const THE_NAN: u32 = 0x7fc0_0000;
 
 // There is one NaN: any other is malformed.
 fn is_boost(bits: u32) -> bool
@@ -362,9 +358,7 @@ fn rows(s: &[u8], first: usize, sound: u8) -> u8
         if at < end {
             match step(&s[at..end], left) {
                 Next::Fault(r) => return r,
-                Next::Past(k) => {
-                    at = at + k;
-                }
+                Next::Past(k) => at = at + k,
                 Next::Into(a, e, l) => {
                     ends[n] = end as u16;
                     lefts[n] = left as u8;
@@ -381,10 +375,9 @@ fn rows(s: &[u8], first: usize, sound: u8) -> u8
                     left = l;
                 }
             }
+        } else if n == 0 {
+            return good;
         } else {
-            if n == 0 {
-                return good;
-            }
             n = n - 1;
             end = ends[n] as usize;
             left = lefts[n] as usize;

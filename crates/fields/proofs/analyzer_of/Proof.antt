@@ -1,4 +1,4 @@
--- `fields::analyzer_among` meets its contract. The loop's invariant: the entries from the k-th on are not the field's. Assumes nothing.
+-- `fields::analyzer_of` meets its contract. The loop's invariant: the entries from the k-th on are not the field's. Assumes nothing.
 use mathlib.Core.Path.{_≡_, sym, _∙_}
 use Prim.Native.Nat.{_≤_}
 use native.Mathlib.Omega.{arith}
@@ -6,8 +6,8 @@ use borrow.Author.Needs.{needs}
 use Rattle.rules.specs.Setup.{analyzerAmong}
 use Rattle.fields.specs.Fields.{arrayEntries}
 use Rattle.fields.proofs.Rows.{amongTo, among-none, among-yes, among-no, among-other}
-use Rattle.fields.proofs.analyzer_among.Tie as tie
-use Rattle.fields.proofs.analyzer_among.Statement.{statement}
+use Rattle.fields.proofs.analyzer_of.Tie as tie
+use Rattle.fields.proofs.analyzer_of.Statement.{statement}
 
 abbrev Inv-loop : tie.InvT-loop
 Inv-loop names lengths analyzers count default field k₀ k = (k ≤ 8) × (analyzerAmong default (arrayEntries names lengths analyzers count) field ≡ amongTo names lengths analyzers default field k)
@@ -58,8 +58,8 @@ loop-again-2 c = (omega arith, c .before .before .before .before .before .loop .
 returns-2 : tie.Need-returns-2 Inv-loop μ-loop
 returns-2 c = let e : c .before .loop .k ≡ 0 = omega arith in sym (c .before .loop .inv .1 ∙ rw e (among-none _ _ _ _ _))
 
-pub analyzer-among-spec : {M : Type 1} → statement M
-analyzer-among-spec =
+pub analyzer-of-spec : {M : Type 1} → statement M
+analyzer-of-spec =
     tie.close
     (tie.spec
     Inv-loop
