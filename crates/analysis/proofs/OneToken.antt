@@ -11,6 +11,8 @@ use Rattle.rules.specs.Numbers.{chunkMost}
 use Rattle.rules.specs.Bytes.{all}
 use Rattle.rules.specs.Query.{Word, word}
 use Rattle.rules.specs.Analysis.{front, after, cut, isLetter, lowercase, isWords, tokenTexts, placedFrom, isLeftOut, keptOf, tokenize}
+use Rattle.rules.specs.Words.{isStopWord}
+use Rattle.rules.proofs.Bools.{and-no-l}
 use Rattle.rules.proofs.text.Pieces.{by-test, outside, front-nil, front-yes, after-nil, after-no, all-nil, all-cons, all-one, chunks-nil, chunks-step}
 use Rattle.rules.proofs.text.Tokens.{inWord, whitespace-none, whitespace-step, simple-none, simple-step, keyword-step, words-is, kept-nil, kept-yes}
 use Rattle.rules.proofs.text.Words.{one-word as letters-one}
@@ -73,3 +75,7 @@ one-word a t o = pass (ℕ-discrete a 1) (ℕ-discrete a 2)
 pub one-kept : (a : ℕ) (t : List ℕ) → tokenTexts a t ≡ spelled a t ∷ [] → isLeftOut a (spelled a t) ≡ false → tokenize a t ≡ word 0 (spelled a t) ∷ []
 unfolding placedFrom
 one-kept a t e n = ap (λ (ts : List (List ℕ)). keptOf a (placedFrom 0 ts)) e ∙ kept-yes a 0 (spelled a t) [] n ∙ ap (λ (ws : List Word). word 0 (spelled a t) ∷ ws) (kept-nil a)
+
+-- another analyzer than English leaves nothing out
+pub not-english : (a : ℕ) (t : List ℕ) → (a ≡ 5 → ⊥) → isLeftOut a (spelled a t) ≡ false
+not-english a t n = and-no-l (isStopWord (spelled a t)) (ne-eqb a 5 n)

@@ -80,7 +80,7 @@ fn chunk_end(start: usize, end: usize) -> usize
 }
 
 // The analyzer makes tokens of words.
-fn is_words(analyzer: u8) -> bool
+pub fn is_words(analyzer: u8) -> bool
     ensures { λ r. ⌜ r ≡ isWords analyzer ⌝ }
 {
     if analyzer < WORDS_ANALYZER {

@@ -6,7 +6,7 @@ use lib.ListN.{length, getD}
 use lib.Dec.{leb, ltb, eqb}
 use Rattle.rules.specs.Numbers.{Read, got, refused, need, onRead, andThen, longText, notAscii, fuzzyTerm, sloppyPhrase, unexpectedEnd, unexpectedToken, openBracket, noNumeral, longField, manyBrackets, textMost, fieldMost, bracketsMost, andOperator}
 use Rattle.rules.specs.Bytes.{isText}
-use Rattle.rules.specs.Query.{Word, word, positionOf, Kind, must, should, mustNot, filter, Query, term, phrase, boolean, boost, matchNone, Clauses, none, clause}
+use Rattle.rules.specs.Query.{Word, word, Kind, must, should, mustNot, filter, Query, term, phrase, boolean, boost, matchNone, Clauses, none, clause}
 use Rattle.rules.specs.Analysis.{tokenize}
 use Rattle.rules.specs.Lexing.{Token, endKind, termKind, quotedKind, colonKind, plusKind, minusKind, notKind, andKind, orKind, openKind, closeKind, caretKind, tildeKind, lex}
 use Rattle.rules.specs.Numerals.{numeralBits}
@@ -57,10 +57,14 @@ unfoldable pub countedFrom : ℕ → List Word → List Word
 countedFrom b [] = []
 countedFrom b (word p t ∷ ws) = word (p - b) t ∷ countedFrom b ws
 
+unfoldable pub fromFirst : List Word → List Word
+fromFirst [] = []
+fromFirst (word p t ∷ ws) = countedFrom p (word p t ∷ ws)
+
 unfoldable pub phraseOf : List ℕ → List Word → Made
 phraseOf f [] = nothing
 phraseOf f (word p t ∷ []) = made (term f t)
-phraseOf f (v ∷ w ∷ ws) = made (phrase f (countedFrom (positionOf v) (v ∷ w ∷ ws)))
+phraseOf f (v ∷ w ∷ ws) = made (phrase f (fromFirst (v ∷ w ∷ ws)))
 
 -- ---- a clause, in the field f and below d open brackets; `sub` reads a query
 

@@ -12,9 +12,6 @@ pub data Word : Type 0 where
   word : ℕ → List ℕ → Word
   deriving Discrete as word-discrete
 
-abbrev pub positionOf : Word → ℕ
-positionOf (word p t) = p
-
 abbrev pub textOf : Word → List ℕ
 textOf (word p t) = t
 

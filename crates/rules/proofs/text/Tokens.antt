@@ -228,7 +228,7 @@ pub kept-same : (a : ℕ) (ws : List Word) → eqb a 5 ≡ false → keptOf a ws
 kept-same a [] e = kept-nil a
 kept-same a (word p t ∷ ws) e = kept-yes a p t ws (and-no-l (isStopWord t) e) ∙ ap (λ (vs : List Word). word p t ∷ vs) (kept-same a ws e)
 
-english-not : (a : ℕ) → isWords a ≡ false → eqb a 5 ≡ false
+pub english-not : (a : ℕ) → isWords a ≡ false → eqb a 5 ≡ false
 english-not a h = ne-eqb a 5 (λ e. true≢false (sym (ap isWords e) ∙ h))
 
 -- so the answers of the first three analyzers are what they were before there were words

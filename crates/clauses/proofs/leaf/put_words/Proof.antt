@@ -1,39 +1,47 @@
 -- `clauses::leaf::put_words` meets its contract.
+use Prim.Native.Nat.{_+_, _-_, _≤_}
+use Rattle.analysis.specs.Tokens.{spelled, restWords, passed}
+use Rattle.clauses.proofs.Writing.{Laying, words-all, laying-ends, laying-fits, laying-on, words-none, words-here, slice-length, word-room}
+use Rattle.rules.specs.Analysis.{tokenize}
 use Rattle.rules.specs.Bytes.{big, part}
 use Rattle.rules.specs.Numbers.{wordTag}
-use mathlib.Core.List.{_++_}
-use Rattle.clauses.proofs.Writing.{Laying, laying-starts, laying-ends, laying-fits, laying-on, words-none, words-here, slice-length, word-room}
-use lib.ListN.{length, take, drop}
-use Rattle.analysis.specs.Tokens.{spelled}
+use Rattle.rules.specs.Parsing.{countedFrom, fromFirst}
 use Rattle.rules.specs.Stored.{encodeWords}
-use Rattle.rules.specs.Analysis.{tokenTexts, tokenize, placedFrom}
-use Prim.Native.Nat.{_+_, _-_, _≤_}
+use lib.ListN.{length, take, drop}
+use mathlib.Core.List.{_++_}
 use native.Mathlib.Omega.{arith}
 use borrow.Author.Needs.{needs}
-use Rattle.clauses.proofs.leaf.put_words.Statement.{statement}
 use Rattle.clauses.proofs.leaf.put_words.Tie as tie
+use Rattle.clauses.proofs.leaf.put_words.Statement.{statement}
 
 abbrev Inv-loop : tie.InvT-loop
-Inv-loop out₀ at analyzer text from₀ w₀ position₀ out from w position =
-    Laying (encodeWords (tokenize analyzer text)) (encodeWords (placedFrom position (tokenTexts analyzer (drop from text)))) out₀ at w out × (from ≤ length text) × (position ≤ from)
+Inv-loop out₀ at analyzer text base from₀ position₀ w₀ out from position w =
+    Laying (encodeWords (fromFirst (tokenize analyzer text))) (encodeWords (countedFrom base (restWords analyzer text from position))) out₀ at w out
+    × (from ≤ length text) × (position ≤ from) × (base ≤ position + passed analyzer text from)
 
 abbrev μ-loop : tie.MeasureT-loop
-μ-loop out₀ at analyzer text from₀ w₀ position₀ out from w position = length text - from
-
-loop-holds : tie.Need-loop-holds Inv-loop μ-loop
-loop-holds c = (laying-starts _ _ _, omega arith, omega arith)
+μ-loop out₀ at analyzer text base from₀ position₀ w₀ out from position w = length text - from
 
 next-token-requires : tie.Need-next-token-requires Inv-loop μ-loop
-next-token-requires c κs = search needs
+next-token-requires c κs = omega arith
+
+loop-holds : tie.Need-loop-holds Inv-loop μ-loop
+loop-holds c = (words-all (c .next-token .ensures) (c .before .before .before .args .out .now) (c .before .before .before .args .at), omega arith, omega arith, omega (arith, c .next-token .ensures .counted))
+
+next-token-requires-2 : tie.Need-next-token-requires-2 Inv-loop μ-loop
+next-token-requires-2 c κs = c .loop .inv .2
 
 same-length : tie.Need-same-length Inv-loop μ-loop
 same-length c = c .before .before .before .loop .inv .0 .long
 
 returns : tie.Need-returns Inv-loop μ-loop
-returns c = laying-ends (c .before .before .before .loop .inv .0) (words-none _ ((c .before .before .next-token .ensures) .none (c .if1 .taken)))
+returns c = laying-ends (c .before .before .before .loop .inv .0) (words-none _ ((c .before .before .next-token2 .ensures) .none (c .if1 .taken)))
 
 add-end : tie.Need-add-end Inv-loop μ-loop
-add-end c = omega (arith, (c .before .before .before .next-token .ensures) .within, c .before .before .before .before .loop .inv .1, c .before .before .before .before .before .before .before .pre .1)
+add-end c = omega (arith, (c .before .before .before .next-token2 .ensures) .within, c .before .before .before .before .loop .inv .1, c .before .before .before .before .before .before .before .before .pre .1)
+
+offset-requires : tie.Need-offset-requires Inv-loop μ-loop
+offset-requires c κs = (omega (arith, c .before .before .before .before .next-token2 .ensures .counted, c .before .before .before .before .before .loop .inv .3), omega (arith, c .before .before .before .before .next-token2 .ensures .few, c .before .before .before .before .next-token2 .ensures .within, c .before .before .before .before .before .loop .inv .1, c .before .before .before .before .before .loop .inv .2, c .before .before .before .before .before .before .before .before .before .pre .1))
 
 sub-put-word : tie.Need-sub-put-word Inv-loop μ-loop
 sub-put-word c = omega arith
@@ -42,19 +50,19 @@ part-put-word-start : tie.Need-part-put-word-start Inv-loop μ-loop
 part-put-word-start c = search needs
 
 part-put-word-end : tie.Need-part-put-word-end Inv-loop μ-loop
-part-put-word-end c = omega (arith, (c .before .before .before .before .next-token .ensures) .within, c .before .before .before .before .before .loop .inv .1, c .before .before .if1 .left)
+part-put-word-end c = omega (arith, (c .before .before .before .before .before .next-token2 .ensures) .within, c .before .before .before .before .before .before .loop .inv .1, c .before .before .before .if1 .left)
 
 put-word-requires : tie.Need-put-word-requires Inv-loop μ-loop
-put-word-requires c κs = let r = words-here (c .before .before .before .before .before .next-token .ensures) (c .before .before .before .before .before .before .loop .position) (c .before .before .before .if1 .left) in let l = laying-fits (c .before .before .before .before .before .before .loop .inv .0) (part wordTag (big 4 (c .before .before .before .before .before .before .loop .position) ++ spelled (c .before .before .before .before .before .before .before .before .before .args .analyzer) (take ((c .before .before .before .before .before .next-token .result .start) + (c .before .before .before .before .before .next-token .result .len) - (c .before .before .before .before .before .next-token .result .start)) (drop (c .before .before .before .before .before .next-token .result .start) (c .before .before .before .before .before .before .before .before .before .args .text .now))))) (encodeWords (placedFrom (c .before .before .before .before .before .before .loop .position + 1) (tokenTexts (c .before .before .before .before .before .before .before .before .before .args .analyzer) (drop ((c .before .before .before .before .before .next-token .result .start) + (c .before .before .before .before .before .next-token .result .len)) (c .before .before .before .before .before .before .before .before .before .args .text .now))))) r (c .before .before .before .before .before .before .before .before .before .pre .0) in let n = slice-length (c .before .before .before .before .before .before .before .before .before .args .text .now) (c .before .before .before .before .before .next-token .result .start) (c .before .before .before .before .before .next-token .result .len) (omega (arith, (c .before .before .before .before .before .next-token .ensures) .within, c .before .before .before .before .before .before .loop .inv .1)) in (word-room (take ((c .before .before .before .before .before .next-token .result .start) + (c .before .before .before .before .before .next-token .result .len) - (c .before .before .before .before .before .next-token .result .start)) (drop (c .before .before .before .before .before .next-token .result .start) (c .before .before .before .before .before .before .before .before .before .args .text .now))) (c .before .before .before .before .before .before .loop .out) (c .before .before .before .before .before .before .before .before .before .args .analyzer) (c .before .before .before .before .before .before .loop .w) (c .before .before .before .before .before .before .loop .position) l, omega (arith, (c .before .before .before .before .before .next-token .ensures) .within, c .before .before .before .before .before .before .loop .inv .1, c .before .before .before .before .before .before .before .before .before .pre .1))
+put-word-requires c κs = let r = words-here (c .before .before .before .before .before .before .next-token2 .ensures) (c .before .before .before .before .before .before .before .before .next-token .result .position) (c .before .offset .ensures) (c .before .before .before .before .if1 .left) in let l = laying-fits (c .before .before .before .before .before .before .before .loop .inv .0) (part wordTag (big 4 (c .before .offset .result) ++ spelled (c .before .before .before .before .before .before .before .before .before .before .before .args .analyzer) (take ((c .before .before .before .before .before .before .next-token2 .result .start) + (c .before .before .before .before .before .before .next-token2 .result .len) - (c .before .before .before .before .before .before .next-token2 .result .start)) (drop (c .before .before .before .before .before .before .next-token2 .result .start) (c .before .before .before .before .before .before .before .before .before .before .before .args .text .now))))) (encodeWords (countedFrom (c .before .before .before .before .before .before .before .before .next-token .result .position) (restWords (c .before .before .before .before .before .before .before .before .before .before .before .args .analyzer) (c .before .before .before .before .before .before .before .before .before .before .before .args .text .now) ((c .before .before .before .before .before .before .next-token2 .result .start) + (c .before .before .before .before .before .before .next-token2 .result .len)) (c .before .before .before .before .before .before .next-token2 .result .position + 1)))) r (c .before .before .before .before .before .before .before .before .before .before .before .pre .0) in let n = slice-length (c .before .before .before .before .before .before .before .before .before .before .before .args .text .now) (c .before .before .before .before .before .before .next-token2 .result .start) (c .before .before .before .before .before .before .next-token2 .result .len) (omega (arith, (c .before .before .before .before .before .before .next-token2 .ensures) .within, c .before .before .before .before .before .before .before .loop .inv .1)) in (word-room (take ((c .before .before .before .before .before .before .next-token2 .result .start) + (c .before .before .before .before .before .before .next-token2 .result .len) - (c .before .before .before .before .before .before .next-token2 .result .start)) (drop (c .before .before .before .before .before .before .next-token2 .result .start) (c .before .before .before .before .before .before .before .before .before .before .before .args .text .now))) (c .before .before .before .before .before .before .before .loop .out) (c .before .before .before .before .before .before .before .before .before .before .before .args .analyzer) (c .before .before .before .before .before .before .before .loop .w) (c .before .offset .result) l, omega (arith, (c .before .before .before .before .before .before .next-token2 .ensures) .within, c .before .before .before .before .before .before .before .loop .inv .1, c .before .before .before .before .before .before .before .before .before .before .before .pre .1))
 
 add-position : tie.Need-add-position Inv-loop μ-loop
-add-position c = omega (arith, c .before .before .before .before .before .before .before .before .before .loop .inv .2, c .before .before .before .before .before .before .before .before .before .loop .inv .1, c .before .before .before .before .before .before .before .before .before .before .before .before .pre .1)
+add-position c = omega (arith, c .before .before .before .before .before .before .before .before .before .before .before .before .before .before .before .pre .1, c .before .before .before .before .before .before .before .before .before .before .next-token2 .ensures .few, c .before .before .before .before .before .before .before .before .before .before .next-token2 .ensures .within, c .before .before .before .before .before .before .before .before .before .before .before .loop .inv .1, c .before .before .before .before .before .before .before .before .before .before .before .loop .inv .2, c .before .before .before .before .before .before .before .before .if1 .left)
 
 loop-less : tie.Need-loop-less Inv-loop μ-loop
-loop-less c = omega (arith, (c .before .before .before .before .before .before .before .before .next-token .ensures) .within, c .before .before .before .before .before .before .before .before .before .loop .inv .1, (c .before .before .before .before .before .before .before .before .next-token .ensures) .onward, c .before .before .before .before .before .before .if1 .left)
+loop-less c = omega (arith, (c .before .before .before .before .before .before .before .before .before .before .next-token2 .ensures) .within, c .before .before .before .before .before .before .before .before .before .before .before .loop .inv .1, (c .before .before .before .before .before .before .before .before .before .before .next-token2 .ensures) .onward, c .before .before .before .before .before .before .before .before .if1 .left)
 
 loop-again : tie.Need-loop-again Inv-loop μ-loop
-loop-again c = (laying-on (c .before .before .before .before .before .before .before .before .before .loop .inv .0) _ _ (words-here (c .before .before .before .before .before .before .before .before .next-token .ensures) (c .before .before .before .before .before .before .before .before .before .loop .position) (c .before .before .before .before .before .before .if1 .left)) (c .before .before .before .before .before .before .before .before .before .before .before .before .pre .0) (c .before .before .put-word .ensures) (c .before .before .put-word .kept .0), omega (arith, (c .before .before .before .before .before .before .before .before .next-token .ensures) .within, c .before .before .before .before .before .before .before .before .before .loop .inv .1, c .before .before .before .before .before .before .if1 .left), omega (arith, (c .before .before .before .before .before .before .before .before .next-token .ensures) .onward, c .before .before .before .before .before .before .before .before .before .loop .inv .2, c .before .before .before .before .before .before .if1 .left))
+loop-again c = (laying-on (c .before .before .before .before .before .before .before .before .before .before .before .loop .inv .0) _ _ (words-here (c .before .before .before .before .before .before .before .before .before .before .next-token2 .ensures) (c .before .before .before .before .before .before .before .before .before .before .before .before .next-token .result .position) (c .before .before .before .before .before .offset .ensures) (c .before .before .before .before .before .before .before .before .if1 .left)) (c .before .before .before .before .before .before .before .before .before .before .before .before .before .before .before .pre .0) (c .before .before .before .put-word .ensures) (c .before .before .before .put-word .kept .0), omega (arith, (c .before .before .before .before .before .before .before .before .before .before .next-token2 .ensures) .within, c .before .before .before .before .before .before .before .before .before .before .before .loop .inv .1, c .before .before .before .before .before .before .before .before .if1 .left), omega (arith, (c .before .before .before .before .before .before .before .before .before .before .next-token2 .ensures) .few, c .before .before .before .before .before .before .before .before .before .before .before .loop .inv .2, c .before .before .before .before .before .before .before .before .if1 .left), omega (arith, c .before .before .before .before .before .before .before .before .before .before .next-token2 .ensures .counted, c .before .before .before .before .before .before .before .before .before .before .before .loop .inv .3))
 
 pub put-words-spec : {M : Type 1} → statement M
 put-words-spec =
@@ -62,11 +70,13 @@ put-words-spec =
     (tie.spec
     Inv-loop
     μ-loop
-    loop-holds
     next-token-requires
+    loop-holds
+    next-token-requires-2
     same-length
     returns
     add-end
+    offset-requires
     sub-put-word
     part-put-word-start
     part-put-word-end
