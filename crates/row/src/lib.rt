@@ -1,4 +1,4 @@
-// The row of tokens in the room, for who parses it: kind, place, text and note of a token, and the field in force.
+// The row of tokens in the room, for who parses it: kind, text and note of a token, and the field in force.
 ghost use mathlib.Core.Path.{_≡_};
 ghost use Prim.Native.Nat.{_≤_, _<_};
 ghost use lib.ListN.{length};
@@ -31,14 +31,6 @@ pub fn kind_at(room: &[u8], n: usize, i: usize) -> u8
     ensures { λ r. ⌜ r ≡ tokenOf (tokensOf (now (room .entry)) n) i .kind ⌝ }
 {
     if i < n { room[1024 + 4 * i] } else { 0 }
-}
-
-// Where the token at i of n starts in the text.
-pub fn place_at(room: &[u8], n: usize, i: usize) -> usize
-    requires { ⌜ (i < n) × (n ≤ textMost) × (roomLeast ≤ length (now room)) ⌝ }
-    ensures { λ r. ⌜ r ≡ tokenOf (tokensOf (now (room .entry)) n) i .place ⌝ }
-{
-    start_at(room, i)
 }
 
 // The unescaped text of the token at i.
