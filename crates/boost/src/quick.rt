@@ -5,13 +5,17 @@ ghost use Prim.Native.Nat.{_*_, _^_, _<_};
 ghost use Rattle.rules.specs.Numerals.{nearest};
 ghost use Rattle.boost.specs.Digits.{shortMost};
 
+// Its own short table: a table is laid out anew at every call, and most numerals come this way.
 pub const POWERS: u32 = 8;
+
+const TENS: [u32; 8] = [1, 10, 100, 1000, 10000, 100000, 1000000, 10000000];
 
 fn ten(n: u32) -> u32
     requires { ⌜ n < 8 ⌝ }
     ensures { λ r. ⌜ r ≡ 10 ^ n ⌝ }
 {
-    crate::powers::ten(n) as u32
+    let k = n as usize;
+    TENS[k]
 }
 
 // The pattern nearest to d / 10^n.
