@@ -1,4 +1,7 @@
 // An entry of a record: its kind, its field, and its text and position or the bits of its number.
+use names::FLOAT_TAG;
+use names::PLACE_TAG;
+use names::WHOLE_TAG;
 use numbers::big4;
 use numbers::big8;
 use parts::part::body;
@@ -15,7 +18,7 @@ pub fn is_place(e: &[u8]) -> bool
     requires { ⌜ isEntry (now e) ≡ true ⌝ }
     ensures { λ r. ⌜ r ≡ isPlace (entryOf (now (e .entry))) ⌝ }
 {
-    tag_of(e) == 0x41
+    tag_of(e) == PLACE_TAG
 }
 
 // Whether it has a number of this kind.
@@ -24,9 +27,9 @@ pub fn is_of(float: bool, e: &[u8]) -> bool
     ensures { λ r. ⌜ r ≡ isOf (numbers float) (entryOf (now (e .entry))) ⌝ }
 {
     if float {
-        return tag_of(e) == 0x45;
+        return tag_of(e) == FLOAT_TAG;
     }
-    tag_of(e) == 0x44
+    tag_of(e) == WHOLE_TAG
 }
 
 pub fn field(e: &[u8]) -> &[u8]

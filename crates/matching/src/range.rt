@@ -4,6 +4,8 @@ use super::entry::is_of;
 use super::entry::number;
 use super::order::is_number;
 use super::order::ordered;
+use names::EXCLUDED_TAG;
+use names::OPEN_TAG;
 use numbers::big8;
 use parts::part::body;
 use parts::part::rest;
@@ -26,11 +28,11 @@ fn keeps(float: bool, upper: bool, t: &[u8], x: u64) -> bool
     ensures { λ r. ⌜ r ≡ keeps upper (numbers float) (boundOf (now (t .entry))) x ⌝ }
 {
     let tag = tag_of(t);
-    if tag == 0x30 {
+    if tag == OPEN_TAG {
         return true;
     }
     let b = big8(body(t));
-    let strict = tag == 0x32;
+    let strict = tag == EXCLUDED_TAG;
     if upper {
         ordered(float, strict, x, b)
     } else {

@@ -9,6 +9,15 @@ use super::level::unpacked;
 use super::phrase::phrase_true;
 use super::range::range_true;
 use super::term::term_true;
+use names::BOOLEAN_TAG;
+use names::BOOST_TAG;
+use names::CONSTANT_SCORE_TAG;
+use names::FLOAT_RANGE_TAG;
+use names::MATCH_ALL_TAG;
+use names::PHRASE_TAG;
+use names::SHOULD_TAG;
+use names::TERM_TAG;
+use names::WHOLE_RANGE_TAG;
 use numbers::big2;
 use parts::part::size_of;
 use parts::part::tag_of;
@@ -36,11 +45,11 @@ fn leaf_true(q: &[u8], rec: &[u8]) -> bool
     ensures { λ r. ⌜ Truth (now (q .entry)) (each entryOf (now (rec .entry))) r ⌝ }
 {
     match tag_of(q) {
-        1 => term_true(q, rec),
-        2 => phrase_true(q, rec),
-        6 => true,
-        8 => range_true(false, q, rec),
-        9 => range_true(true, q, rec),
+        TERM_TAG => term_true(q, rec),
+        PHRASE_TAG => phrase_true(q, rec),
+        MATCH_ALL_TAG => true,
+        WHOLE_RANGE_TAG => range_true(false, q, rec),
+        FLOAT_RANGE_TAG => range_true(true, q, rec),
         _ => false,
     }
 }
@@ -76,7 +85,7 @@ fn past_shoulds(q: &[u8], at: usize, end: usize) -> usize
     let mut p = at;
     while p < end {
         let t = &q[p..end];
-        if tag_of(t) != 0x21 {
+        if tag_of(t) != SHOULD_TAG {
             return p;
         }
         p += 3 + size_of(t);
@@ -155,13 +164,13 @@ fn step(q: &[u8], rec: &[u8], row: &mut [u64], depth: usize, at: usize, end: usi
 {
     let x = &q[at..end];
     match tag_of(x) {
-        3 => enter(q, row, depth, at, end),
-        4 => Next::Query {
+        BOOLEAN_TAG => enter(q, row, depth, at, end),
+        BOOST_TAG => Next::Query {
             depth,
             at: at + 7,
             end,
         },
-        5 => Next::Query {
+        CONSTANT_SCORE_TAG => Next::Query {
             depth,
             at: at + 3,
             end,

@@ -2,6 +2,8 @@
 // once. Whether the rows are long enough is known at once where they hold every record; only else is it counted before anything is written.
 use lists::check_list;
 use matching::truth::holds;
+use names::LONG_ANSWER;
+use names::SELECTION_DEPTH;
 use numbers::put_big4;
 use parts::part::body;
 use parts::part::rest;
@@ -62,7 +64,7 @@ fn count(query: &[u8], list: &[u8]) -> usize
     requires { ⌜ numberOf (selected (now query) (now list)) ≡ 0 ⌝ }
     ensures { λ r. ⌜ r ≡ length (listed (selected (now (query .entry)) (now (list .entry)))) ⌝ }
 {
-    let mut row = [0u64; 192];
+    let mut row = [0u64; SELECTION_DEPTH];
     let mut n: usize = 0;
     let mut t = list;
     while t.len() > 0 {
@@ -107,7 +109,7 @@ fn fill(query: &[u8], list: &[u8], rows: &mut [u32]) -> usize
     ensures { λ r. ⌜ (r ≡ length (listed (selected (now (query .entry)) (now (list .entry)))))
         × (now (rows .exit) ≡ listed (selected (now (query .entry)) (now (list .entry))) ++ drop r (now (rows .entry))) ⌝ }
 {
-    let mut row = [0u64; 192];
+    let mut row = [0u64; SELECTION_DEPTH];
     let mut w: usize = 0;
     let mut i = FIRST;
     let mut t = list;
@@ -129,7 +131,7 @@ pub fn select(query: &[u8], list: &[u8], rows: &mut [u32]) -> Selected
         return Selected::Refused(n);
     }
     if !fits(query, list, rows.len()) {
-        return Selected::Refused(18);
+        return Selected::Refused(LONG_ANSWER);
     }
     let k = fill(query, list, rows);
     Selected::Chosen(k)
@@ -149,7 +151,7 @@ fn fill_bytes(query: &[u8], list: &[u8], rows: &mut [u8]) -> usize
     ensures { λ r. ⌜ (r ≡ length (rowBytes (listed (selected (now (query .entry)) (now (list .entry))))))
         × (now (rows .exit) ≡ rowBytes (listed (selected (now (query .entry)) (now (list .entry)))) ++ drop r (now (rows .entry))) ⌝ }
 {
-    let mut row = [0u64; 192];
+    let mut row = [0u64; SELECTION_DEPTH];
     let mut w: usize = 0;
     let mut i = FIRST;
     let mut t = list;
@@ -173,7 +175,7 @@ pub fn select_bytes(query: &[u8], list: &[u8], rows: &mut [u8], room: &mut [u8])
         return Selected::Refused(n);
     }
     if !fits(query, list, rows.len() / 4) {
-        return Selected::Refused(18);
+        return Selected::Refused(LONG_ANSWER);
     }
     let w = fill_bytes(query, list, rows);
     Selected::Chosen(w / 4)
