@@ -1,5 +1,3 @@
-mod Searches
-mod Entries
 mod Orders
 mod Leaves
 mod Levels

@@ -1,8 +1,8 @@
 // A phrase is true of a record where some whole number, possibly negative, added to all its positions finds every one. Tried are the numbers
 // that put its first word, of position p, on an entry of its field and text, at x: then a word of position o stands at the y with
 // y + p == o + x. Positions have 32 bits, so that neither sum overflows, and no sign is needed.
-use super::entry::position;
-use super::term::is_here;
+use entries::entry::position;
+use entries::here::is_here;
 use numbers::big4;
 use parts::part::body;
 use parts::part::rest;

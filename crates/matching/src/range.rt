@@ -1,9 +1,9 @@
 // A range is true of a record where some value of its kind and field lies inside. `float` says which kind.
-use super::entry::field;
-use super::entry::is_of;
-use super::entry::number;
 use super::order::is_number;
 use super::order::ordered;
+use entries::entry::field;
+use entries::entry::is_of;
+use entries::entry::number;
 use names::EXCLUDED_TAG;
 use names::OPEN_TAG;
 use numbers::big8;
@@ -18,7 +18,7 @@ ghost use Rattle.rules.specs.Lists.{isEntry, entryOf};
 ghost use Rattle.rules.specs.Matching.{liesIn, isInside, hasRange};
 ghost use Rattle.rules.specs.Reading.{isBound, boundOf};
 ghost use Rattle.rules.specs.Stored.{rangeTag};
-ghost use Rattle.matching.specs.Entry.{numbers};
+ghost use Rattle.entries.specs.Entry.{numbers};
 ghost use Rattle.matching.specs.Order.{keeps};
 ghost use Rattle.matching.specs.Truth.{StoredAs, Truth};
 
