@@ -1,4 +1,5 @@
 mod Orders
 mod Leaves
+mod Words
 mod Levels
 mod Walks

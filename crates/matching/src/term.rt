@@ -1,5 +1,5 @@
 // A term is true of a record where an entry has its field and its text.
-use entries::here::has_term;
+use entries::slots::find_term;
 use parts::part::body;
 use parts::part::rest;
 ghost use mathlib.Core.Path.{_≡_};
@@ -7,12 +7,13 @@ ghost use mathlib.Core.Bool.{true};
 ghost use Rattle.rules.specs.Bytes.{every, each};
 ghost use Rattle.rules.specs.Lists.{isEntry, entryOf};
 ghost use Rattle.rules.specs.Numbers.{termTag};
+ghost use Rattle.entries.specs.Slots.{Told};
 ghost use Rattle.matching.specs.Truth.{StoredAs, Truth};
 
-pub fn term_true(q: &[u8], rec: &[u8]) -> bool
-    requires { ⌜ StoredAs termTag (now q) × (every isEntry (now rec) ≡ true) ⌝ }
+pub fn term_true(q: &[u8], rec: &[u8], from: usize, slots: &[u16]) -> bool
+    requires { ⌜ StoredAs termTag (now q) × (every isEntry (now rec) ≡ true) × Told (now slots) from (now rec) ⌝ }
     ensures { λ r. ⌜ Truth (now (q .entry)) (each entryOf (now (rec .entry))) r ⌝ }
 {
     let b = body(q);
-    has_term(body(b), body(rest(b)), rec)
+    find_term(body(b), body(rest(b)), rec, from, slots)
 }

@@ -31,6 +31,7 @@ ghost use Rattle.rules.specs.Bytes.{tagOf, every, each};
 ghost use Rattle.rules.specs.Checked.{Stored, StoredClauses};
 ghost use Rattle.rules.specs.Lists.{isEntry, entryOf, Entry};
 ghost use Rattle.rules.specs.Matching.{matches};
+ghost use Rattle.entries.specs.Slots.{Told};
 ghost use Rattle.matching.specs.Level.{carries};
 ghost use Rattle.matching.specs.Truth.{IsLeaf, Truth, StoredFor, cut, Open, outcome, AtClause, At, Leads, Past};
 
@@ -40,13 +41,13 @@ pub enum Next {
     Query { depth: usize, at: usize, end: usize },
 }
 
-fn leaf_true(q: &[u8], rec: &[u8]) -> bool
-    requires { ⌜ Stored (now q) × IsLeaf (tagOf (now q)) × (every isEntry (now rec) ≡ true) ⌝ }
+fn leaf_true(q: &[u8], rec: &[u8], from: usize, slots: &[u16]) -> bool
+    requires { ⌜ Stored (now q) × IsLeaf (tagOf (now q)) × (every isEntry (now rec) ≡ true) × Told (now slots) from (now rec) ⌝ }
     ensures { λ r. ⌜ Truth (now (q .entry)) (each entryOf (now (rec .entry))) r ⌝ }
 {
     match tag_of(q) {
-        TERM_TAG => term_true(q, rec),
-        PHRASE_TAG => phrase_true(q, rec),
+        TERM_TAG => term_true(q, rec, from, slots),
+        PHRASE_TAG => phrase_true(q, rec, from, slots),
         MATCH_ALL_TAG => true,
         WHOLE_RANGE_TAG => range_true(false, q, rec),
         FLOAT_RANGE_TAG => range_true(true, q, rec),
@@ -155,8 +156,17 @@ fn enter(q: &[u8], row: &mut [u64], depth: usize, at: usize, end: usize) -> Next
 }
 
 // From the query at hand.
-fn step(q: &[u8], rec: &[u8], row: &mut [u64], depth: usize, at: usize, end: usize) -> Next
-    requires { ⌜ At (now q) (now row) depth at end × (every isEntry (now rec) ≡ true)
+fn step(
+    q: &[u8],
+    rec: &[u8],
+    from: usize,
+    slots: &[u16],
+    row: &mut [u64],
+    depth: usize,
+    at: usize,
+    end: usize,
+) -> Next
+    requires { ⌜ At (now q) (now row) depth at end × (every isEntry (now rec) ≡ true) × Told (now slots) from (now rec)
         × (length (now q) ≤ selectionBytes) × (selectionDepth ≤ length (now row)) ⌝ }
     ensures { λ r. ⌜ ((t : At (now (q .entry)) (now (row .entry)) depth at end)
         → Leads (each entryOf (now (rec .entry))) (now (q .entry)) (now (row .exit)) at
@@ -176,22 +186,23 @@ fn step(q: &[u8], rec: &[u8], row: &mut [u64], depth: usize, at: usize, end: usi
             end,
         },
         _ => {
-            let y = leaf_true(x, rec);
+            let y = leaf_true(x, rec, from, slots);
             settle(q, row, depth, end, y)
         }
     }
 }
 
-// The row is the caller's, so that it is made once for all records.
-pub fn holds(q: &[u8], rec: &[u8], row: &mut [u64]) -> bool
-    requires { ⌜ StoredFor (now q) × (every isEntry (now rec) ≡ true) × (selectionDepth ≤ length (now row)) ⌝ }
+// Where there are slots, the entries of the record, whose front is at `from` in its list, are noted in them. The row is the caller's, so that it is
+// made once for all records.
+pub fn holds(q: &[u8], rec: &[u8], from: usize, slots: &[u16], row: &mut [u64]) -> bool
+    requires { ⌜ StoredFor (now q) × (every isEntry (now rec) ≡ true) × Told (now slots) from (now rec) × (selectionDepth ≤ length (now row)) ⌝ }
     ensures { λ r. ⌜ Truth (now (q .entry)) (each entryOf (now (rec .entry))) r ⌝ }
 {
     let mut depth: usize = 0;
     let mut at: usize = 0;
     let mut end = q.len();
     loop {
-        match step(q, rec, row, depth, at, end) {
+        match step(q, rec, from, slots, row, depth, at, end) {
             Next::Done(y) => return y,
             Next::Query {
                 depth: d,
