@@ -1,7 +1,8 @@
 // Selection: the numbers, from 0, of the records that a query is true of, into rows that the caller lends. The query and the list are checked
 // once. Whether the rows are long enough is known at once where they hold every record; only else is it counted before anything is written.
+use super::ask::is_chosen;
+use entries::slots::SLOTS;
 use lists::check_list;
-use matching::truth::holds;
 use names::LONG_ANSWER;
 use names::SELECTION_DEPTH;
 use numbers::put_big4;
@@ -65,10 +66,12 @@ fn count(query: &[u8], list: &[u8]) -> usize
     ensures { λ r. ⌜ r ≡ length (listed (selected (now (query .entry)) (now (list .entry)))) ⌝ }
 {
     let mut row = [0u64; SELECTION_DEPTH];
+    let mut slots = [0u16; SLOTS];
     let mut n: usize = 0;
     let mut t = list;
     while t.len() > 0 {
-        n += one(holds(query, body(t), &mut row));
+        let from = list.len() - t.len() + 3;
+        n += one(is_chosen(query, body(t), from, &mut slots, &mut row));
         let u = rest(t);
         t = u;
     }
@@ -110,11 +113,13 @@ fn fill(query: &[u8], list: &[u8], rows: &mut [u32]) -> usize
         × (now (rows .exit) ≡ listed (selected (now (query .entry)) (now (list .entry))) ++ drop r (now (rows .entry))) ⌝ }
 {
     let mut row = [0u64; SELECTION_DEPTH];
+    let mut slots = [0u16; SLOTS];
     let mut w: usize = 0;
     let mut i = FIRST;
     let mut t = list;
     while t.len() > 0 {
-        let y = holds(query, body(t), &mut row);
+        let from = list.len() - t.len() + 3;
+        let y = is_chosen(query, body(t), from, &mut slots, &mut row);
         w = put(rows, w, i, y);
         i += 1;
         let u = rest(t);
@@ -152,11 +157,13 @@ fn fill_bytes(query: &[u8], list: &[u8], rows: &mut [u8]) -> usize
         × (now (rows .exit) ≡ rowBytes (listed (selected (now (query .entry)) (now (list .entry)))) ++ drop r (now (rows .entry))) ⌝ }
 {
     let mut row = [0u64; SELECTION_DEPTH];
+    let mut slots = [0u16; SLOTS];
     let mut w: usize = 0;
     let mut i = FIRST;
     let mut t = list;
     while t.len() > 0 {
-        let y = holds(query, body(t), &mut row);
+        let from = list.len() - t.len() + 3;
+        let y = is_chosen(query, body(t), from, &mut slots, &mut row);
         w = put_bytes(rows, w, i, y);
         i += 1;
         let u = rest(t);
