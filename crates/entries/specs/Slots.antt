@@ -22,7 +22,7 @@ abbrev pub shapeOf : List ℕ → List ℕ → ℕ
 shapeOf f t = (length t % 256 * 256 + length f % 256) * 256 + getD f 0 0
 
 unfoldable pub hashOf : List ℕ → List ℕ → ℕ
-hashOf f t = (tailOf t * 0x3504_f335 + shapeOf f t * 0x5ebc_a6b5) / 0x1_0000_0000 % 4096
+hashOf f t = (tailOf t * 0x3504_f335 + shapeOf f t * 0x5ebc_a6b5) / 0x1_0000_0000 % 65536
 
 -- ---- the slots
 

@@ -55,9 +55,9 @@ fn shape(f: &[u8], t: &[u8]) -> u64
 }
 
 pub fn hash(f: &[u8], t: &[u8]) -> usize
-    ensures { λ r. ⌜ (r ≡ hashOf (now (f .entry)) (now (t .entry))) × (r < 4096) ⌝ }
+    ensures { λ r. ⌜ (r ≡ hashOf (now (f .entry)) (now (t .entry))) × (r < 65536) ⌝ }
 {
-    ((tail(t) * 0x3504_f335 + shape(f, t) * 0x5ebc_a6b5) / 0x1_0000_0000 % 4096) as usize
+    ((tail(t) * 0x3504_f335 + shape(f, t) * 0x5ebc_a6b5) / 0x1_0000_0000 % 65536) as usize
 }
 
 fn slot(f: &[u8], t: &[u8]) -> usize
