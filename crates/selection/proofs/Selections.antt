@@ -10,11 +10,11 @@ use lib.Seq.{take-at, drop-at, drop-drop, set-split}
 use lib.Dec.{leb}
 use borrow.Author.Tests.{le-leb, leb-true}
 use Rattle.rules.specs.Numbers.{recordTag, listMost, longAnswer, selectionBytes, selectionDepth, Read, got, refused, number, onRead, andThen}
-use Rattle.rules.specs.Bytes.{Bytes, big, bodyOf, restOf, wholeOf, isPart, every, each}
+use Rattle.rules.specs.Bytes.{Bytes, big, bodyOf, restOf, wholeOf, isPart, every, each, some}
 use Rattle.rules.specs.Query.{Query}
 use Rattle.rules.specs.Reading.{numberOf, readForSelection}
 use Rattle.rules.specs.Checked.{Is}
-use Rattle.rules.specs.Lists.{isEntry, entryOf, isRecord, recordOf, readList}
+use Rattle.rules.specs.Lists.{Entry, isEntry, entryOf, isRecord, recordOf, readList}
 use Rattle.rules.specs.Matching.{bit, matches, chosenFrom, chosen}
 use Rattle.rules.specs.Answers.{Left, zeros, leave, fitting, call, selected, rowBytes, rowsReply, selectLeft}
 use Rattle.rules.proofs.Bools.{alike, and-l, and-r}
@@ -26,7 +26,10 @@ use Rattle.rules.proofs.stored.Accepted.{Accepted, accepted, Listed, listed as 
 use Rattle.rules.proofs.choosing.Choices.{selection, selected-is, chosen-few}
 use Rattle.numbers.specs.Laid.{laid, Put}
 use Rattle.selection.specs.declared.select.Selected.the-variants.{Refused, Chosen}
-use Rattle.entries.specs.Slots.{slotsMany, Before}
+use Rattle.entries.specs.Slots.{slotsMany, hashOf, Before}
+use Rattle.wanted.specs.Wanted.{callsBy}
+use Rattle.wanted.specs.Marks.{isMarked, Marks}
+use Rattle.wanted.proofs.Occurring.{unwanted-empty}
 use Rattle.matching.specs.Truth.{Truth, StoredFor}
 use Rattle.selection.specs.Select.{listed, within, answerOf, rowsAfter, Selects, told, SelectsBytes}
 
@@ -122,6 +125,13 @@ module _ {s l : List ℕ} (R : Ready s l) where
 
   pub listed-most : length (listed (selected s l)) ≤ listMost
   listed-most = let k = R .list .long in omega (arith, listed-few, records-few l (R .list .records))
+
+-- ---- a record in which nothing is wanted
+
+pub bare-truth : {s w : List ℕ} {r : Bool} (bare : Bool) → Marks s w r → Truth s [] bare → (es : List Entry)
+    → some (callsBy hashOf (isMarked w) (λ f. r)) es ≡ false → Truth s es bare
+unfolding Truth
+bare-truth bare M T es z q i = T q i ∙ sym (unwanted-empty M q i es z)
 
 -- ---- slots before a record
 

@@ -1,29 +1,71 @@
-// Whether a query is true of one record of a list, by the way that costs less.
+// Whether a query is true of one record of a list, by the way that costs less: a short query looks for each term from entry to entry. For a long
+// one it is found once which entries it wants; a record with none of them is answered as a record with no entry is, and the entries of the others
+// are noted before the query is asked.
 use entries::slots::note;
 use matching::truth::holds;
+use wanted::any_called;
+use wanted::mark_query;
 ghost use mathlib.Core.Path.{_≡_};
 ghost use Prim.Native.Nat.{_+_, _≤_};
 ghost use mathlib.Core.Bool.{true};
 ghost use lib.ListN.{length};
 ghost use Rattle.rules.specs.Numbers.{listMost, selectionDepth};
-ghost use Rattle.rules.specs.Bytes.{every, each};
-ghost use Rattle.rules.specs.Lists.{isEntry, entryOf};
-ghost use Rattle.entries.specs.Slots.{Before};
-ghost use Rattle.matching.specs.Truth.{Truth, StoredFor};
-ghost use Rattle.selection.specs.Ask.{Asked};
+ghost use Rattle.rules.specs.Bytes.{every};
+ghost use Rattle.rules.specs.Lists.{isEntry};
+ghost use Rattle.entries.specs.Slots.{slotsMany, Before};
+ghost use Rattle.matching.specs.Truth.{StoredFor};
+ghost use Rattle.selection.specs.Ask.{Planned, Asked};
 
-// A query of so many bytes has a record's entries noted before it is asked. A shorter one has few terms, and to go from entry to entry for
-// each of them is less work.
-const NOTED_FROM: usize = 128;
+// A query of so many bytes is long: to go from entry to entry for each of its terms is more work than to note every entry.
+const LONG: usize = 256;
 
-// The record's entries stand from `from` on. The slots and the row are the caller's, so that they are made once for all records.
-pub fn is_chosen(query: &[u8], rec: &[u8], from: usize, slots: &mut [u16], row: &mut [u64]) -> bool
-    requires { ⌜ StoredFor (now query) × (every isEntry (now rec) ≡ true) × (from + length (now rec) ≤ listMost) × Before (now slots) from
-        × (selectionDepth ≤ length (now row)) ⌝ }
+// Whether the query is long; of a long one, whether it may have a range, and what it says of a record with no entry.
+pub struct Plan {
+    pub long: bool,
+    pub ranges: bool,
+    pub bare: bool,
+}
+
+// The rows are the caller's, so that they are made once for all records.
+pub fn prepare(query: &[u8], wanted: &mut [u8], slots: &[u16], row: &mut [u64]) -> Plan
+    requires { ⌜ StoredFor (now query) × (length (now wanted) ≡ slotsMany) × (selectionDepth ≤ length (now row)) ⌝ }
+    ensures { λ r. ⌜ Planned (now (query .entry)) (now (wanted .exit)) r ⌝ }
+{
+    if query.len() < LONG {
+        return Plan {
+            long: false,
+            ranges: true,
+            bare: false,
+        };
+    }
+    let bare = holds(query, &query[0..0], 0, &slots[0..0], row);
+    let ranges = mark_query(query, wanted);
+    Plan {
+        long: true,
+        ranges,
+        bare,
+    }
+}
+
+// The record's entries stand from `from` on.
+pub fn is_chosen(
+    query: &[u8],
+    rec: &[u8],
+    from: usize,
+    plan: Plan,
+    wanted: &[u8],
+    slots: &mut [u16],
+    row: &mut [u64],
+) -> bool
+    requires { ⌜ StoredFor (now query) × (every isEntry (now rec) ≡ true) × (from + length (now rec) ≤ listMost) × Planned (now query) (now wanted) plan
+        × Before (now slots) from × (selectionDepth ≤ length (now row)) ⌝ }
     ensures { λ r. ⌜ Asked (now (query .entry)) (now (rec .entry)) from (now (slots .exit)) r ⌝ }
 {
-    if query.len() < NOTED_FROM {
+    if !plan.long {
         return holds(query, rec, from, &slots[0..0], row);
+    }
+    if !any_called(wanted, plan.ranges, rec) {
+        return plan.bare;
     }
     note(rec, from, slots);
     holds(query, rec, from, slots, row)

@@ -1,6 +1,7 @@
 // Selection: the numbers, from 0, of the records that a query is true of, into rows that the caller lends. The query and the list are checked
 // once. Whether the rows are long enough is known at once where they hold every record; only else is it counted before anything is written.
 use super::ask::is_chosen;
+use super::ask::prepare;
 use entries::slots::SLOTS;
 use lists::check_list;
 use names::LONG_ANSWER;
@@ -67,11 +68,13 @@ fn count(query: &[u8], list: &[u8]) -> usize
 {
     let mut row = [0u64; SELECTION_DEPTH];
     let mut slots = [0u16; SLOTS];
+    let mut wanted = [0u8; SLOTS];
+    let plan = prepare(query, &mut wanted, &slots, &mut row);
     let mut n: usize = 0;
     let mut t = list;
     while t.len() > 0 {
         let from = list.len() - t.len() + 3;
-        n += one(is_chosen(query, body(t), from, &mut slots, &mut row));
+        n += one(is_chosen(query, body(t), from, plan, &wanted, &mut slots, &mut row));
         let u = rest(t);
         t = u;
     }
@@ -114,12 +117,14 @@ fn fill(query: &[u8], list: &[u8], rows: &mut [u32]) -> usize
 {
     let mut row = [0u64; SELECTION_DEPTH];
     let mut slots = [0u16; SLOTS];
+    let mut wanted = [0u8; SLOTS];
+    let plan = prepare(query, &mut wanted, &slots, &mut row);
     let mut w: usize = 0;
     let mut i = FIRST;
     let mut t = list;
     while t.len() > 0 {
         let from = list.len() - t.len() + 3;
-        let y = is_chosen(query, body(t), from, &mut slots, &mut row);
+        let y = is_chosen(query, body(t), from, plan, &wanted, &mut slots, &mut row);
         w = put(rows, w, i, y);
         i += 1;
         let u = rest(t);
@@ -158,12 +163,14 @@ fn fill_bytes(query: &[u8], list: &[u8], rows: &mut [u8]) -> usize
 {
     let mut row = [0u64; SELECTION_DEPTH];
     let mut slots = [0u16; SLOTS];
+    let mut wanted = [0u8; SLOTS];
+    let plan = prepare(query, &mut wanted, &slots, &mut row);
     let mut w: usize = 0;
     let mut i = FIRST;
     let mut t = list;
     while t.len() > 0 {
         let from = list.len() - t.len() + 3;
-        let y = is_chosen(query, body(t), from, &mut slots, &mut row);
+        let y = is_chosen(query, body(t), from, plan, &wanted, &mut slots, &mut row);
         w = put_bytes(rows, w, i, y);
         i += 1;
         let u = rest(t);

@@ -42,23 +42,23 @@ term-there : (f t r : List ℕ) {n : ℕ} → hashOf f t ≡ n → WordAt n (par
 term-there f t r e = (
   is-part fieldTag f _,
   rw (body-part fieldTag f (part textTag t ++ r), rest-part fieldTag f (part textTag t ++ r))
-  (record { text = t; found = inl (is-part textTag t r, body-part textTag t r); hash = e }),
+      (record { text = t; found = inl (is-part textTag t r, body-part textTag t r); hash = e }),
 )
 
 word-there : (f t r : List ℕ) (p : ℕ) {n : ℕ} → hashOf f t ≡ n → WordAt n (part fieldTag f ++ (part wordTag (big 4 p ++ t) ++ r))
 word-there f t r p e = (
   is-part fieldTag f _,
   rw (body-part fieldTag f (part wordTag (big 4 p ++ t) ++ r), rest-part fieldTag f (part wordTag (big 4 p ++ t) ++ r))
-  (record {
-    text = t;
-    found = inr (
-      no-part wordTag (big 4 p ++ t) r textTag (λ z. omega arith),
-      is-part wordTag (big 4 p ++ t) r,
-      rw (body-part wordTag (big 4 p ++ t) r) (omega (arith, length-append (big 4 p) t, length-big 4 p)),
-      ap (drop 4) (body-part wordTag (big 4 p ++ t) r) ∙ drop-at (big 4 p) t 4 (length-big 4 p),
-    );
-    hash = e;
-  }),
+      (record {
+        text = t;
+        found = inr (
+          no-part wordTag (big 4 p ++ t) r textTag (λ z. omega arith),
+          is-part wordTag (big 4 p ++ t) r,
+          rw (body-part wordTag (big 4 p ++ t) r) (omega (arith, length-append (big 4 p) t, length-big 4 p)),
+          ap (drop 4) (body-part wordTag (big 4 p ++ t) r) ∙ drop-at (big 4 p) t 4 (length-big 4 p),
+        );
+        hash = e;
+      }),
 )
 
 no-words : (l : Bound) (r : List ℕ) → (isPart textTag (encodeBound l ++ r) ≡ false) × (isPart wordTag (encodeBound l ++ r) ≡ false)
