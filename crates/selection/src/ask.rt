@@ -6,15 +6,13 @@ use matching::truth::holds;
 use wanted::any_called;
 use wanted::mark_query;
 ghost use mathlib.Core.Path.{_≡_};
-ghost use Prim.Native.Nat.{_+_, _≤_};
+ghost use Prim.Native.Nat.{_≤_};
 ghost use mathlib.Core.Bool.{true};
 ghost use lib.ListN.{length};
-ghost use Rattle.rules.specs.Numbers.{listMost, selectionDepth};
-ghost use Rattle.rules.specs.Bytes.{every};
-ghost use Rattle.rules.specs.Lists.{isEntry};
-ghost use Rattle.entries.specs.Slots.{slotsMany, Before};
+ghost use Rattle.rules.specs.Numbers.{selectionDepth};
+ghost use Rattle.entries.specs.Slots.{slotsMany};
 ghost use Rattle.matching.specs.Truth.{StoredFor};
-ghost use Rattle.selection.specs.Ask.{Planned, Asked};
+ghost use Rattle.selection.specs.Ask.{Planned, Ready, Asked};
 
 // A query of so many bytes is long: to go from entry to entry for each of its terms is more work than to note every entry.
 const LONG: usize = 256;
@@ -47,7 +45,26 @@ pub fn prepare(query: &[u8], wanted: &mut [u8], slots: &[u16], row: &mut [u64]) 
     }
 }
 
-// The record's entries stand from `from` on.
+// A long query, of a record whose entries stand from `from` on.
+fn is_long_chosen(
+    query: &[u8],
+    rec: &[u8],
+    from: usize,
+    plan: Plan,
+    wanted: &[u8],
+    slots: &mut [u16],
+    row: &mut [u64],
+) -> bool
+    requires { ⌜ Ready (now query) (now rec) from (now slots) (now row) × Planned (now query) (now wanted) plan × (plan .long ≡ true) ⌝ }
+    ensures { λ r. ⌜ Asked (now (query .entry)) (now (rec .entry)) from (now (slots .exit)) r ⌝ }
+{
+    if !any_called(wanted, plan.ranges, rec) {
+        return plan.bare;
+    }
+    note(rec, from, slots);
+    holds(query, rec, from, slots, row)
+}
+
 pub fn is_chosen(
     query: &[u8],
     rec: &[u8],
@@ -57,16 +74,11 @@ pub fn is_chosen(
     slots: &mut [u16],
     row: &mut [u64],
 ) -> bool
-    requires { ⌜ StoredFor (now query) × (every isEntry (now rec) ≡ true) × (from + length (now rec) ≤ listMost) × Planned (now query) (now wanted) plan
-        × Before (now slots) from × (selectionDepth ≤ length (now row)) ⌝ }
+    requires { ⌜ Ready (now query) (now rec) from (now slots) (now row) × Planned (now query) (now wanted) plan ⌝ }
     ensures { λ r. ⌜ Asked (now (query .entry)) (now (rec .entry)) from (now (slots .exit)) r ⌝ }
 {
-    if !plan.long {
-        return holds(query, rec, from, &slots[0..0], row);
+    if plan.long {
+        return is_long_chosen(query, rec, from, plan, wanted, slots, row);
     }
-    if !any_called(wanted, plan.ranges, rec) {
-        return plan.bare;
-    }
-    note(rec, from, slots);
-    holds(query, rec, from, slots, row)
+    holds(query, rec, from, &slots[0..0], row)
 }
