@@ -1,4 +1,5 @@
 // The reader of catalogue lists, by the same parts: 0 where every record and every entry in it is sound, else 22 or 23.
+use names::FIELD_TAG;
 use names::FLOAT_TAG;
 use names::LIST_MOST;
 use names::LONG_LIST;
@@ -12,15 +13,19 @@ use parts::part::body;
 use parts::part::is_field_part;
 use parts::part::is_part;
 use parts::part::is_part_of;
-use parts::part::is_plain;
 use parts::part::rest;
+use parts::part::size_of;
+use parts::part::tag_of;
 use parts::part::whole;
 use stored::read::is_word;
+use stretches::is_middle_text;
 ghost use mathlib.Core.Path.{_≡_};
-ghost use Rattle.rules.specs.Numbers.{placeTag};
+ghost use mathlib.Core.Bool.{true};
+ghost use Rattle.rules.specs.Numbers.{placeTag, wordTag};
 ghost use Rattle.rules.specs.Bytes.{every};
 ghost use Rattle.rules.specs.Reading.{numberOf};
 ghost use Rattle.rules.specs.Lists.{isValue, isFieldWith, isEntry, isRecord, readList};
+ghost use Rattle.parts.specs.Part.{Plain};
 ghost use Rattle.lists.specs.List.{isHeld};
 
 fn is_value(s: &[u8]) -> bool
@@ -53,11 +58,41 @@ fn is_fielded(tag: u8, b: &[u8]) -> bool
     rest(w).len() == 0
 }
 
+// A quick test of a field and of a position with a text behind it. It passes short ones that are ASCII throughout, headers too, so that one look at
+// all the bytes is enough, and the two lengths are tested together; what it does not pass may still be sound.
+fn is_lean(b: &[u8]) -> bool
+    ensures { λ r. ⌜ (r ≡ true → Plain wordTag 4 (now (b .entry))) ⌝ }
+{
+    let n = b.len();
+    if n < 10 {
+        return false;
+    }
+    if n > 32 {
+        return false;
+    }
+    let f = size_of(b);
+    if f > n - 10 {
+        return false;
+    }
+    let at = 3 + f;
+    let t = &b[at..];
+    if size_of(t) != n - 6 - f {
+        return false;
+    }
+    if tag_of(b) != FIELD_TAG {
+        return false;
+    }
+    if tag_of(t) != WORD_TAG {
+        return false;
+    }
+    is_middle_text(b)
+}
+
 // A position with a text behind the field, short ones first.
 fn is_place(b: &[u8]) -> bool
     ensures { λ r. ⌜ r ≡ isFieldWith (isHeld placeTag) (now (b .entry)) ⌝ }
 {
-    if is_plain(b, WORD_TAG, 4) {
+    if is_lean(b) {
         return true;
     }
     is_fielded(PLACE_TAG, b)
