@@ -1,10 +1,13 @@
 // Rounds, until one changes nothing; and the call.
+use measures::weight;
+use names::LONG_ANSWER;
+use names::REWRITE_ROOM;
+use names::SHORT_ROOM;
 use places::place::shift;
 use round::once::rewrite_once;
 use stored::read::for_rewriting;
 use stretches::clear;
 use stretches::copy;
-use stretches::same;
 ghost use mathlib.Core.Path.{_≡_};
 ghost use Rattle.rules.specs.Query.{Query};
 ghost use Rattle.rules.specs.Checked.{Is};
@@ -18,30 +21,29 @@ pub struct Rounds {
     pub rounds: usize,
 }
 
-// The query stands in the first n bytes, and so does what is left of it. A query has at least as many bytes as rounds, so that n is enough to count down from.
+// The query stands in the last n bytes of the room, and what is left of it ends up in the first ones. A round lowers the weight or changes nothing.
 fn rewrite_all(room: &mut [u8], n: usize) -> Rounds
-    requires { ⌜ Ready n (now room) ⌝ }
-    ensures { λ r. ⌜ ((q : Query) → Is (within 0 n (now (room .entry))) q → Settled (resultOf (rewrite q)) (countOf (rewrite q)) (r .len) (r .rounds) (now (room .entry)) (now (room .exit))) ⌝ }
 {
-    let mut len = n;
+    let end = room.len();
+    let mut at = end - n;
     let mut made: usize = 0;
-    let mut left = n;
+    let mut left = weight(&room[at..]);
     while 0 < left {
-        let m = rewrite_once(room, 0, len, len);
+        let m = rewrite_once(room, at);
         made += 1;
-        let e = len + m;
-        if same(&room[0..len], &room[len..e]) {
+        let w = weight(&room[0..m]);
+        if w == left {
             return Rounds {
-                len: len,
+                len: m,
                 rounds: made,
             };
         }
-        shift(room, 0, len, m);
-        len = m;
-        left -= 1;
+        at = end - m;
+        shift(room, at, 0, m);
+        left = w;
     }
     Rounds {
-        len: len,
+        len: 0,
         rounds: made,
     }
 }
@@ -56,10 +58,10 @@ pub struct Rewritten {
 pub fn rewrite(query: &[u8], out: &mut [u8], room: &mut [u8]) -> Rewritten
     ensures { λ r. ⌜ left (r .refusal) (r .len) (r .rounds) (now (out .exit)) (now (room .exit)) ≡ rewriteLeft (now (query .entry)) (now (out .entry)) (now (room .entry)) ⌝ }
 {
-    if room.len() < 114687 {
+    if room.len() < REWRITE_ROOM {
         clear(room);
         return Rewritten {
-            refusal: 32,
+            refusal: SHORT_ROOM,
             len: 0,
             rounds: 0,
         };
@@ -73,13 +75,15 @@ pub fn rewrite(query: &[u8], out: &mut [u8], room: &mut [u8]) -> Rewritten
             rounds: 0,
         };
     }
-    copy(room, 0, query);
-    let a = rewrite_all(room, query.len());
+    let n = query.len();
+    let at = room.len() - n;
+    copy(room, at, query);
+    let a = rewrite_all(room, n);
     let n = a.len;
     if out.len() < n {
         clear(room);
         return Rewritten {
-            refusal: 18,
+            refusal: LONG_ANSWER,
             len: 0,
             rounds: 0,
         };
