@@ -15,6 +15,21 @@ use parts::write::put_header;
 use places::ends::end_of;
 use places::place::shift;
 use stretches::same;
+ghost use mathlib.Core.Path.{_≡_};
+ghost use mathlib.Core.List.{_++_};
+ghost use Prim.Native.Nat.{_+_, _-_, _<_, _≤_};
+ghost use lib.ListN.{length};
+ghost use Rattle.rules.specs.Numbers.{boostTag};
+ghost use Rattle.rules.specs.Bytes.{big, part};
+ghost use Rattle.rules.specs.Query.{Kind, Query, Clauses};
+ghost use Rattle.rules.specs.Stored.{kindTag, encodes};
+ghost use Rattle.rules.specs.Checked.{Is, Are, Stored};
+ghost use Rattle.rules.specs.Floats.{widened};
+ghost use Rattle.rules.specs.Rewriting.{summable, standsFor, base, boostOf};
+ghost use Rattle.rules.specs.Eating.{held, mergedClauses};
+ghost use Rattle.numbers.specs.Laid.{Put};
+ghost use Rattle.places.specs.Within.{within, Stands};
+ghost use Rattle.merging.specs.Merge.{Eats, Fed, First, Eatable, Ate, reboostedBytes, mergedSize, Way, Mergeable};
 
 // A merged clause: where its base stands, its kind, its running sum.
 pub struct Merged {
@@ -24,6 +39,7 @@ pub struct Merged {
 }
 
 fn summable(least: usize, k: u8) -> bool
+    ensures { λ r. ⌜ ((j : Kind) → kindTag j ≡ k → r ≡ summable least j) ⌝ }
 {
     if k == MUST_TAG {
         true
@@ -35,6 +51,7 @@ fn summable(least: usize, k: u8) -> bool
 }
 
 fn stands_for(j: u8, k: u8) -> bool
+    ensures { λ r. ⌜ ((i l : Kind) → kindTag i ≡ j → kindTag l ≡ k → r ≡ standsFor i l) ⌝ }
 {
     if j == k {
         true
@@ -47,6 +64,8 @@ fn stands_for(j: u8, k: u8) -> bool
 
 // A query with one outer boost taken off.
 fn base(q: &[u8]) -> &[u8]
+    requires { ⌜ Stored (now q) ⌝ }
+    ensures { λ r. ⌜ ((x : Query) → Is (now (q .entry)) x → Is (now r) (base x)) ⌝ }
 {
     if q[0] == BOOST_TAG {
         return &q[7..];
@@ -55,6 +74,8 @@ fn base(q: &[u8]) -> &[u8]
 }
 
 fn boost_of(q: &[u8]) -> u32
+    requires { ⌜ Stored (now q) ⌝ }
+    ensures { λ r. ⌜ ((x : Query) → Is (now (q .entry)) x → widened r ≡ boostOf x) ⌝ }
 {
     if q[0] == BOOST_TAG {
         return big4(&q[3..]);
@@ -64,6 +85,8 @@ fn boost_of(q: &[u8]) -> u32
 
 // What a clause of kind k is compared by.
 fn held(least: usize, k: u8, q: &[u8]) -> &[u8]
+    requires { ⌜ Stored (now q) ⌝ }
+    ensures { λ r. ⌜ ((x : Query) (j : Kind) → Is (now (q .entry)) x → kindTag j ≡ k → Is (now r) (held least j x)) ⌝ }
 {
     if summable(least, k) {
         return base(q);
@@ -73,6 +96,8 @@ fn held(least: usize, k: u8, q: &[u8]) -> &[u8]
 
 // Does a clause of kind k that is compared by h stand for one of kind j with the query q?
 fn eats(least: usize, k: u8, h: &[u8], j: u8, q: &[u8]) -> bool
+    requires { ⌜ Stored (now q) ⌝ }
+    ensures { λ r. ⌜ Eats least k (now (h .entry)) j (now (q .entry)) r ⌝ }
 {
     if stands_for(k, j) {
         return same(h, held(least, j, q));
@@ -82,6 +107,8 @@ fn eats(least: usize, k: u8, h: &[u8], j: u8, q: &[u8]) -> bool
 
 // The sum once a clause of kind j with the query q was taken up.
 fn fed(least: usize, sum: f64, j: u8, q: &[u8]) -> f64
+    requires { ⌜ Stored (now q) ⌝ }
+    ensures { λ r. ⌜ Fed least sum j (now (q .entry)) r ⌝ }
 {
     if summable(least, j) {
         return add(sum, boost_of(q));
@@ -91,6 +118,8 @@ fn fed(least: usize, sum: f64, j: u8, q: &[u8]) -> f64
 
 // The clause of kind k with the query q, which stands at a place, before it has taken up any.
 fn first_of(least: usize, at: usize, k: u8, q: &[u8]) -> Merged
+    requires { ⌜ Stored (now q) × (at + length (now q) < 18446744073709551616) ⌝ }
+    ensures { λ r. ⌜ ((j : Kind) (x : Query) → kindTag j ≡ k → Is (now (q .entry)) x → First at least j x (r .base) (r .kind) (r .sum)) ⌝ }
 {
     if summable(least, k) {
         let h = base(q);
@@ -115,6 +144,8 @@ struct Eaten {
 
 // Goes over the clauses from `at`, where the base of m ends, up to `end`.
 fn eat(room: &mut [u8], m: Merged, at: usize, end: usize, least: usize) -> Eaten
+    requires { ⌜ Eatable (m .base) (m .kind) at end (now room) ⌝ }
+    ensures { λ r. ⌜ ((k : Kind) (h : Query) (cs : Clauses) → kindTag k ≡ m .kind → Is (within (m .base) at (now (room .entry))) h → Are (within at end (now (room .entry))) cs → Ate least at end (now (room .entry)) k h cs (m .sum) (r .from) (r .sum) (now (room .exit))) ⌝ }
 {
     let b = m.base;
     let k = m.kind;
@@ -141,6 +172,8 @@ fn eat(room: &mut [u8], m: Merged, at: usize, end: usize, least: usize) -> Eaten
 
 // Lays a clause at w: what stands from b up to e.
 fn put_clause(room: &mut [u8], w: usize, kind: u8, b: usize, e: usize) -> usize
+    requires { ⌜ (b ≤ e) × (e ≤ length (now room)) × (w + 3 + (e - b) ≤ length (now room)) × (e - b < 65536) ⌝ }
+    ensures { λ r. ⌜ Put (now (room .entry)) w (part kind (within b e (now (room .entry)))) r (now (room .exit)) ⌝ }
 {
     let n = e - b;
     let r = shift(room, w + 3, b, n);
@@ -150,6 +183,8 @@ fn put_clause(room: &mut [u8], w: usize, kind: u8, b: usize, e: usize) -> usize
 
 // The same with a boost.
 fn put_boosted(room: &mut [u8], w: usize, kind: u8, bits: u32, b: usize, e: usize) -> usize
+    requires { ⌜ (b ≤ e) × (e ≤ length (now room)) × (w + 10 + (e - b) ≤ length (now room)) × (7 + (e - b) < 65536) ⌝ }
+    ensures { λ r. ⌜ Put (now (room .entry)) w (part kind (part boostTag (big 4 bits ++ within b e (now (room .entry))))) r (now (room .exit)) ⌝ }
 {
     let n = e - b;
     let r = shift(room, w + 10, b, n);
@@ -161,6 +196,8 @@ fn put_boosted(room: &mut [u8], w: usize, kind: u8, bits: u32, b: usize, e: usiz
 
 // Lays a merged clause at w: its base ends at e. The boost is put back where the sum is not 1.
 fn put_merged(room: &mut [u8], w: usize, m: Merged, e: usize) -> usize
+    requires { ⌜ (m .base ≤ e) × (e ≤ length (now room)) × (w + mergedSize (m .sum) (e - m .base) ≤ length (now room)) × (mergedSize (m .sum) (e - m .base) < 65536) ⌝ }
+    ensures { λ r. ⌜ Put (now (room .entry)) w (part (m .kind) (reboostedBytes (m .sum) (within (m .base) e (now (room .entry))))) r (now (room .exit)) ⌝ }
 {
     let b = m.base;
     let s = m.sum;
@@ -172,12 +209,16 @@ fn put_merged(room: &mut [u8], w: usize, m: Merged, e: usize) -> usize
 
 // The bytes that a merged clause with a base of n bytes takes.
 fn merged_size(sum: f64, n: usize) -> usize
+    requires { ⌜ n + 10 < 18446744073709551616 ⌝ }
+    ensures { λ r. ⌜ r ≡ mergedSize sum n ⌝ }
 {
     if is_one(sum) { 3 + n } else { 10 + n }
 }
 
 // Moves what stands from `at` up to `end` so far that it begins at `need` or behind, and gives the place where it begins.
 fn make_way(room: &mut [u8], need: usize, at: usize, end: usize) -> usize
+    requires { ⌜ (at ≤ end) × (end ≤ length (now room)) × (need + (end - at) ≤ length (now room)) ⌝ }
+    ensures { λ r. ⌜ Way need at end (now (room .entry)) r (now (room .exit)) ⌝ }
 {
     if need <= at {
         return at;
@@ -188,6 +229,8 @@ fn make_way(room: &mut [u8], need: usize, at: usize, end: usize) -> usize
 
 // Merges the clauses that stand in the first `end` bytes, and lays what is kept at the front.
 pub fn merge_clauses(room: &mut [u8], end: usize, least: usize) -> usize
+    requires { ⌜ Mergeable end (now room) ⌝ }
+    ensures { λ r. ⌜ ((cs : Clauses) → Are (within 0 end (now (room .entry))) cs → Stands 0 (now (room .entry)) r (encodes (mergedClauses least cs)) (now (room .exit))) ⌝ }
 {
     let mut t = 0;
     let mut w = 0;

@@ -1,90 +1,109 @@
--- `merging::merge::merge_clauses` meets its contract.
-use mathlib.Core.Path.{refl}
-use Prim.Native.Nat.{_-_}
-use native.Mathlib.Omega.{arith}
-use borrow.Author.Tests.{not-true, not-false}
+use Rattle.merging.proofs.Placed as placed
 use Rattle.merging.proofs.Merging as merging
-use Rattle.places.proofs.Standing as standing
+use Prim.Native.Nat.{_-_}
+use mathlib.Core.Path.{refl}
+use native.Mathlib.Omega.{arith}
+use borrow.Author.Needs.{needs}
 use Rattle.merging.proofs.merge.merge_clauses.Statement.{statement}
 use Rattle.merging.proofs.merge.merge_clauses.Tie as tie
+use Rattle.merging.proofs.merge.merge_clauses.Reads as reads
+use Rattle.merging.proofs.merge.merge_clauses.Lts as lts
+use Rattle.merging.proofs.merge.eat.Reads as eat-reads
+use Rattle.merging.proofs.merge.first_of.Reads as first-of-reads
+use Rattle.merging.proofs.merge.make_way.Reads as make-way-reads
+use Rattle.merging.proofs.merge.merged_size.Reads as merged-size-reads
+use Rattle.merging.proofs.merge.put_merged.Reads as put-merged-reads
+use Rattle.places.proofs.ends.end_of.Reads as end-of-reads
 
 abbrev Inv-loop : tie.InvT-loop
-Inv-loop room₀ from end least t₀ w₀ room t w = merging.Merging from end least room₀ room t w
+Inv-loop room₀ end least t₀ w₀ last₀ room t w last = merging.Merging end least room₀ room t w last
 
 abbrev μ-loop : tie.MeasureT-loop
-μ-loop room₀ from end least t₀ w₀ room t w = end - t
+μ-loop room₀ end least t₀ w₀ last₀ room t w last = last - t
 
+-- src/merge.rt:238:5
 loop-holds : tie.Need-loop-holds Inv-loop μ-loop
-loop-holds c = merging.merging-start _ _ _ _ (c .before .pre)
+loop-holds c = merging.merging-start _ (c .before .pre)
 
-slice-read-k : tie.Need-slice-read-k Inv-loop μ-loop
-slice-read-k c = let l = merging.inside (c .before .before .loop .inv) in omega arith
-
+-- src/merge.rt:239:13
 end-of-requires : tie.Need-end-of-requires Inv-loop μ-loop
-end-of-requires c κs = (let l = merging.inside (c .before .before .before .loop .inv) in omega arith, merging.here (c .before .before .before .loop .inv) (c .before .before .loop-test .taken) .part .whole)
+end-of-requires c κs = (let l = merging.inside (c .before .before .loop .inv) in omega arith, merging.here (c .before .before .loop .inv) (c .before .loop-test .taken) .part .whole)
 
-sub-seen : tie.Need-sub-seen Inv-loop μ-loop
-sub-seen c = let l = c .before .before .before .before .loop .inv .low in omega arith
+-- src/merge.rt:240:33
+add-first-of : tie.Need-add-first-of Inv-loop μ-loop
+add-first-of c = search needs
 
-part-seen-start : tie.Need-part-seen-start Inv-loop μ-loop
-part-seen-start c = let l = c .before .before .before .before .before .loop .inv .low in omega arith
+-- src/merge.rt:240:40
+slice-read-first-of : tie.Need-slice-read-first-of Inv-loop μ-loop
+slice-read-first-of c = search needs
 
-part-seen-end : tie.Need-part-seen-end Inv-loop μ-loop
-part-seen-end c = let l = merging.inside (c .before .before .before .before .before .loop .inv) in omega arith
+-- src/merge.rt:240:55
+add-first-of-2 : tie.Need-add-first-of-2 Inv-loop μ-loop
+add-first-of-2 c = search needs
 
-add-held : tie.Need-add-held Inv-loop μ-loop
-add-held c = let l = merging.inside (c .before .before .before .before .before .before .loop .inv) in let f = merging.further (c .before .before .before .before .before .before .loop .inv) (c .before .before .before .before .before .loop-test .taken) _ (merging.ends (c .before .before .before .before .before .before .loop .inv) (c .before .before .before .before .before .loop-test .taken) _ (c .before .before .end-of .ensures .0)) in omega arith
+-- src/merge.rt:240:49
+sub-first-of : tie.Need-sub-first-of Inv-loop μ-loop
+sub-first-of c = search needs
 
-sub-held : tie.Need-sub-held Inv-loop μ-loop
-sub-held c = let f = merging.further (c .before .before .before .before .before .before .loop .inv) (c .before .before .before .before .before .loop-test .taken) _ (merging.ends (c .before .before .before .before .before .before .loop .inv) (c .before .before .before .before .before .loop-test .taken) _ (c .before .before .end-of .ensures .0)) in omega arith
+-- src/merge.rt:240:49
+part-first-of-start : tie.Need-part-first-of-start Inv-loop μ-loop
+part-first-of-start c = search needs
 
-part-held-start : tie.Need-part-held-start Inv-loop μ-loop
-part-held-start c = let f = merging.further (c .before .before .before .before .before .before .loop .inv) (c .before .before .before .before .before .loop-test .taken) _ (merging.ends (c .before .before .before .before .before .before .loop .inv) (c .before .before .before .before .before .loop-test .taken) _ (c .before .before .end-of .ensures .0)) in omega arith
+-- src/merge.rt:240:49
+part-first-of-end : tie.Need-part-first-of-end Inv-loop μ-loop
+part-first-of-end c = search needs
 
-part-held-end : tie.Need-part-held-end Inv-loop μ-loop
-part-held-end c = let l = c .before .before .end-of .ensures .1 in omega arith
+-- src/merge.rt:240:13
+first-of-requires : tie.Need-first-of-requires Inv-loop μ-loop
+first-of-requires c κs = (record { query = merging.here (c .before .before .before .before .before .before .loop .inv) (c .before .before .before .before .before .loop-test .taken) .query; is = placed.clause-is (merging.here (c .before .before .before .before .before .before .loop .inv) (c .before .before .before .before .before .loop-test .taken)) _ (c .before .before .before .end-of .ensures .0) }, omega arith)
 
-held-requires : tie.Need-held-requires Inv-loop μ-loop
-held-requires c κs = record { query = merging.here (c .before .before .before .before .before .before .before .loop .inv) (c .before .before .before .before .before .before .loop-test .taken) .query; is = merging.is-here (c .before .before .before .before .before .before .before .loop .inv) (c .before .before .before .before .before .before .loop-test .taken) _ (merging.ends (c .before .before .before .before .before .before .before .loop .inv) (c .before .before .before .before .before .before .loop-test .taken) _ (c .before .before .before .end-of .ensures .0)) }
+-- src/merge.rt:243:13
+eat-requires : tie.Need-eat-requires Inv-loop μ-loop
+eat-requires c κs = merging.eatable (c .before .before .before .before .before .before .before .before .loop .inv) (c .before .before .before .before .before .before .before .loop-test .taken) _ (c .before .before .before .before .before .end-of .ensures .0) _ refl _ _ _ (c .before .first-of .ensures)
 
-seen-requires : tie.Need-seen-requires Inv-loop μ-loop
-seen-requires c κs = record { clauses = c .before .before .before .before .before .before .before .before .loop .inv .pre; are = c .before .before .before .before .before .before .before .before .loop .inv .are-pre }
+-- src/merge.rt:246:51
+sub-merged-size : tie.Need-sub-merged-size Inv-loop μ-loop
+sub-merged-size c = omega (arith, merging.eatable (c .before .before .before .before .before .before .before .before .before .before .before .before .loop .inv) (c .before .before .before .before .before .before .before .before .before .before .before .loop-test .taken) _ (c .before .before .before .before .before .before .before .before .before .end-of .ensures .0) _ refl _ _ _ (c .before .before .before .before .before .first-of .ensures) .low)
 
-sub-merged-at : tie.Need-sub-merged-at Inv-loop μ-loop
-sub-merged-at c = omega arith
+-- src/merge.rt:246:36
+merged-size-requires : tie.Need-merged-size-requires Inv-loop μ-loop
+merged-size-requires c κs = search needs
 
-part-merged-at-start : tie.Need-part-merged-at-start Inv-loop μ-loop
-part-merged-at-start c = omega arith
+-- src/merge.rt:246:32
+add-make-way : tie.Need-add-make-way Inv-loop μ-loop
+add-make-way c = omega (arith, merging.near (c .before .before .before .before .before .before .before .before .before .before .before .before .before .loop .inv) (c .before .before .before .before .before .before .before .before .before .before .before .before .loop-test .taken) _ (c .before .before .before .before .before .before .before .before .before .before .end-of .ensures .0) _ refl _ _ _ (c .before .before .before .before .before .before .first-of .ensures) (c .before .before .before .before .eat .ensures) (omega (arith, c .before .before .before .before .eat .kept .0)) _ (c .merged-size .ensures), merging.way-room (c .before .before .before .before .before .before .before .before .before .before .before .before .before .loop .inv) (c .before .before .before .before .before .before .before .before .before .before .before .before .loop-test .taken) _ (c .before .before .before .before .before .before .before .before .before .before .end-of .ensures .0) _ refl _ _ _ (c .before .before .before .before .before .before .first-of .ensures) (c .before .before .before .before .eat .ensures) (omega (arith, c .before .before .before .before .eat .kept .0)) _ (c .merged-size .ensures) .0, c .before .before .before .before .before .before .before .before .before .before .before .before .before .loop .inv .small)
 
-part-merged-at-end : tie.Need-part-merged-at-end Inv-loop μ-loop
-part-merged-at-end c = let l = merging.inside (c .before .before .before .before .before .before .before .before .before .before .before .loop .inv) in omega arith
+-- src/merge.rt:246:13
+make-way-requires : tie.Need-make-way-requires Inv-loop μ-loop
+make-way-requires c κs = merging.way-room (c .before .before .before .before .before .before .before .before .before .before .before .before .before .loop .inv) (c .before .before .before .before .before .before .before .before .before .before .before .before .loop-test .taken) _ (c .before .before .before .before .before .before .before .before .before .before .end-of .ensures .0) _ refl _ _ _ (c .before .before .before .before .before .before .first-of .ensures) (c .before .before .before .before .eat .ensures) (omega (arith, c .before .before .before .before .eat .kept .0)) _ (c .merged-size .ensures)
 
-merged-at-requires : tie.Need-merged-at-requires Inv-loop μ-loop
-merged-at-requires c κs = let n = standing.within-length (c .before .before .before .before .before .before .before .before .before .before .before .before .loop .room) (c .before .before .before .before .before .before .before .before .before .before .before .before .loop .t) (c .before .before .before .before .before .before .before .before .before .before .before .before .before .before .args .end) (c .before .before .before .before .before .before .before .before .before .before .before .before .loop .inv .high) (merging.inside (c .before .before .before .before .before .before .before .before .before .before .before .before .loop .inv)) in let l = merging.inside (c .before .before .before .before .before .before .before .before .before .before .before .before .loop .inv) in let z = c .before .before .before .before .before .before .before .before .before .before .before .before .loop .inv .long in (record { clauses = c .before .before .before .before .before .before .before .before .before .before .before .before .loop .inv .left; are = c .before .before .before .before .before .before .before .before .before .before .before .before .loop .inv .are-left }, omega (arith, c .before .before .before .before .before .before .before .before .before .before .before .loop-test .taken), omega (arith, c .before .before .before .before .before .before .before .before .before .before .before .before .before .before .good .0, c .before .before .before .before .before .before .before .before .before .before .before .loop-test .taken))
-
+-- src/merge.rt:247:13
 put-merged-requires : tie.Need-put-merged-requires Inv-loop μ-loop
-put-merged-requires c κs = merging.merge-room (c .before .before .before .before .before .before .before .before .before .before .before .before .before .before .loop .inv) (c .before .before .before .before .before .before .before .before .before .before .before .before .before .loop-test .taken) _ (merging.ends (c .before .before .before .before .before .before .before .before .before .before .before .before .before .before .loop .inv) (c .before .before .before .before .before .before .before .before .before .before .before .before .before .loop-test .taken) _ (c .before .before .before .before .before .before .before .before .before .before .end-of .ensures .0)) _ refl _ (c .before .before .before .before .before .before .held .ensures) _ (c .before .before .before .before .before .seen .ensures) (not-true _ (c .before .before .before .before .if1 .taken)) _ _ _ (c .before .merged-at .ensures _ _ _ (merging.split-here (c .before .before .before .before .before .before .before .before .before .before .before .before .before .before .loop .inv) (c .before .before .before .before .before .before .before .before .before .before .before .before .before .loop-test .taken)))
+put-merged-requires c κs = merging.put-room (c .before .before .before .before .before .before .before .before .before .before .before .before .before .before .before .before .before .loop .inv) (c .before .before .before .before .before .before .before .before .before .before .before .before .before .before .before .before .loop-test .taken) _ (c .before .before .before .before .before .before .before .before .before .before .before .before .before .before .end-of .ensures .0) _ refl _ _ _ (c .before .before .before .before .before .before .before .before .before .before .first-of .ensures) (c .before .before .before .before .before .before .before .before .eat .ensures) (omega (arith, c .before .before .before .before .before .before .before .before .eat .kept .0)) _ (c .before .before .before .before .merged-size .ensures) (c .before .before .before .make-way .ensures) (omega (arith, c .before .before .before .make-way .kept .0))
 
+-- src/merge.rt:252:24
+sub-last : tie.Need-sub-last Inv-loop μ-loop
+sub-last c = search needs
+
+-- src/merge.rt:252:16
+add-last : tie.Need-add-last Inv-loop μ-loop
+add-last c = omega (arith, merging.further (c .before .before .before .before .before .before .before .before .before .before .before .before .before .before .before .before .before .before .before .before .loop .inv) (c .before .before .before .before .before .before .before .before .before .before .before .before .before .before .before .before .before .before .before .loop-test .taken) _ (c .before .before .before .before .before .before .before .before .before .before .before .before .before .before .before .before .before .end-of .ensures .0) _ refl _ _ _ (c .before .before .before .before .before .before .before .before .before .before .before .before .before .first-of .ensures) (c .before .before .before .before .before .before .before .before .before .before .before .eat .ensures) (omega (arith, c .before .before .before .before .before .before .before .before .before .before .before .eat .kept .0)) _ (c .before .before .before .before .before .before .before .merged-size .ensures) (c .before .before .before .before .before .before .make-way .ensures) (omega (arith, c .before .before .before .before .before .before .make-way .kept .0)))
+
+-- src/merge.rt:238:5
 loop-less : tie.Need-loop-less Inv-loop μ-loop
-loop-less c = let f = merging.further (c .before .before .before .before .before .before .before .before .before .before .before .before .before .before .before .before .before .loop .inv) (c .before .before .before .before .before .before .before .before .before .before .before .before .before .before .before .before .loop-test .taken) _ (merging.ends (c .before .before .before .before .before .before .before .before .before .before .before .before .before .before .before .before .before .loop .inv) (c .before .before .before .before .before .before .before .before .before .before .before .before .before .before .before .before .loop-test .taken) _ (c .before .before .before .before .before .before .before .before .before .before .before .before .before .end-of .ensures .0)) in omega (arith, c .before .before .before .before .before .before .before .before .before .before .before .before .before .before .before .before .loop-test .taken)
+loop-less c = omega (arith, merging.further (c .before .before .before .before .before .before .before .before .before .before .before .before .before .before .before .before .before .before .before .before .loop .inv) (c .before .before .before .before .before .before .before .before .before .before .before .before .before .before .before .before .before .before .before .loop-test .taken) _ (c .before .before .before .before .before .before .before .before .before .before .before .before .before .before .before .before .before .end-of .ensures .0) _ refl _ _ _ (c .before .before .before .before .before .before .before .before .before .before .before .before .before .first-of .ensures) (c .before .before .before .before .before .before .before .before .before .before .before .eat .ensures) (omega (arith, c .before .before .before .before .before .before .before .before .before .before .before .eat .kept .0)) _ (c .before .before .before .before .before .before .before .merged-size .ensures) (c .before .before .before .before .before .before .make-way .ensures) (omega (arith, c .before .before .before .before .before .before .make-way .kept .0)))
 
+-- src/merge.rt:238:5
 loop-again : tie.Need-loop-again Inv-loop μ-loop
-loop-again c = merging.merge-keep (c .before .before .before .before .before .before .before .before .before .before .before .before .before .before .before .before .before .loop .inv) (c .before .before .before .before .before .before .before .before .before .before .before .before .before .before .before .before .loop-test .taken) _ (merging.ends (c .before .before .before .before .before .before .before .before .before .before .before .before .before .before .before .before .before .loop .inv) (c .before .before .before .before .before .before .before .before .before .before .before .before .before .before .before .before .loop-test .taken) _ (c .before .before .before .before .before .before .before .before .before .before .before .before .before .end-of .ensures .0)) _ refl _ (c .before .before .before .before .before .before .before .before .before .held .ensures) _ (c .before .before .before .before .before .before .before .before .seen .ensures) (not-true _ (c .before .before .before .before .before .before .before .if1 .taken)) _ _ _ (c .before .before .before .before .merged-at .ensures _ _ _ (merging.split-here (c .before .before .before .before .before .before .before .before .before .before .before .before .before .before .before .before .before .loop .inv) (c .before .before .before .before .before .before .before .before .before .before .before .before .before .before .before .before .loop-test .taken))) _ _ (c .before .before .put-merged .ensures)
+loop-again c = merging.merge-next (c .before .before .before .before .before .before .before .before .before .before .before .before .before .before .before .before .before .before .before .before .loop .inv) (c .before .before .before .before .before .before .before .before .before .before .before .before .before .before .before .before .before .before .before .loop-test .taken) _ (c .before .before .before .before .before .before .before .before .before .before .before .before .before .before .before .before .before .end-of .ensures .0) _ refl _ _ _ (c .before .before .before .before .before .before .before .before .before .before .before .before .before .first-of .ensures) (c .before .before .before .before .before .before .before .before .before .before .before .eat .ensures) (omega (arith, c .before .before .before .before .before .before .before .before .before .before .before .eat .kept .0)) _ (c .before .before .before .before .before .before .before .merged-size .ensures) (c .before .before .before .before .before .before .make-way .ensures) (omega (arith, c .before .before .before .before .before .before .make-way .kept .0)) (c .before .before .put-merged .ensures)
 
-loop-less-2 : tie.Need-loop-less-2 Inv-loop μ-loop
-loop-less-2 c = let f = merging.further (c .before .before .before .before .before .before .before .before .before .before .loop .inv) (c .before .before .before .before .before .before .before .before .before .loop-test .taken) _ (merging.ends (c .before .before .before .before .before .before .before .before .before .before .loop .inv) (c .before .before .before .before .before .before .before .before .before .loop-test .taken) _ (c .before .before .before .before .before .before .end-of .ensures .0)) in omega (arith, c .before .before .before .before .before .before .before .before .before .loop-test .taken)
-
-loop-again-2 : tie.Need-loop-again-2 Inv-loop μ-loop
-loop-again-2 c = merging.merge-drop (c .before .before .before .before .before .before .before .before .before .before .loop .inv) (c .before .before .before .before .before .before .before .before .before .loop-test .taken) _ (merging.ends (c .before .before .before .before .before .before .before .before .before .before .loop .inv) (c .before .before .before .before .before .before .before .before .before .loop-test .taken) _ (c .before .before .before .before .before .before .end-of .ensures .0)) _ refl _ (c .before .before .held .ensures) _ (c .before .seen .ensures) (not-false _ (c .if1 .left))
-
-sub-result : tie.Need-sub-result Inv-loop μ-loop
-sub-result c = let b = merging.behind (c .before .loop .inv) in omega arith
-
+-- src/merge.rt:231:1
 same-length : tie.Need-same-length Inv-loop μ-loop
 same-length c = c .before .loop .inv .long
 
+-- src/merge.rt:231:1
 returns : tie.Need-returns Inv-loop μ-loop
-returns c = merging.merge-end (c .before .loop .inv) (c .loop-test .left)
+returns c = merging.merging-end (c .before .loop .inv) (c .loop-test .left)
 
 pub merge-clauses-spec : {M : Type 1} → statement M
 merge-clauses-spec =
@@ -93,26 +112,23 @@ merge-clauses-spec =
     Inv-loop
     μ-loop
     loop-holds
-    slice-read-k
     end-of-requires
-    sub-seen
-    part-seen-start
-    part-seen-end
-    add-held
-    sub-held
-    part-held-start
-    part-held-end
-    held-requires
-    seen-requires
-    sub-merged-at
-    part-merged-at-start
-    part-merged-at-end
-    merged-at-requires
+    add-first-of
+    slice-read-first-of
+    add-first-of-2
+    sub-first-of
+    part-first-of-start
+    part-first-of-end
+    first-of-requires
+    eat-requires
+    sub-merged-size
+    merged-size-requires
+    add-make-way
+    make-way-requires
     put-merged-requires
+    sub-last
+    add-last
     loop-less
     loop-again
-    loop-less-2
-    loop-again-2
-    sub-result
     same-length
     returns)
