@@ -18,6 +18,13 @@ use numbers::big4;
 use parts::write::put_header;
 use places::ends::end_of;
 use places::place::shift;
+ghost use lib.ListN.{drop};
+ghost use Rattle.rules.specs.Query.{Query, Clauses};
+ghost use Rattle.rules.specs.Stored.{encode};
+ghost use Rattle.rules.specs.Checked.{Is, Are};
+ghost use Rattle.rules.specs.Rewriting.{rewriteOnce};
+ghost use Rattle.places.specs.Within.{Stands};
+ghost use Rattle.round.specs.Once.{Room, Rooms, Rewritten};
 
 enum Kept {
     Dead,
@@ -26,6 +33,8 @@ enum Kept {
 
 // The clauses from `at` on, each after its own round, without those that are MatchNone.
 fn rewrite_clauses(room: &mut [u8], at: usize) -> Kept
+    requires { ⌜ Rooms at (now room) ⌝ }
+    ensures { λ r. ⌜ ((cs : Clauses) → Are (drop at (now (room .entry))) cs → Rewritten (now (room .entry)) r (now (room .exit)) cs) ⌝ }
 {
     let mut t = at;
     let mut w = 0;
@@ -48,6 +57,8 @@ fn rewrite_clauses(room: &mut [u8], at: usize) -> Kept
 
 // The query from `at` on.
 pub fn rewrite_once(room: &mut [u8], at: usize) -> usize
+    requires { ⌜ Room at (now room) ⌝ }
+    ensures { λ r. ⌜ ((q : Query) → Is (drop at (now (room .entry))) q → Stands 0 (now (room .entry)) r (encode (rewriteOnce q)) (now (room .exit))) ⌝ }
 {
     let tag = room[at];
     match tag {

@@ -19,14 +19,31 @@ use parts::write::put_header;
 use parts::write::put_minimum;
 use places::ends::end_of;
 use places::place::shift;
+ghost use mathlib.Core.List.{List, _++_};
+ghost use Prim.Native.Nat.{ℕ, _+_, _-_, _<_, _≤_};
+ghost use lib.ListN.{length, take, drop};
+ghost use Rattle.rules.specs.Numbers.{termTag, textTag};
+ghost use Rattle.rules.specs.Bytes.{part};
+ghost use Rattle.rules.specs.Query.{Word, Kind, Query, phrase, boolean, matchNone, Clauses, none, clause};
+ghost use Rattle.rules.specs.Stored.{encode};
+ghost use Rattle.rules.specs.Checked.{Is, Are};
+ghost use Rattle.rules.specs.Rewriting.{boosted, scored, phrased, lone, ofLive};
+ghost use Rattle.rules.specs.Eating.{mergedClauses};
+ghost use Rattle.numbers.specs.Laid.{Put};
+ghost use Rattle.places.specs.Within.{within, Stands};
+ghost use Rattle.round.specs.Over.{Inner, Phrase, Live, Lone};
 
 pub fn put_none(room: &mut [u8]) -> usize
+    requires { ⌜ 3 ≤ length (now room) ⌝ }
+    ensures { λ r. ⌜ Stands 0 (now (room .entry)) r (encode matchNone) (now (room .exit)) ⌝ }
 {
     put_header(room, 0, MATCH_NONE_TAG, 0)
 }
 
 // Boost b of the query of n bytes at 7. A nested boost is one product.
 pub fn boost_over(room: &mut [u8], n: usize, b: u32) -> usize
+    requires { ⌜ Inner 7 n (now room) ⌝ }
+    ensures { λ r. ⌜ ((q : Query) → Is (take n (drop 7 (now (room .entry)))) q → Stands 0 (now (room .entry)) r (encode (boosted b q)) (now (room .exit))) ⌝ }
 {
     let tag = room[7];
     if tag == MATCH_NONE_TAG {
@@ -45,6 +62,8 @@ pub fn boost_over(room: &mut [u8], n: usize, b: u32) -> usize
 
 // ConstantScore of the query of n bytes at 3.
 pub fn score_over(room: &mut [u8], n: usize) -> usize
+    requires { ⌜ Inner 3 n (now room) ⌝ }
+    ensures { λ r. ⌜ ((q : Query) → Is (take n (drop 3 (now (room .entry)))) q → Stands 0 (now (room .entry)) r (encode (scored q)) (now (room .exit))) ⌝ }
 {
     let tag = room[3];
     if tag == MATCH_NONE_TAG {
@@ -65,6 +84,8 @@ pub fn score_over(room: &mut [u8], n: usize) -> usize
 
 // The term with the field part from `field` up to `word`, and the text of the word that stands from there up to the end.
 fn term_over(room: &mut [u8], field: usize, word: usize) -> usize
+    requires { ⌜ (3 ≤ field) × (field ≤ word) × (word + 7 ≤ length (now room)) × (3 + (word - field) + (length (now room) - (word + 7)) < 65536) ⌝ }
+    ensures { λ r. ⌜ Put (now (room .entry)) 0 (part termTag (within field word (now (room .entry)) ++ part textTag (within (word + 7) (length (now (room .entry))) (now (room .entry))))) r (now (room .exit)) ⌝ }
 {
     let f = word - field;
     let from = word + 7;
@@ -77,6 +98,8 @@ fn term_over(room: &mut [u8], field: usize, word: usize) -> usize
 
 // The phrase from `at` on: one of no word is MatchNone, and one of one word a term.
 pub fn phrase_over(room: &mut [u8], at: usize) -> usize
+    requires { ⌜ Phrase at (now room) ⌝ }
+    ensures { λ r. ⌜ ((f : List ℕ) (ws : List Word) → Is (drop at (now (room .entry))) (phrase f ws) → Stands 0 (now (room .entry)) r (encode (phrased f ws)) (now (room .exit))) ⌝ }
 {
     let end = room.len();
     let words = end_of(room, at + 3);
@@ -93,6 +116,8 @@ pub fn phrase_over(room: &mut [u8], at: usize) -> usize
 
 // One clause, from 8 up to the end, with a minimum of at most 1.
 fn put_lone(room: &mut [u8], end: usize) -> usize
+    requires { ⌜ Lone end (now room) ⌝ }
+    ensures { λ r. ⌜ ((k : Kind) (q : Query) → Are (within 8 end (now (room .entry))) (clause k q none) → Stands 0 (now (room .entry)) r (encode (lone k q)) (now (room .exit))) ⌝ }
 {
     let k = room[8];
     let n = end - 11;
@@ -111,6 +136,8 @@ fn put_lone(room: &mut [u8], end: usize) -> usize
 }
 
 fn put_merged_boolean(room: &mut [u8], end: usize, least: usize) -> usize
+    requires { ⌜ Live end least (now room) ⌝ }
+    ensures { λ r. ⌜ ((cs : Clauses) → Are (within 8 end (now (room .entry))) cs → Stands 0 (now (room .entry)) r (encode (boolean least (mergedClauses least cs))) (now (room .exit))) ⌝ }
 {
     let n = merge_clauses(&mut room[8..], end - 8, least);
     put_minimum(room, 3, least);
@@ -120,6 +147,8 @@ fn put_merged_boolean(room: &mut [u8], end: usize, least: usize) -> usize
 
 // A Boolean, of clauses after their own round, from 8 up to the end.
 pub fn rewrite_boolean(room: &mut [u8], end: usize, least: usize) -> usize
+    requires { ⌜ Live end least (now room) ⌝ }
+    ensures { λ r. ⌜ ((cs : Clauses) → Are (within 8 end (now (room .entry))) cs → Stands 0 (now (room .entry)) r (encode (ofLive least cs)) (now (room .exit))) ⌝ }
 {
     if only_must_not(&room[8..end]) {
         return put_none(room);
