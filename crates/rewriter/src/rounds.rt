@@ -9,27 +9,29 @@ use stored::read::for_rewriting;
 use stretches::clear;
 use stretches::copy;
 ghost use mathlib.Core.Path.{_≡_};
+ghost use lib.ListN.{drop};
 ghost use Rattle.rules.specs.Query.{Query};
 ghost use Rattle.rules.specs.Checked.{Is};
 ghost use Rattle.rules.specs.Rewriting.{rewrite, resultOf, countOf};
 ghost use Rattle.rules.specs.Answers.{rewriteLeft};
-ghost use Rattle.places.specs.Within.{within};
-ghost use Rattle.rewriter.specs.Rounds.{Ready, Settled, left};
+ghost use Rattle.round.specs.Once.{Room};
+ghost use Rattle.rewriter.specs.Rounds.{Settled, left};
 
 pub struct Rounds {
     pub len: usize,
     pub rounds: usize,
 }
 
-// The query stands in the last n bytes of the room, and what is left of it ends up in the first ones. A round lowers the weight or changes nothing.
-fn rewrite_all(room: &mut [u8], n: usize) -> Rounds
+// The query stands from `at` on, and what is left of it ends up at the front. A round lowers the weight, or changes nothing and is the last.
+fn rewrite_all(room: &mut [u8], at: usize) -> Rounds
+    requires { ⌜ Room at (now room) ⌝ }
+    ensures { λ r. ⌜ ((q : Query) → Is (drop at (now (room .entry))) q → Settled (resultOf (rewrite q)) (countOf (rewrite q)) (r .len) (r .rounds) (now (room .exit))) ⌝ }
 {
-    let end = room.len();
-    let mut at = end - n;
+    let mut t = at;
     let mut made: usize = 0;
     let mut left = weight(&room[at..]);
-    while 0 < left {
-        let m = rewrite_once(room, at);
+    loop {
+        let m = rewrite_once(room, t);
         made += 1;
         let w = weight(&room[0..m]);
         if w == left {
@@ -38,13 +40,9 @@ fn rewrite_all(room: &mut [u8], n: usize) -> Rounds
                 rounds: made,
             };
         }
-        at = end - m;
-        shift(room, at, 0, m);
+        t = room.len() - m;
+        shift(room, t, 0, m);
         left = w;
-    }
-    Rounds {
-        len: 0,
-        rounds: made,
     }
 }
 
@@ -75,10 +73,9 @@ pub fn rewrite(query: &[u8], out: &mut [u8], room: &mut [u8]) -> Rewritten
             rounds: 0,
         };
     }
-    let n = query.len();
-    let at = room.len() - n;
+    let at = room.len() - query.len();
     copy(room, at, query);
-    let a = rewrite_all(room, n);
+    let a = rewrite_all(room, at);
     let n = a.len;
     if out.len() < n {
         clear(room);
