@@ -32,6 +32,18 @@
 extern "C" {
 #endif
 
+/* ---- version: of this header. gorbihesh_version gives that of the library that is linked. Where the major
+ * numbers differ, so do the layouts of answers, queries or lists, and no other call may be made.
+ */
+#define GORBIHESH_VERSION_MAJOR 1
+#define GORBIHESH_VERSION_MINOR 0
+#define GORBIHESH_VERSION_PATCH 0
+#define GORBIHESH_VERSION_STRING "1.0.0"
+#define GORBIHESH_VERSION \
+    (GORBIHESH_VERSION_MAJOR * 1000000 + GORBIHESH_VERSION_MINOR * 1000 + GORBIHESH_VERSION_PATCH)
+
+uint32_t gorbihesh_version(void);
+
 /* ---- rooms: the bytes of working room that each call needs, whatever its input.
  * The functions give the numbers of the archive that is linked, the constants those of this header; a test
  * holds the two equal. A call whose number is 0 takes an empty room, and NULL.
@@ -92,6 +104,42 @@ enum gorbihesh_refusal {
     GORBIHESH_SHORT_ROOM = 32        /* working room shorter than the call's constant */
 };
 
+/* ---- tags: the first byte of each part of a stored query or a catalogue list; its length in two bytes and
+ * its body follow. docs/FORMATS.md has both forms byte by byte, with an example of each.
+ */
+enum gorbihesh_tag {
+    /* queries */
+    GORBIHESH_TERM_TAG = 0x01,           /* field 10, text 11 */
+    GORBIHESH_PHRASE_TAG = 0x02,         /* field 10, any number of words 12 */
+    GORBIHESH_BOOLEAN_TAG = 0x03,        /* minimum 13, any number of clauses 20 to 23 */
+    GORBIHESH_BOOST_TAG = 0x04,          /* four bytes of float, a query */
+    GORBIHESH_CONSTANT_SCORE_TAG = 0x05, /* a query */
+    GORBIHESH_MATCH_ALL_TAG = 0x06,      /* nothing */
+    GORBIHESH_MATCH_NONE_TAG = 0x07,     /* nothing */
+    GORBIHESH_WHOLE_RANGE_TAG = 0x08,    /* field 10, lower and upper bound 30 to 32, of whole numbers */
+    GORBIHESH_FLOAT_RANGE_TAG = 0x09,    /* the same, of floats */
+    /* what queries and entries hold */
+    GORBIHESH_FIELD_TAG = 0x10,          /* 0 to 32 ASCII bytes */
+    GORBIHESH_TEXT_TAG = 0x11,           /* ASCII bytes */
+    GORBIHESH_WORD_TAG = 0x12,           /* four bytes of position, ASCII bytes */
+    GORBIHESH_MINIMUM_TAG = 0x13,        /* two bytes: how many Should clauses must be true */
+    GORBIHESH_VALUE_TAG = 0x14,          /* eight bytes of number */
+    /* clauses: each holds one query */
+    GORBIHESH_MUST_TAG = 0x20,           /* must be true */
+    GORBIHESH_SHOULD_TAG = 0x21,         /* may be true */
+    GORBIHESH_MUST_NOT_TAG = 0x22,       /* must not be true */
+    GORBIHESH_FILTER_TAG = 0x23,         /* must be true, and does not rank */
+    /* bounds of a range */
+    GORBIHESH_OPEN_TAG = 0x30,           /* nothing: no bound */
+    GORBIHESH_INCLUDED_TAG = 0x31,       /* eight bytes of number, itself inside */
+    GORBIHESH_EXCLUDED_TAG = 0x32,       /* eight bytes of number, itself outside */
+    /* catalogue lists */
+    GORBIHESH_RECORD_TAG = 0x40,         /* any number of entries 41, 44, 45 */
+    GORBIHESH_PLACE_TAG = 0x41,          /* an entry: field 10, word 12 */
+    GORBIHESH_WHOLE_TAG = 0x44,          /* an entry: field 10, value 14, a signed whole number */
+    GORBIHESH_FLOAT_TAG = 0x45           /* an entry: field 10, value 14, a float of 64 bits */
+};
+
 /* ---- the calls */
 
 typedef struct {
@@ -147,37 +195,10 @@ gorbihesh_answer gorbihesh_select(const uint8_t *query, size_t query_len,
                                   uint8_t *rows, size_t rows_len,
                                   uint8_t *room, size_t room_len);
 
-/* ---- a refusal in a technician's words: one line, no full stop, never NULL */
-static inline const char *gorbihesh_words(uint32_t refusal) {
-    switch (refusal) {
-    case GORBIHESH_DONE: return "not refused";
-    case GORBIHESH_LONG_TEXT: return "the selector is longer than 1,024 characters";
-    case GORBIHESH_NOT_ASCII: return "the selector has a character outside plain ASCII, as an accent or a curly quote";
-    case GORBIHESH_BAD_SETUP: return "the program's own setup is wrong: an operator, an analyzer or a field name";
-    case GORBIHESH_OPEN_QUOTE: return "a quote \" is opened and never closed";
-    case GORBIHESH_NOTHING_ESCAPED: return "nothing follows the last \\";
-    case GORBIHESH_RANGE_BRACKET: return "ranges are not taken: write \\ before [ ] { } to mean the sign itself";
-    case GORBIHESH_WILDCARD: return "wildcards are not taken: write \\ before * or ? to mean the sign itself";
-    case GORBIHESH_FUZZY_TERM: return "a ~ after a word is not taken: write \\ before it to mean the sign itself";
-    case GORBIHESH_SLOPPY_PHRASE: return "a ~ after a quoted phrase is not taken";
-    case GORBIHESH_UNEXPECTED_END: return "the selector ends where a word should follow";
-    case GORBIHESH_UNEXPECTED_TOKEN: return "a sign, or AND, OR or NOT, stands where a word should be";
-    case GORBIHESH_OPEN_BRACKET: return "a bracket ( is opened and never closed";
-    case GORBIHESH_BAD_NUMERAL: return "what follows ^ is not a number";
-    case GORBIHESH_NO_NUMERAL: return "a number must follow ^, and a minus sign before it needs a \\";
-    case GORBIHESH_LONG_FIELD: return "a field name before : is longer than 32 characters";
-    case GORBIHESH_MANY_BRACKETS: return "more than 24 brackets ( are open at once";
-    case GORBIHESH_LONG_NUMERAL: return "the number after ^ is longer than 40 characters";
-    case GORBIHESH_LONG_ANSWER: return "the answer is longer than the output that the program lent";
-    case GORBIHESH_LONG_QUERY: return "the stored query is too long";
-    case GORBIHESH_MALFORMED_QUERY: return "the stored query is damaged";
-    case GORBIHESH_DEEP_QUERY: return "the stored query has too many parts one inside another";
-    case GORBIHESH_LONG_LIST: return "the catalogue list is longer than 65,536 bytes";
-    case GORBIHESH_MALFORMED_LIST: return "the catalogue list is damaged";
-    case GORBIHESH_SHORT_ROOM: return "the working room that the program lent is too short";
-    default: return "not a refusal number of this release";
-    }
-}
+/* A refusal in a technician's words: one line of ASCII, no full stop. Never NULL: a number that is no refusal of
+ * this release has words too. The text is the library's own and stays; do not free it.
+ */
+const char *gorbihesh_words(uint32_t refusal);
 
 #ifdef __cplusplus
 }

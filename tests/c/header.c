@@ -1,8 +1,19 @@
-/* The header beside the archive: rooms, the answer's layout, the words of each refusal. */
+/* The header beside the archive: version, rooms, the answer's layout, the words of each refusal. */
 #include "check.h"
 #include "gorbihesh.h"
 
+#include <stdio.h>
 #include <string.h>
+
+static void version(void) {
+    char spelled[40];
+    check_about("version");
+    snprintf(spelled, sizeof spelled, "%d.%d.%d", GORBIHESH_VERSION_MAJOR, GORBIHESH_VERSION_MINOR,
+             GORBIHESH_VERSION_PATCH);
+    CHECK(strcmp(spelled, GORBIHESH_VERSION_STRING) == 0);
+    CHECK(GORBIHESH_VERSION_MINOR < 1000 && GORBIHESH_VERSION_PATCH < 1000);
+    CHECK(gorbihesh_version() == GORBIHESH_VERSION);
+}
 
 static void rooms(void) {
     check_about("rooms");
@@ -48,6 +59,7 @@ static void names(void) {
 }
 
 int main(void) {
+    version();
     rooms();
     layout();
     words();

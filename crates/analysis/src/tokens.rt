@@ -1,4 +1,7 @@
 // Tokens of a text, one after the other and without a copy: a token is a part of the text, lowercased where it is written out.
+use names::CHUNK_MOST;
+use names::SIMPLE_ANALYZER;
+use names::WHITESPACE_ANALYZER;
 ghost use mathlib.Core.Path.{_≡_};
 ghost use Prim.Native.Nat.{_≤_, _+_, _-_, min};
 ghost use mathlib.Core.Bool.{true, false};
@@ -6,15 +9,6 @@ ghost use lib.ListN.{length};
 ghost use Rattle.rules.specs.Numbers.{chunkMost};
 ghost use Rattle.rules.specs.Analysis.{tokenTexts};
 ghost use Rattle.analysis.specs.Tokens.{inside, wanted, Span, byAnalyzer, writtenByte, Found, Nth};
-
-pub const WHITESPACE: u8 = 1;
-
-pub const SIMPLE: u8 = 2;
-
-pub const KEYWORD: u8 = 3;
-
-// A longer run of bytes is cut into tokens of so many.
-const CHUNK: usize = 255;
 
 // A part of a text: where it starts and how many bytes it has. Where there is no token it has none, and starts where the search ended.
 pub struct Token {
@@ -33,10 +27,10 @@ pub struct Placed {
 fn is_inside(analyzer: u8, c: u8) -> bool
     ensures { λ r. ⌜ r ≡ inside analyzer c ⌝ }
 {
-    if analyzer == WHITESPACE {
+    if analyzer == WHITESPACE_ANALYZER {
         return !classes::is_gap(c);
     }
-    if analyzer == SIMPLE {
+    if analyzer == SIMPLE_ANALYZER {
         return classes::is_letter(c);
     }
     true
@@ -61,21 +55,21 @@ fn span(text: &[u8], analyzer: u8, from: usize, end: usize, want: bool) -> usize
 fn is_whole(analyzer: u8) -> bool
     ensures { λ r. ⌜ r ≡ byAnalyzer analyzer false false true ⌝ }
 {
-    if analyzer == WHITESPACE {
+    if analyzer == WHITESPACE_ANALYZER {
         return false;
     }
-    analyzer != SIMPLE
+    analyzer != SIMPLE_ANALYZER
 }
 
-// Where a chunk that starts at `start` ends at the latest.
+// Where a chunk that starts at `start` ends at the latest: a longer run of bytes is cut.
 fn chunk_end(start: usize, end: usize) -> usize
     requires { ⌜ start ≤ end ⌝ }
     ensures { λ r. ⌜ r ≡ start + min chunkMost (end - start) ⌝ }
 {
-    if end - start <= CHUNK {
+    if end - start <= CHUNK_MOST {
         end
     } else {
-        start + CHUNK
+        start + CHUNK_MOST
     }
 }
 
@@ -147,7 +141,7 @@ pub fn nth_token(text: &[u8], analyzer: u8, k: usize) -> Placed
 pub fn written(analyzer: u8, c: u8) -> u8
     ensures { λ r. ⌜ r ≡ writtenByte analyzer c ⌝ }
 {
-    if analyzer == SIMPLE {
+    if analyzer == SIMPLE_ANALYZER {
         return classes::lower(c);
     }
     c

@@ -1,13 +1,11 @@
 -- What the proofs of the middle way cite: a number of 63 places over a power of ten, rounded once to 24. Assumes nothing.
-use mathlib.Core.Path.{_≡_, refl, sym, ap, _∙_, subst}
+use mathlib.Core.Path.{_≡_, sym, ap, _∙_, subst}
 use mathlib.Core.Logic.{inl}
 use mathlib.Core.Bool.{false}
-use mathlib.Core.List.{List, [], _∷_}
-use Prim.Native.Nat.{ℕ, zero, suc, _+_, _-_, _*_, _/_, _%_, _^_, _≤_, _<_, compare}
+use Prim.Native.Nat.{ℕ, suc, _+_, _-_, _*_, _/_, _%_, _^_, _≤_, _<_, compare}
 use native.Mathlib.Nat.{le-trans, le-of-eq, lt-of-lt-of-le, lt-of-le-of-lt, mul-comm, mul-assoc, mul-pos, mul-le-mul-right, mul-le-mul-left, mul-lt-mul-of-pos-right, le-div-iff-mul-le, div-lt-iff-lt-mul, div-le-self, mod-eq-of-lt, mod-lt, zero-add, zero-mul}
 use native.Mathlib.Omega.{arith}
 use lib.Dec.{lit<, lit≤}
-use lib.ListN.{getD}
 use lib.Count.{leadingZeros}
 use lib.Pow.{pow-add, pow-pos, shl-lt}
 use lib.Ieee.{binary32, size, units, round, toBits}
@@ -21,24 +19,6 @@ use Rattle.floats.proofs.Model.{Top, top-of, pow-lt-back, normal-lo}
 use Rattle.boost.proofs.Tens.{ten-pos, ten-mono}
 
 -- ---- powers of ten
-abbrev tens : List ℕ
-tens = 1 ∷ 10 ∷ 100 ∷ 1000 ∷ 10000 ∷ 100000 ∷ 1000000 ∷ 10000000 ∷ 100000000 ∷ 1000000000 ∷ 10000000000 ∷ 100000000000 ∷ []
-
-pub ten-at : (n : ℕ) → n < 12 → getD tens n 0 ≡ 10 ^ n
-ten-at zero h = refl
-ten-at (suc zero) h = refl
-ten-at (suc (suc zero)) h = refl
-ten-at (suc (suc (suc zero))) h = refl
-ten-at (suc (suc (suc (suc zero)))) h = refl
-ten-at (suc (suc (suc (suc (suc zero))))) h = refl
-ten-at (suc (suc (suc (suc (suc (suc zero)))))) h = refl
-ten-at (suc (suc (suc (suc (suc (suc (suc zero))))))) h = refl
-ten-at (suc (suc (suc (suc (suc (suc (suc (suc zero)))))))) h = refl
-ten-at (suc (suc (suc (suc (suc (suc (suc (suc (suc zero))))))))) h = refl
-ten-at (suc (suc (suc (suc (suc (suc (suc (suc (suc (suc zero)))))))))) h = refl
-ten-at (suc (suc (suc (suc (suc (suc (suc (suc (suc (suc (suc zero))))))))))) h = refl
-ten-at (suc (suc (suc (suc (suc (suc (suc (suc (suc (suc (suc (suc n)))))))))))) h = let z : ⊥ = omega arith in absurd z
-
 ten-few : (n : ℕ) → n < 12 → 10 ^ n ≤ 10 ^ 11
 ten-few n h = ten-mono n 11 (go n h)
   where

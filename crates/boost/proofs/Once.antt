@@ -1,14 +1,12 @@
 -- What the proofs of the short way cite: a quotient or a product of two whole numbers that the format holds is rounded once. Assumes nothing.
-use mathlib.Core.Path.{_≡_, refl, sym, ap, _∙_, subst}
+use mathlib.Core.Path.{_≡_, sym, ap, _∙_, subst}
 use mathlib.Core.Bool.{Bool, true, false, not, cond}
-use mathlib.Core.List.{List, [], _∷_}
 use Prim.Native.Nat.{ℕ, zero, suc, _+_, _-_, _*_, _/_, _^_, _≤_, _<_}
-use native.Mathlib.Nat.{mul-one, mul-comm, mul-assoc, mul-pos, zero-mul}
+use native.Mathlib.Nat.{le-trans, mul-one, mul-comm, mul-assoc, mul-pos, zero-mul}
 use native.Mathlib.Omega.{arith}
 use lib.Dec.{T, eqb, ltb, not-T, eqb→eq, le→leb, lit≤}
 use lib.IntN.{ℤ, pos}
-use lib.ListN.{getD}
-use Rattle.boost.proofs.Tens.{ten-pos}
+use Rattle.boost.proofs.Tens.{ten-pos, ten-mono}
 use lib.Ieee.{Float, nan, inf, fin, Format, binary32, size, prec, up, down, low, emax, odd, units, unlike, round, ofInt, inFloat, toBits, isNan, mul, div}
 use lib.Ieee.Back.{round-whole}
 use lib.Ieee.Bits.{cond-no}
@@ -20,33 +18,11 @@ use Rattle.rules.specs.Numerals.{nearest}
 use Rattle.boost.specs.Digits.{shortMost}
 
 -- ---- powers of ten
-abbrev tens : List ℕ
-tens = 1 ∷ 10 ∷ 100 ∷ 1000 ∷ 10000 ∷ 100000 ∷ 1000000 ∷ 10000000 ∷ []
-
-pub ten-at : (n : ℕ) → n < 8 → getD tens n 0 ≡ 10 ^ n
-ten-at zero h = refl
-ten-at (suc zero) h = refl
-ten-at (suc (suc zero)) h = refl
-ten-at (suc (suc (suc zero))) h = refl
-ten-at (suc (suc (suc (suc zero)))) h = refl
-ten-at (suc (suc (suc (suc (suc zero))))) h = refl
-ten-at (suc (suc (suc (suc (suc (suc zero)))))) h = refl
-ten-at (suc (suc (suc (suc (suc (suc (suc zero))))))) h = refl
-ten-at (suc (suc (suc (suc (suc (suc (suc (suc n)))))))) h = let z : ⊥ = omega arith in absurd z
-
-ten-le : (n : ℕ) → n < 8 → getD tens n 0 ≤ 2 ^ 24
-ten-le zero h = lit≤ tt
-ten-le (suc zero) h = lit≤ tt
-ten-le (suc (suc zero)) h = lit≤ tt
-ten-le (suc (suc (suc zero))) h = lit≤ tt
-ten-le (suc (suc (suc (suc zero)))) h = lit≤ tt
-ten-le (suc (suc (suc (suc (suc zero))))) h = lit≤ tt
-ten-le (suc (suc (suc (suc (suc (suc zero)))))) h = lit≤ tt
-ten-le (suc (suc (suc (suc (suc (suc (suc zero))))))) h = lit≤ tt
-ten-le (suc (suc (suc (suc (suc (suc (suc (suc n)))))))) h = let z : ⊥ = omega arith in absurd z
-
 pub power-le : (n t : ℕ) → n < 8 → t ≡ 10 ^ n → t ≤ 2 ^ 24
-power-le n t h e = subst (λ (x : ℕ). x ≤ 2 ^ 24) (ten-at n h ∙ sym e) (ten-le n h)
+power-le n t h e = subst (λ (x : ℕ). x ≤ 2 ^ 24) (sym e) (le-trans (ten-mono n 7 (go n h)) (lit≤ tt))
+  where
+    go : (n : ℕ) → n < 8 → n ≤ 7
+    go n h = omega arith
 
 -- ---- the casts
 pub holds : (n : ℕ) → n ≤ 2 ^ 24 → T (inFloat binary32 (pos n))

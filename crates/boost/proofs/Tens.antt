@@ -6,9 +6,10 @@ use Prim.Native.Nat.{ℕ, zero, suc, _+_, _-_, _*_, _^_, _≤_, _<_}
 use native.Mathlib.Nat.{le-trans, le-of-eq, lt-of-le-of-lt, zero-lt-suc, mul-one, mul-assoc, mul-le-mul-left, mul-pos, pow-suc, add-sub-of-le}
 use native.Mathlib.Omega.{arith}
 use lib.ListN.{length, getD}
-use lib.Dec.{T, ltb, ltb→lt, lit<}
+use lib.Dec.{T, ltb, eqb, ltb→lt, eqb→eq, lit<}
 use lib.Ieee.Fits.{and-l, and-r}
 use lib.Pow.{pow-add}
+use Rattle.rules.proofs.text.Classes.{at-each}
 use Rattle.boost.specs.Row.{value, limit, Row, Times}
 
 -- ---- rows that are written out
@@ -34,6 +35,16 @@ ten-grow i d = le-trans (le-trans (le-of-eq (sym (mul-one (10 ^ i)))) (mul-le-mu
 
 pub ten-mono : (i j : ℕ) → i ≤ j → 10 ^ i ≤ 10 ^ j
 ten-mono i j h = subst (λ (x : ℕ). 10 ^ i ≤ 10 ^ x) (add-sub-of-le h) (ten-grow i (j - i))
+
+-- the table has them, each in its place
+abbrev powers : List ℕ
+powers = 1 ∷ 10 ∷ 100 ∷ 1000 ∷ 10000 ∷ 100000 ∷ 1000000 ∷ 10000000 ∷ 100000000 ∷ 1000000000 ∷ 10000000000 ∷ 100000000000 ∷ []
+
+abbrev isPower : ℕ → ℕ → Bool
+isPower n x = eqb x (10 ^ n)
+
+pub ten-at : (n : ℕ) → n < 12 → getD powers n 0 ≡ 10 ^ n
+ten-at n h = eqb→eq (getD powers n 0) (10 ^ n) (at-each isPower powers tt n h)
 
 -- ---- `tens`
 pub record Tens (xs ys : List ℕ) (k j : ℕ) : Type 0 where

@@ -5,6 +5,11 @@ ghost use Rattle.rules.specs.Numerals.{unitsOf};
 ghost use Rattle.boost.specs.Row.{value, limit, Row, Times};
 ghost use Rattle.boost.specs.Bisect.{most, Tested, Found};
 use crate::row::Limbs;
+use names::EXPONENT_STEP;
+use names::INFINITY;
+
+// Twice the middle above the least significand of a normal number.
+const NORMAL_MIDDLE: u32 = 2 * EXPONENT_STEP + 1;
 
 // The row times twice the middle between the patterns p and p + 1.
 fn to_middle(row: &mut Limbs, p: u32)
@@ -13,12 +18,12 @@ fn to_middle(row: &mut Limbs, p: u32)
     requires { ⌜ value (now row) * most < limit ⌝ }
     ensures { λ _. ⌜ Times (now (row .entry)) (now (row .exit)) (unitsOf p + unitsOf (p + 1)) ⌝ }
 {
-    if p < 0x80_0000 {
+    if p < EXPONENT_STEP {
         crate::row::times(row, 2 * p + 1);
         return;
     }
-    crate::row::times(row, 2 * (p % 0x80_0000) + 0x100_0001);
-    crate::row::raise(row, p / 0x80_0000 - 1);
+    crate::row::times(row, 2 * (p % EXPONENT_STEP) + NORMAL_MIDDLE);
+    crate::row::raise(row, p / EXPONENT_STEP - 1);
 }
 
 // Is x / den, in half units, past the middle between the patterns p and p + 1?
@@ -49,7 +54,7 @@ pub fn bisect(x: &Limbs, den: &Limbs) -> u32
     ensures { λ r. ⌜ Found (value (now (x .entry))) (value (now (den .entry))) r ⌝ }
 {
     let mut lo = 0u32;
-    let mut hi = 0x7f80_0000u32;
+    let mut hi = INFINITY;
     while lo < hi {
         let mid = lo + (hi - lo) / 2;
         if past(x, den, mid) {

@@ -8,6 +8,16 @@ ghost use Rattle.rules.specs.Numerals.{nearest};
 ghost use Rattle.boost.specs.Digits.{shortMost, numberOf, Held};
 ghost use Rattle.boost.specs.Decimal.{Up, Down};
 use crate::digits::Digits;
+use crate::digits::SHORT_MOST;
+use names::INFINITY;
+
+// A unit is 2^-149: so many binary places have half of one.
+const HALF_UNIT_PLACES: u32 = 150;
+
+// 10^39 times the least number is past all floats, and 40 digits over 10^86 are below half of a unit.
+const ABOVE_ALL: u32 = 39;
+
+const BELOW_MOST: u32 = 85;
 
 // The pattern nearest to the digits' number over 10^n, by rows.
 fn below_by_rows(s: &[u8], d: Digits, n: u32) -> u32
@@ -17,7 +27,7 @@ fn below_by_rows(s: &[u8], d: Digits, n: u32) -> u32
     ensures { λ r. ⌜ r ≡ nearest (numberOf (now (s .entry)) (d .point) (d .places)) (10 ^ n) ⌝ }
 {
     let mut x = crate::digits::number(s, d);
-    crate::row::raise(&mut x, 150);
+    crate::row::raise(&mut x, HALF_UNIT_PLACES);
     let mut den = crate::row::one();
     crate::row::tens(&mut den, n);
     crate::bisect::bisect(&x, &den)
@@ -32,7 +42,7 @@ fn above_by_rows(s: &[u8], d: Digits, n: u32) -> u32
 {
     let mut x = crate::digits::number(s, d);
     crate::row::tens(&mut x, n);
-    crate::row::raise(&mut x, 150);
+    crate::row::raise(&mut x, HALF_UNIT_PLACES);
     let den = crate::row::one();
     crate::bisect::bisect(&x, &den)
 }
@@ -44,8 +54,8 @@ fn below_by_parts(s: &[u8], d: Digits, n: u32) -> u32
     requires { ⌜ n < 86 ⌝ }
     ensures { λ r. ⌜ r ≡ nearest (numberOf (now (s .entry)) (d .point) (d .places)) (10 ^ n) ⌝ }
 {
-    if n < 12 {
-        if d.point + (d.places as usize) < 18 {
+    if n < crate::powers::POWERS {
+        if d.point + (d.places as usize) < crate::wide::DIGITS {
             return crate::wide::quotient(crate::digits::short_number(s, d), n);
         }
         return below_by_rows(s, d, n);
@@ -59,8 +69,8 @@ fn below(s: &[u8], d: Digits, n: u32) -> u32
     requires { ⌜ n < 86 ⌝ }
     ensures { λ r. ⌜ r ≡ nearest (numberOf (now (s .entry)) (d .point) (d .places)) (10 ^ n) ⌝ }
 {
-    if n < 8 {
-        if d.value < 0x100_0000 {
+    if n < crate::quick::POWERS {
+        if d.value < SHORT_MOST {
             return crate::quick::quotient(d.value, n);
         }
         return below_by_parts(s, d, n);
@@ -74,8 +84,8 @@ fn above(s: &[u8], d: Digits, n: u32) -> u32
     requires { ⌜ n < 39 ⌝ }
     ensures { λ r. ⌜ r ≡ nearest (numberOf (now (s .entry)) (d .point) (d .places) * 10 ^ n) 1 ⌝ }
 {
-    if n < 8 {
-        if d.value < 0x100_0000 {
+    if n < crate::quick::POWERS {
+        if d.value < SHORT_MOST {
             return crate::quick::multiple(d.value, n);
         }
         return above_by_rows(s, d, n);
@@ -93,13 +103,13 @@ pub fn scaled_up(s: &[u8], d: Digits, x: u32) -> u32
     if x <= f {
         return below(s, d, f - x);
     }
-    if x - f < 39 {
+    if x - f < ABOVE_ALL {
         return above(s, d, x - f);
     }
     if d.value == 0 {
         return 0;
     }
-    0x7f80_0000
+    INFINITY
 }
 
 // The pattern nearest to the digits' number over 10^x, the point counted.
@@ -110,7 +120,7 @@ pub fn scaled_down(s: &[u8], d: Digits, x: u32) -> u32
     ensures { λ r. ⌜ Down (numberOf (now (s .entry)) (d .point) (d .places)) x (d .places) r ⌝ }
 {
     let f = d.places;
-    if 85 < f + x {
+    if BELOW_MOST < f + x {
         return 0;
     }
     below(s, d, f + x)

@@ -7,7 +7,11 @@ ghost use Rattle.rules.specs.Numerals.{isDigit, digitsOn};
 ghost use lib.ListN.{length, drop};
 ghost use Rattle.boost.specs.Row.{value, Row};
 ghost use Rattle.boost.specs.Digits.{shortMost, Reading, Filled, numberOf, Held, NumberRow};
+use crate::row::LIMBS;
 use crate::row::Limbs;
+
+// From here on the number of a run of digits is cut off.
+pub const SHORT_MOST: u32 = 0x100_0000;
 
 // A run of digits: its number cut off at 2^24, and where it ends.
 pub struct Run {
@@ -26,13 +30,13 @@ fn digit(b: u8) -> u32
     requires { ⌜ 48 ≤ b ⌝ }
     ensures { λ r. ⌜ r + 48 ≡ b ⌝ }
 {
-    (b - 48) as u32
+    (b - b'0') as u32
 }
 
 fn cut_off(x: u32) -> u32
     ensures { λ r. ⌜ r ≡ min x shortMost ⌝ }
 {
-    if x < 0x100_0000 { x } else { 0x100_0000 }
+    if x < SHORT_MOST { x } else { SHORT_MOST }
 }
 
 // The digits from `at` on, read after the number `start`.
@@ -45,10 +49,10 @@ pub fn read(s: &[u8], at: usize, start: u32) -> Run
     let mut i = at;
     while i < s.len() {
         let b = s[i];
-        if b < 48 {
+        if b < b'0' {
             return Run { value: v, end: i };
         }
-        if 57 < b {
+        if b'9' < b {
             return Run { value: v, end: i };
         }
         v = cut_off(v * 10 + digit(b));
@@ -68,10 +72,10 @@ fn fill(row: &mut Limbs, s: &[u8], at: usize)
     let mut i = at;
     while i < s.len() {
         let b = s[i];
-        if b < 48 {
+        if b < b'0' {
             return;
         }
-        if 57 < b {
+        if b'9' < b {
             return;
         }
         let over = crate::row::scale(row, 10, digit(b));
@@ -85,7 +89,7 @@ pub fn number(s: &[u8], d: Digits) -> Limbs
     requires { ⌜ length (now s) ≤ 40 ⌝ }
     ensures { λ r. ⌜ NumberRow (now (s .entry)) (d .point) (d .places) r ⌝ }
 {
-    let mut row = [0u32; 18];
+    let mut row = [0u32; LIMBS];
     fill(&mut row, s, 0);
     if d.places == 0 {
         return row;
@@ -106,10 +110,10 @@ fn gather(s: &[u8], at: usize, start: u64) -> u64
     let mut i = at;
     while i < s.len() {
         let b = s[i];
-        if b < 48 {
+        if b < b'0' {
             return v;
         }
-        if 57 < b {
+        if b'9' < b {
             return v;
         }
         v = v * 10 + crate::row::wide(digit(b));

@@ -3,6 +3,7 @@ mod bisect;
 mod decimal;
 mod digits;
 pub mod numeral;
+mod powers;
 mod quick;
 mod row;
 mod wide;

@@ -5,12 +5,19 @@ ghost use mathlib.Core.Bool.{true, not};
 ghost use Prim.Native.Nat.{_+_, _<_, _≤_};
 ghost use lib.ListN.{length, drop, getD};
 ghost use Rattle.rules.specs.Bytes.{same, isEmpty};
-ghost use Rattle.rules.specs.Analysis.{front, after, lower, lowercase};
+ghost use Rattle.rules.specs.Analysis.{front, after, lowercase};
 ghost use Rattle.rules.specs.Reading.{numberOf as refusalOf};
 ghost use Rattle.rules.specs.Numerals.{infinity, isDigit, digitsOn, isMinus, afterSign, exponent, afterDigits, afterWhole, unsigned, signed, bitsOf, numeralBits};
 ghost use Rattle.boost.specs.Digits.{numberOf, Held};
 ghost use Rattle.boost.specs.Numeral.{answerOf, isPoint};
 use crate::digits::Digits;
+use classes::lower;
+use names::BAD_NUMERAL;
+use names::INFINITY;
+use names::LONG_NUMERAL;
+use names::NUMERAL_MOST;
+use names::SIGN;
+use names::THE_NAN;
 
 // A refusal by its number, or the bits of a 32-bit float.
 pub enum Answer {
@@ -24,7 +31,7 @@ fn given(minus: bool, p: u32) -> Answer
     ensures { λ r. ⌜ r ≡ Answer.Bits (signed minus p) ⌝ }
 {
     if minus {
-        return Answer::Bits(0x8000_0000 + p);
+        return Answer::Bits(SIGN + p);
     }
     Answer::Bits(p)
 }
@@ -38,10 +45,10 @@ fn exponent_digits(minus: bool, down: bool, s: &[u8], d: Digits, at: usize) -> A
 {
     let e = crate::digits::read(s, at, 0);
     if e.end == at {
-        return Answer::Refused(13);
+        return Answer::Refused(BAD_NUMERAL);
     }
     if e.end < s.len() {
-        return Answer::Refused(13);
+        return Answer::Refused(BAD_NUMERAL);
     }
     if down {
         return given(minus, crate::decimal::scaled_down(s, d, e.value));
@@ -58,15 +65,15 @@ fn after_e(minus: bool, s: &[u8], d: Digits, at: usize) -> Answer
 {
     if at < s.len() {
         let c = s[at];
-        if c == 45 {
+        if c == b'-' {
             return exponent_digits(minus, true, s, d, at + 1);
         }
-        if c == 43 {
+        if c == b'+' {
             return exponent_digits(minus, false, s, d, at + 1);
         }
         return exponent_digits(minus, false, s, d, at);
     }
-    Answer::Refused(13)
+    Answer::Refused(BAD_NUMERAL)
 }
 
 // What follows the digits, which end at `end`.
@@ -78,13 +85,13 @@ fn after_digits(minus: bool, s: &[u8], d: Digits, end: usize) -> Answer
 {
     if end < s.len() {
         let c = s[end];
-        if c == 101 {
+        if c == b'e' {
             return after_e(minus, s, d, end + 1);
         }
-        if c == 69 {
+        if c == b'E' {
             return after_e(minus, s, d, end + 1);
         }
-        return Answer::Refused(13);
+        return Answer::Refused(BAD_NUMERAL);
     }
     given(minus, crate::decimal::scaled_up(s, d, 0))
 }
@@ -93,7 +100,7 @@ fn is_point(s: &[u8], at: usize) -> bool
     ensures { λ r. ⌜ r ≡ isPoint (drop at (now (s .entry))) ⌝ }
 {
     if at < s.len() {
-        return s[at] == 46;
+        return s[at] == b'.';
     }
     false
 }
@@ -108,7 +115,7 @@ fn digits_first(minus: bool, s: &[u8]) -> Answer
     if is_point(s, point) {
         let f = crate::digits::read(s, point + 1, w.value);
         if f.end == 1 {
-            return Answer::Refused(13);
+            return Answer::Refused(BAD_NUMERAL);
         }
         let d = Digits {
             point: point,
@@ -118,7 +125,7 @@ fn digits_first(minus: bool, s: &[u8]) -> Answer
         return after_digits(minus, s, d, f.end);
     }
     if point == 0 {
-        return Answer::Refused(13);
+        return Answer::Refused(BAD_NUMERAL);
     }
     let d = Digits {
         point: point,
@@ -126,18 +133,6 @@ fn digits_first(minus: bool, s: &[u8]) -> Answer
         value: w.value,
     };
     after_digits(minus, s, d, point)
-}
-
-fn small_letter(b: u8) -> u8
-    ensures { λ r. ⌜ r ≡ lower b ⌝ }
-{
-    if b < 65 {
-        return b;
-    }
-    if 90 < b {
-        return b;
-    }
-    b + 32
 }
 
 // Is the text, in small letters, the word w?
@@ -149,7 +144,7 @@ fn is_word(s: &[u8], w: &[u8]) -> bool
     }
     let mut i = 0;
     while i < w.len() {
-        if small_letter(s[i]) != w[i] {
+        if lower(s[i]) != w[i] {
             return false;
         }
         i += 1;
@@ -163,15 +158,15 @@ fn word(minus: bool, s: &[u8]) -> Answer
     ensures { λ r. ⌜ r ≡ answerOf (bitsOf minus (unsigned (now (s .entry)))) ⌝ }
 {
     if is_word(s, b"inf") {
-        return given(minus, 0x7f80_0000);
+        return given(minus, INFINITY);
     }
     if is_word(s, b"infinity") {
-        return given(minus, 0x7f80_0000);
+        return given(minus, INFINITY);
     }
     if is_word(s, b"nan") {
-        return Answer::Bits(0x7fc0_0000);
+        return Answer::Bits(THE_NAN);
     }
-    Answer::Refused(13)
+    Answer::Refused(BAD_NUMERAL)
 }
 
 // A numeral with no sign of its own.
@@ -180,29 +175,29 @@ fn without_sign(minus: bool, s: &[u8]) -> Answer
     ensures { λ r. ⌜ r ≡ answerOf (bitsOf minus (unsigned (now (s .entry)))) ⌝ }
 {
     if 0 < s.len() {
-        if 57 < s[0] {
+        if b'9' < s[0] {
             return word(minus, s);
         }
         return digits_first(minus, s);
     }
-    Answer::Refused(13)
+    Answer::Refused(BAD_NUMERAL)
 }
 
 // The 32-bit float that the text stands for: 17 where it has over 40 bytes, 13 where it is no numeral.
 pub fn numeral(text: &[u8]) -> Answer
     ensures { λ r. ⌜ r ≡ answerOf (numeralBits (now (text .entry))) ⌝ }
 {
-    if 40 < text.len() {
-        return Answer::Refused(17);
+    if NUMERAL_MOST < text.len() {
+        return Answer::Refused(LONG_NUMERAL);
     }
     if text.len() == 0 {
-        return Answer::Refused(13);
+        return Answer::Refused(BAD_NUMERAL);
     }
     let c = text[0];
-    if c == 45 {
+    if c == b'-' {
         return without_sign(true, &text[1..]);
     }
-    if c == 43 {
+    if c == b'+' {
         return without_sign(false, &text[1..]);
     }
     without_sign(false, text)
@@ -231,7 +226,7 @@ fn is_plain(s: &[u8]) -> bool
 pub fn fault(text: &[u8]) -> u8
     ensures { λ r. ⌜ r ≡ refusalOf (numeralBits (now (text .entry))) ⌝ }
 {
-    if text.len() <= 40 {
+    if text.len() <= NUMERAL_MOST {
         if is_plain(text) {
             return 0;
         }

@@ -5,14 +5,13 @@ ghost use Prim.Native.Nat.{_*_, _^_, _<_};
 ghost use Rattle.rules.specs.Numerals.{nearest};
 ghost use Rattle.boost.specs.Digits.{shortMost};
 
-const TENS: [u32; 8] = [1, 10, 100, 1000, 10000, 100000, 1000000, 10000000];
+pub const POWERS: u32 = 8;
 
 fn ten(n: u32) -> u32
     requires { ⌜ n < 8 ⌝ }
     ensures { λ r. ⌜ r ≡ 10 ^ n ⌝ }
 {
-    let k = n as usize;
-    TENS[k]
+    crate::powers::ten(n) as u32
 }
 
 // The pattern nearest to d / 10^n.

@@ -4,7 +4,12 @@ ghost use mathlib.Core.Path.{_≡_};
 ghost use Prim.Native.Nat.{_+_, _*_, _%_, _^_, _<_};
 ghost use Rattle.boost.specs.Row.{value, limit, Row, Scaled, Ordered, ByLimb, Times};
 
-pub type Limbs = [u32; 18];
+pub const LIMBS: usize = 18;
+
+pub type Limbs = [u32; LIMBS];
+
+// What a limb counts up to.
+const BASE: u64 = 0x1_0000_0000;
 
 // The row times m, plus `add`. What goes over the row's end is returned.
 pub fn scale(row: &mut Limbs, m: u32, add: u32) -> u32
@@ -13,10 +18,10 @@ pub fn scale(row: &mut Limbs, m: u32, add: u32) -> u32
 {
     let mut carry = add as u64;
     let mut i = 0;
-    while i < 18 {
+    while i < LIMBS {
         let t = wide(row[i]) * wide(m) + carry;
         row[i] = low(t);
-        carry = t / 0x1_0000_0000;
+        carry = t / BASE;
         i += 1;
     }
     low(carry)
@@ -32,7 +37,7 @@ pub fn wide(x: u32) -> u64
 fn low(x: u64) -> u32
     ensures { λ r. ⌜ r ≡ x % 2 ^ 32 ⌝ }
 {
-    (x % 0x1_0000_0000) as u32
+    (x % BASE) as u32
 }
 
 // 0 where a is below b, 1 where they are equal, 2 where a is above b.
@@ -43,7 +48,7 @@ pub fn order(a: &Limbs, b: &Limbs) -> u8
 {
     let mut o = 1u8;
     let mut i = 0;
-    while i < 18 {
+    while i < LIMBS {
         o = by_limb(o, a[i], b[i]);
         i += 1;
     }
@@ -104,7 +109,7 @@ pub fn one() -> Limbs
     ensures { λ r. ⌜ Row r ⌝ }
     ensures { λ r. ⌜ value r ≡ 1 ⌝ }
 {
-    let mut r = [0u32; 18];
+    let mut r = [0u32; LIMBS];
     r[0] = 1;
     r
 }

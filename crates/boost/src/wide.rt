@@ -4,29 +4,11 @@ ghost use mathlib.Core.Path.{_≡_};
 ghost use Prim.Native.Nat.{_*_, _^_, _<_};
 ghost use lib.Ieee.Nearest.{closest};
 ghost use Rattle.rules.specs.Numerals.{nearest};
+use crate::powers::ten;
+use names::EXPONENT_STEP;
 
-const TENS: [u64; 12] = [
-    1,
-    10,
-    100,
-    1000,
-    10000,
-    100000,
-    1000000,
-    10000000,
-    100000000,
-    1000000000,
-    10000000000,
-    100000000000,
-];
-
-fn ten(n: u32) -> u64
-    requires { ⌜ n < 12 ⌝ }
-    ensures { λ r. ⌜ r ≡ 10 ^ n ⌝ }
-{
-    let k = n as usize;
-    TENS[k]
-}
+// The digits are fewer than these.
+pub const DIGITS: usize = 18;
 
 // n / u to the nearest whole number, a tie to the even one.
 fn rounded(n: u64, u: u64) -> u64
@@ -61,5 +43,5 @@ pub fn quotient(d: u64, n: u32) -> u32
     let w = m / t;
     let y = u64::leading_zeros(w);
     let q = rounded(m, t << (40 - y));
-    (190 - z - y) * 0x80_0000 + (q as u32)
+    (190 - z - y) * EXPONENT_STEP + (q as u32)
 }

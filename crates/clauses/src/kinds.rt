@@ -1,5 +1,20 @@
 // Decisions on one token or on numbers alone: what joins clauses, what stands before one, which kind a clause gets.
-// A conjunction is 0 none, 1 AND, 2 OR; a modifier is 0 none, 1 required, 2 prohibited; a clause's kind is its tag.
+// A conjunction and a modifier are numbers, as `counted/specs/Kinds` reads them; a clause's kind is its tag.
+use names::AND_KIND;
+use names::AND_OPERATOR;
+use names::CLOSE_KIND;
+use names::COLON_KIND;
+use names::END_KIND;
+use names::HEADER;
+use names::MINUS_KIND;
+use names::MUST_NOT_TAG;
+use names::MUST_TAG;
+use names::NO_TAG;
+use names::NOT_KIND;
+use names::OR_KIND;
+use names::PLUS_KIND;
+use names::SHOULD_TAG;
+use names::TERM_KIND;
 use row::kind_at;
 ghost use mathlib.Core.Path.{_≡_};
 ghost use mathlib.Core.Bool.{not};
@@ -12,6 +27,20 @@ ghost use Rattle.rules.specs.Stored.{kindTag};
 ghost use Rattle.row.specs.Row.{roomLeast, tokensOf};
 ghost use Rattle.counted.specs.Kinds.{conjunctionOf, modifierOf, isKept, lastTag, madeLength, withMade, Sums};
 ghost use Rattle.clauses.specs.Measured.{isNamed};
+
+// Conjunctions.
+const UNJOINED: u8 = 0;
+
+const JOINED_BY_AND: u8 = 1;
+
+const JOINED_BY_OR: u8 = 2;
+
+// Modifiers.
+const UNMODIFIED: u8 = 0;
+
+const REQUIRED: u8 = 1;
+
+const PROHIBITED: u8 = 2;
 
 // A clause that was read: a refusal, or the length of its query (0 where it analyzes to nothing) and the number of the next token.
 pub enum Measured {
@@ -39,10 +68,10 @@ pub fn more_at(room: &[u8], n: usize, i: usize) -> bool
     ensures { λ r. ⌜ r ≡ not (stopsAt (tokensOf (now (room .entry)) n) i) ⌝ }
 {
     let t = kind_at(room, n, i);
-    if t == 10 {
+    if t == CLOSE_KIND {
         return false;
     }
-    t != 0
+    t != END_KIND
 }
 
 // A field name and its colon stand at i.
@@ -50,8 +79,8 @@ pub fn is_named(room: &[u8], n: usize, i: usize) -> bool
     requires { ⌜ (n ≤ textMost) × (roomLeast ≤ length (now room)) × (i ≤ 4096) ⌝ }
     ensures { λ r. ⌜ r ≡ isNamed (tokensOf (now (room .entry)) n) i ⌝ }
 {
-    if is_at(room, n, 1, i) {
-        return is_at(room, n, 3, i + 1);
+    if is_at(room, n, TERM_KIND, i) {
+        return is_at(room, n, COLON_KIND, i + 1);
     }
     false
 }
@@ -63,14 +92,14 @@ pub fn conjunction_at(room: &[u8], n: usize, kept: bool, i: usize) -> u8
 {
     if kept {
         let t = kind_at(room, n, i);
-        if t == 7 {
-            return 1;
+        if t == AND_KIND {
+            return JOINED_BY_AND;
         }
-        if t == 8 {
-            return 2;
+        if t == OR_KIND {
+            return JOINED_BY_OR;
         }
     }
-    0
+    UNJOINED
 }
 
 // The modifier at i.
@@ -79,21 +108,25 @@ pub fn modifier_at(room: &[u8], n: usize, i: usize) -> u8
     ensures { λ r. ⌜ modifierAt (tokensOf (now (room .entry)) n) i ≡ modifierOf r ⌝ }
 {
     let t = kind_at(room, n, i);
-    if t == 4 {
-        return 1;
+    if t == PLUS_KIND {
+        return REQUIRED;
     }
-    if t == 5 {
-        return 2;
+    if t == MINUS_KIND {
+        return PROHIBITED;
     }
-    if t == 6 { 2 } else { 0 }
+    if t == NOT_KIND {
+        PROHIBITED
+    } else {
+        UNMODIFIED
+    }
 }
 
-// Past the token at i, where it was a conjunction or a modifier.
+// Past the token at i, where it was a conjunction or a modifier: both have the same number for none.
 pub fn after(x: u8, i: usize) -> usize
     requires { ⌜ i ≤ 4096 ⌝ }
     ensures { λ r. ⌜ (r ≡ afterConjunction (conjunctionOf x) i) × (r ≡ afterModifier (modifierOf x) i) ⌝ }
 {
-    if x == 0 {
+    if x == UNJOINED {
         return i;
     }
     i + 1
@@ -103,54 +136,62 @@ pub fn after(x: u8, i: usize) -> usize
 pub fn tag_before(operator: u8, c: u8, tag: u8) -> u8
     ensures { λ r. ⌜ ((cs : Clauses) → tag ≡ lastTag cs → r ≡ lastTag (touched operator (conjunctionOf c) cs)) ⌝ }
 {
-    if c == 0 {
+    if c == UNJOINED {
         return tag;
     }
-    if tag == 0 {
+    if tag == NO_TAG {
         return tag;
     }
-    if tag == 0x22 {
+    if tag == MUST_NOT_TAG {
         return tag;
     }
-    if c == 1 {
-        return 0x20;
+    if c == JOINED_BY_AND {
+        return MUST_TAG;
     }
-    if operator == 1 { 0x21 } else { tag }
+    if operator == AND_OPERATOR {
+        SHOULD_TAG
+    } else {
+        tag
+    }
 }
 
 // The tag of a clause after a conjunction and a modifier.
 pub fn tag_after(operator: u8, c: u8, m: u8) -> u8
     ensures { λ r. ⌜ r ≡ kindTag (kindAfter operator (conjunctionOf c) (modifierOf m)) ⌝ }
 {
-    if m == 0 {
-        if c == 0 {
+    if m == UNMODIFIED {
+        if c == UNJOINED {
             return operator_tag(operator);
         }
-        if c == 1 {
-            return 0x20;
+        if c == JOINED_BY_AND {
+            return MUST_TAG;
         }
-        return 0x21;
+        return SHOULD_TAG;
     }
-    if m == 1 {
-        if c == 0 {
-            return 0x20;
+    if m == REQUIRED {
+        if c == UNJOINED {
+            return MUST_TAG;
         }
-        if c == 1 {
-            return 0x20;
+        if c == JOINED_BY_AND {
+            return MUST_TAG;
         }
-        if operator == 1 {
-            return 0x21;
+        if operator == AND_OPERATOR {
+            return SHOULD_TAG;
         }
-        return 0x20;
+        return MUST_TAG;
     }
-    0x22
+    MUST_NOT_TAG
 }
 
 // The tag of the default operator's kind.
 pub fn operator_tag(operator: u8) -> u8
     ensures { λ r. ⌜ r ≡ kindTag (operatorKind operator) ⌝ }
 {
-    if operator == 1 { 0x20 } else { 0x21 }
+    if operator == AND_OPERATOR {
+        MUST_TAG
+    } else {
+        SHOULD_TAG
+    }
 }
 
 // One clause more, whose query has `len` bytes. One that analyzes to nothing is not kept, yet its conjunction alters the one before.
@@ -169,6 +210,6 @@ pub fn added(s: Sum, operator: u8, c: u8, m: u8, len: usize) -> Sum
     Sum {
         count: s.count + 1,
         tag: tag_after(operator, c, m),
-        bytes: s.bytes + 3 + len,
+        bytes: s.bytes + HEADER + len,
     }
 }

@@ -1,6 +1,17 @@
 // Terms and phrases: how long the query of a text is, and its bytes.
 use crate::kinds::operator_tag;
 use analysis::tokens;
+use names::BOOLEAN_FRONT;
+use names::BOOLEAN_TAG;
+use names::FIELD_TAG;
+use names::HEADER;
+use names::PHRASE_TAG;
+use names::POSITION_BYTES;
+use names::SIMPLE_ANALYZER;
+use names::TERM_TAG;
+use names::TEXT_TAG;
+use names::WHITESPACE_ANALYZER;
+use names::WORD_TAG;
 use numbers::put_big4;
 use parts::write::put_header;
 use parts::write::put_minimum;
@@ -22,6 +33,20 @@ ghost use Rattle.numbers.specs.Laid.{Put};
 ghost use Rattle.counted.specs.Kinds.{madeLength, madeBytes};
 ghost use Rattle.clauses.specs.Leaves.{Tallied, termRow, leafOf};
 ghost use Rattle.clauses.specs.Written.{HasRoom};
+
+// The bytes of a term beside its field and its text: in its body, with its header, and with that of a clause around it.
+const TERM_BODY: usize = 2 * HEADER;
+
+const TERM_FRONT: usize = 3 * HEADER;
+
+const TERM_CLAUSE: usize = 4 * HEADER;
+
+// Those of a word beside its text, how many more a term has, and those of a phrase beside its field and its words.
+const WORD_FRONT: usize = HEADER + POSITION_BYTES;
+
+const TERM_OVER_WORD: usize = TERM_FRONT - WORD_FRONT;
+
+const PHRASE_FRONT: usize = 2 * HEADER;
 
 pub struct Tally {
     count: usize,
@@ -56,14 +81,14 @@ fn term_len(text: &[u8], analyzer: u8, field: usize) -> usize
     ensures made { λ r. ⌜ ((o : ℕ) (f : List ℕ) → length f ≡ field → r ≡ madeLength (termOf o f (tokenize analyzer (now (text .entry))))) ⌝ }
     ensures bound { λ r. ⌜ r ≤ 8 + 45 * length (now (text .entry)) ⌝ }
 {
-    let t = count_tokens(text, analyzer, 12 + field);
+    let t = count_tokens(text, analyzer, TERM_CLAUSE + field);
     if t.count == 0 {
         return 0;
     }
     if t.count == 1 {
-        return t.bytes - 3;
+        return t.bytes - HEADER;
     }
-    8 + t.bytes
+    BOOLEAN_FRONT + t.bytes
 }
 
 // One token makes a term, several a phrase; 0 where there is none.
@@ -72,14 +97,14 @@ fn phrase_len(text: &[u8], analyzer: u8, field: usize) -> usize
     ensures made { λ r. ⌜ ((f : List ℕ) → length f ≡ field → r ≡ madeLength (phraseOf f (tokenize analyzer (now (text .entry))))) ⌝ }
     ensures bound { λ r. ⌜ r ≤ 8 + 45 * length (now (text .entry)) ⌝ }
 {
-    let t = count_tokens(text, analyzer, 7);
+    let t = count_tokens(text, analyzer, WORD_FRONT);
     if t.count == 0 {
         return 0;
     }
     if t.count == 1 {
-        return t.bytes + 2 + field;
+        return t.bytes + TERM_OVER_WORD + field;
     }
-    6 + field + t.bytes
+    PHRASE_FRONT + field + t.bytes
 }
 
 // The text is one token: all of it to a keyword, and to the others where it is known to be a word.
@@ -87,10 +112,10 @@ pub fn is_one(word: bool, analyzer: u8, text: &[u8]) -> bool
     requires { ⌜ (word ≡ true → OneWord (now text)) ⌝ }
     ensures { λ r. ⌜ (r ≡ true → tokenTexts analyzer (now (text .entry)) ≡ spelled analyzer (now (text .entry)) ∷ []) ⌝ }
 {
-    if analyzer == tokens::WHITESPACE {
+    if analyzer == WHITESPACE_ANALYZER {
         return word;
     }
-    if analyzer == tokens::SIMPLE {
+    if analyzer == SIMPLE_ANALYZER {
         return word;
     }
     0 < text.len()
@@ -103,7 +128,7 @@ pub fn leaf_len(plain: bool, one: bool, text: &[u8], analyzer: u8, field: usize)
     ensures bound { λ r. ⌜ r ≤ 8 + 45 * length (now (text .entry)) ⌝ }
 {
     if one {
-        return 9 + field + text.len();
+        return TERM_FRONT + field + text.len();
     }
     if plain {
         return term_len(text, analyzer, field);
@@ -128,9 +153,9 @@ fn put_term(out: &mut [u8], at: usize, field: &[u8], analyzer: u8, s: &[u8]) -> 
     requires { ⌜ (at + 9 + length (now field) + length (now s) ≤ length (now out)) × (length (now field) ≤ fieldMost) × (length (now s) ≤ textMost) ⌝ }
     ensures { λ r. ⌜ Put (now (out .entry)) at (encode (term (now (field .entry)) (spelled analyzer (now (s .entry))))) r (now (out .exit)) ⌝ }
 {
-    let b = put_header(out, at, 0x01, 6 + field.len() + s.len());
-    let c = put_part(out, b, 0x10, field);
-    let d = put_header(out, c, 0x11, s.len());
+    let b = put_header(out, at, TERM_TAG, TERM_BODY + field.len() + s.len());
+    let c = put_part(out, b, FIELD_TAG, field);
+    let d = put_header(out, c, TEXT_TAG, s.len());
     put_spelled(out, d, analyzer, s)
 }
 
@@ -139,7 +164,7 @@ fn put_clause(out: &mut [u8], at: usize, tag: u8, field: &[u8], analyzer: u8, s:
     requires { ⌜ (at + 12 + length (now field) + length (now s) ≤ length (now out)) × (length (now field) ≤ fieldMost) × (length (now s) ≤ textMost) ⌝ }
     ensures { λ r. ⌜ Put (now (out .entry)) at (part tag (encode (term (now (field .entry)) (spelled analyzer (now (s .entry)))))) r (now (out .exit)) ⌝ }
 {
-    let b = put_header(out, at, tag, 9 + field.len() + s.len());
+    let b = put_header(out, at, tag, TERM_FRONT + field.len() + s.len());
     put_term(out, b, field, analyzer, s)
 }
 
@@ -147,7 +172,7 @@ fn put_word(out: &mut [u8], at: usize, position: u32, analyzer: u8, s: &[u8]) ->
     requires { ⌜ (at + 7 + length (now s) ≤ length (now out)) × (length (now s) ≤ textMost) ⌝ }
     ensures { λ r. ⌜ Put (now (out .entry)) at (part wordTag (big 4 position ++ spelled analyzer (now (s .entry)))) r (now (out .exit)) ⌝ }
 {
-    let b = put_header(out, at, 0x12, 4 + s.len());
+    let b = put_header(out, at, WORD_TAG, POSITION_BYTES + s.len());
     let c = put_big4(out, b, position);
     put_spelled(out, c, analyzer, s)
 }
@@ -204,8 +229,15 @@ fn write_boolean(
     requires { ⌜ (at + length (encode (boolean 0 (termClauses (operatorKind operator) (now field) (tokenize analyzer (now text))))) ≤ length (now out)) × (length (now field) ≤ fieldMost) × (length (now text) ≤ textMost) × (length (now out) ≤ 65000) ⌝ }
     ensures { λ r. ⌜ Put (now (out .entry)) at (encode (boolean 0 (termClauses (operatorKind operator) (now (field .entry)) (tokenize analyzer (now (text .entry)))))) r (now (out .exit)) ⌝ }
 {
-    let w = put_clauses(out, at + 8, operator_tag(operator), field, analyzer, text);
-    let b = put_header(out, at, 0x03, w - at - 3);
+    let w = put_clauses(
+        out,
+        at + BOOLEAN_FRONT,
+        operator_tag(operator),
+        field,
+        analyzer,
+        text,
+    );
+    let b = put_header(out, at, BOOLEAN_TAG, w - at - HEADER);
     put_minimum(out, b, 0);
     w
 }
@@ -215,9 +247,9 @@ fn write_phrase(field: &[u8], analyzer: u8, text: &[u8], out: &mut [u8], at: usi
     requires { ⌜ (at + length (encode (phrase (now field) (tokenize analyzer (now text)))) ≤ length (now out)) × (length (now field) ≤ fieldMost) × (length (now text) ≤ textMost) × (length (now out) ≤ 65000) ⌝ }
     ensures { λ r. ⌜ Put (now (out .entry)) at (encode (phrase (now (field .entry)) (tokenize analyzer (now (text .entry))))) r (now (out .exit)) ⌝ }
 {
-    let b = put_part(out, at + 3, 0x10, field);
+    let b = put_part(out, at + HEADER, FIELD_TAG, field);
     let w = put_words(out, b, analyzer, text);
-    put_header(out, at, 0x02, w - at - 3);
+    put_header(out, at, PHRASE_TAG, w - at - HEADER);
     w
 }
 

@@ -3,5 +3,6 @@
 mod kinds;
 mod leaf;
 pub mod measure;
+pub mod scope;
 mod start;
 pub mod write;

@@ -6,12 +6,31 @@ use crate::kinds::Measured;
 use crate::kinds::Sum;
 use crate::kinds::is_at;
 use crate::leaf::leaf_len;
+use crate::scope::Scope;
 use crate::start::Start;
 use crate::start::clause_start;
 use crate::start::one_at;
 use boost::numeral::fault;
 use counted::Counted;
 use counted::query_len;
+use names::BOOST_FRONT;
+use names::BRACKETS_MOST;
+use names::CARET_KIND;
+use names::CLOSE_KIND;
+use names::END_KIND;
+use names::FUZZY_TERM;
+use names::LONG_FIELD;
+use names::MANY_BRACKETS;
+use names::NO_NUMERAL;
+use names::NO_TAG;
+use names::OPEN_BRACKET;
+use names::OPEN_KIND;
+use names::QUOTED_KIND;
+use names::SLOPPY_PHRASE;
+use names::TERM_KIND;
+use names::TILDE_KIND;
+use names::UNEXPECTED_END;
+use names::UNEXPECTED_TOKEN;
 use row::field_part;
 use row::kind_at;
 use row::text_at;
@@ -35,7 +54,7 @@ fn boosted_len(len: usize) -> usize
     if len == 0 {
         return 0;
     }
-    7 + len
+    BOOST_FRONT + len
 }
 
 // A boost may follow at i what has `len` bytes.
@@ -44,8 +63,8 @@ fn with_boost(room: &[u8], n: usize, len: usize, i: usize) -> Measured
     ensures means { λ r. ⌜ ((st : Setup) (m : Made) → len ≡ madeLength m → MeansFound r (boostAt st (tokensOf (now (room .entry)) n) m i)) ⌝ }
     ensures within { λ r. ⌜ WithinBoost (tokensOf (now (room .entry)) n) n i len r ⌝ }
 {
-    if is_at(room, n, 11, i) {
-        if is_at(room, n, 1, i + 1) {
+    if is_at(room, n, CARET_KIND, i) {
+        if is_at(room, n, TERM_KIND, i + 1) {
             let e = fault(text_at(room, i + 1));
             if e != 0 {
                 return Measured::Refused(e);
@@ -55,7 +74,7 @@ fn with_boost(room: &[u8], n: usize, len: usize, i: usize) -> Measured
                 next: i + 2,
             };
         }
-        return Measured::Refused(14);
+        return Measured::Refused(NO_NUMERAL);
     }
     Measured::Clause { len: len, next: i }
 }
@@ -65,9 +84,9 @@ fn leaf_fault(plain: bool) -> u8
     ensures { λ r. ⌜ r ≡ number (leafFault plain) ⌝ }
 {
     if plain {
-        return 8;
+        return FUZZY_TERM;
     }
-    9
+    SLOPPY_PHRASE
 }
 
 // The term or the quote at i, in the field in force.
@@ -84,14 +103,14 @@ fn measure_leaf<'a>(
     ensures means { λ r. ⌜ ((st : Setup) (o : ℕ) → Tuned st o (now (room .entry)) n (now (default .entry)) from analyzer → MeansFound r (leafAt plain st (tokensOf (now (room .entry)) n) (nameFrom (now (room .entry)) (now (default .entry)) from) i)) ⌝ }
     ensures within { λ r. ⌜ WithinClause (tokensOf (now (room .entry)) n) n i r ⌝ }
 {
-    if is_at(room, n, 12, i + 1) {
+    if is_at(room, n, TILDE_KIND, i + 1) {
         return Measured::Refused(leaf_fault(plain));
     }
     let field = field_part(room, default, from);
     let text = text_at(room, i);
     let one = one_at(room, n, i, analyzer);
     let len = leaf_len(plain, one, text, analyzer, field.len());
-    if is_at(room, n, 11, i + 1) {
+    if is_at(room, n, CARET_KIND, i + 1) {
         return with_boost(room, n, len, i + 1);
     }
     Measured::Clause {
@@ -114,90 +133,70 @@ fn closing(room: &[u8], n: usize, g: Counted) -> Measured
             bytes,
             next,
         } => {
-            if is_at(room, n, 10, next) {
+            if is_at(room, n, CLOSE_KIND, next) {
                 return with_boost(room, n, query_len(count, tag, bytes), next + 1);
             }
-            Measured::Refused(12)
+            Measured::Refused(OPEN_BRACKET)
         }
     }
 }
 
 // One clause at i, below `depth` open brackets.
-fn measure_clause<'a>(
-    room: &'a [u8],
-    n: usize,
-    default: &'a [u8],
-    operator: u8,
-    from: usize,
-    analyzer: u8,
-    depth: usize,
-    i: usize,
-) -> Measured
-    requires { ⌜ (Rowed (now room) n) × (Fielded (now room) n (now default) from) × (i ≤ 2000) × (depth ≤ 24) ⌝ }
-    ensures means { λ r. ⌜ ((st : Setup) → Tuned st operator (now (room .entry)) n (now (default .entry)) from analyzer → MeantClause st (tokensOf (now (room .entry)) n) n (nameFrom (now (room .entry)) (now (default .entry)) from) depth i r) ⌝ }
-    ensures within { λ r. ⌜ WithinClause (tokensOf (now (room .entry)) n) n i r ⌝ }
+fn measure_clause<'a>(room: &'a [u8], default: &'a [u8], p: Scope, i: usize) -> Measured
+    requires { ⌜ (Rowed (now room) (p .n)) × (Fielded (now room) (p .n) (now default) (p .from)) × (i ≤ 2000) × (p .depth ≤ 24) ⌝ }
+    ensures means { λ r. ⌜ ((st : Setup) → Tuned st (p .operator) (now (room .entry)) (p .n) (now (default .entry)) (p .from) (p .analyzer) → MeantClause st (tokensOf (now (room .entry)) (p .n)) (p .n) (nameFrom (now (room .entry)) (now (default .entry)) (p .from)) (p .depth) i r) ⌝ }
+    ensures within { λ r. ⌜ WithinClause (tokensOf (now (room .entry)) (p .n)) (p .n) i r ⌝ }
 {
-    match clause_start(room, n, from, analyzer, i) {
-        Start::Long => Measured::Refused(15),
+    match clause_start(room, p.n, p.from, p.analyzer, i) {
+        Start::Long => Measured::Refused(LONG_FIELD),
         Start::At { from, analyzer, i } => {
-            let t = kind_at(room, n, i);
-            if t == 1 || t == 2 {
-                return measure_leaf(room, n, default, from, analyzer, t == 1, i);
+            let t = kind_at(room, p.n, i);
+            if t == TERM_KIND || t == QUOTED_KIND {
+                return measure_leaf(room, p.n, default, from, analyzer, t == TERM_KIND, i);
             }
-            if t == 9 {
-                if depth < 24 {
-                    let g = measure_query(
-                        room,
-                        n,
-                        default,
-                        operator,
-                        from,
-                        analyzer,
-                        depth + 1,
-                        i + 1,
-                    );
-                    return closing(room, n, g);
+            if t == OPEN_KIND {
+                if p.depth < BRACKETS_MOST {
+                    let q = Scope {
+                        n: p.n,
+                        from: from,
+                        depth: p.depth + 1,
+                        operator: p.operator,
+                        analyzer: analyzer,
+                    };
+                    let g = measure_query(room, default, q, i + 1);
+                    return closing(room, p.n, g);
                 }
-                return Measured::Refused(16);
+                return Measured::Refused(MANY_BRACKETS);
             }
-            if t == 0 {
-                return Measured::Refused(10);
+            if t == END_KIND {
+                return Measured::Refused(UNEXPECTED_END);
             }
-            Measured::Refused(11)
+            Measured::Refused(UNEXPECTED_TOKEN)
         }
     }
 }
 
 // The clauses from `at` on, up to a closing bracket or the end.
-pub fn measure_query<'a>(
-    room: &'a [u8],
-    n: usize,
-    default: &'a [u8],
-    operator: u8,
-    from: usize,
-    analyzer: u8,
-    depth: usize,
-    at: usize,
-) -> Counted
-    requires { ⌜ (Rowed (now room) n) × (Fielded (now room) n (now default) from) × (at ≤ n) × (depth ≤ 24) ⌝ }
-    ensures means { λ r. ⌜ ((st : Setup) → Tuned st operator (now (room .entry)) n (now (default .entry)) from analyzer → MeantClauses st (tokensOf (now (room .entry)) n) n (nameFrom (now (room .entry)) (now (default .entry)) from) depth at r) ⌝ }
-    ensures within { λ r. ⌜ WithinClauses (tokensOf (now (room .entry)) n) n at r ⌝ }
+pub fn measure_query<'a>(room: &'a [u8], default: &'a [u8], p: Scope, at: usize) -> Counted
+    requires { ⌜ (Rowed (now room) (p .n)) × (Fielded (now room) (p .n) (now default) (p .from)) × (at ≤ p .n) × (p .depth ≤ 24) ⌝ }
+    ensures means { λ r. ⌜ ((st : Setup) → Tuned st (p .operator) (now (room .entry)) (p .n) (now (default .entry)) (p .from) (p .analyzer) → MeantClauses st (tokensOf (now (room .entry)) (p .n)) (p .n) (nameFrom (now (room .entry)) (now (default .entry)) (p .from)) (p .depth) at r) ⌝ }
+    ensures within { λ r. ⌜ WithinClauses (tokensOf (now (room .entry)) (p .n)) (p .n) at r ⌝ }
 {
     let mut i = at;
     let mut s = Sum {
         count: 0,
-        tag: 0,
+        tag: NO_TAG,
         bytes: 0,
     };
-    while kinds::more_at(room, n, i) {
-        let c = kinds::conjunction_at(room, n, 0 < s.count, i);
+    while kinds::more_at(room, p.n, i) {
+        let c = kinds::conjunction_at(room, p.n, 0 < s.count, i);
         let j = kinds::after(c, i);
-        let m = kinds::modifier_at(room, n, j);
+        let m = kinds::modifier_at(room, p.n, j);
         let k = kinds::after(m, j);
-        match measure_clause(room, n, default, operator, from, analyzer, depth, k) {
+        match measure_clause(room, default, p, k) {
             Measured::Refused(e) => return Counted::Fault(e),
             Measured::Clause { len, next } => {
-                s = kinds::added(s, operator, c, m, len);
+                s = kinds::added(s, p.operator, c, m, len);
                 i = next;
             }
         }

@@ -1,6 +1,7 @@
 // Where a clause begins behind a field name, and whether the text of its token is known to be one token: both passes ask.
 use crate::kinds::is_named;
 use crate::leaf::is_one;
+use names::FIELD_MOST;
 use row::is_word_at;
 use row::note_at;
 use row::text_at;
@@ -27,7 +28,7 @@ pub fn clause_start(room: &[u8], n: usize, from: usize, analyzer: u8, i: usize) 
 {
     if is_named(room, n, i) {
         let name = text_at(room, i);
-        if 32 < name.len() {
+        if FIELD_MOST < name.len() {
             return Start::Long;
         }
         return Start::At {

@@ -1,10 +1,11 @@
 // The writing pass, run only when measuring met no fault and the output is long enough. The body of a clause is written
-// first, behind three bytes that are left for its header, and the header afterwards, when its length is known. Only a query in brackets
+// first, behind the bytes that are left for its header, and the header afterwards, when its length is known. Only a query in brackets
 // is measured once more: whether it stands alone must be known first, and it is lent the stretch that it fills exactly.
 use crate::kinds;
 use crate::kinds::is_at;
 use crate::leaf::write_text;
 use crate::measure::measure_query;
+use crate::scope::Scope;
 use crate::start::Start;
 use crate::start::clause_start;
 use crate::start::one_at;
@@ -13,6 +14,14 @@ use boost::numeral::numeral;
 use counted::Counted;
 use counted::is_alone;
 use counted::query_len;
+use names::BOOLEAN_FRONT;
+use names::BOOLEAN_TAG;
+use names::BOOST_FRONT;
+use names::BOOST_TAG;
+use names::CARET_KIND;
+use names::HEADER;
+use names::OPEN_KIND;
+use names::TERM_KIND;
 use numbers::put_big4;
 use parts::write::put_header;
 use parts::write::put_minimum;
@@ -57,9 +66,9 @@ fn boost_size(room: &[u8], n: usize, i: usize) -> usize
     requires { ⌜ (n ≤ textMost) × (roomLeast ≤ length (now room)) × (i ≤ 4000) ⌝ }
     ensures { λ r. ⌜ r ≡ boostSize (tokensOf (now (room .entry)) n) i ⌝ }
 {
-    if is_at(room, n, 11, i) {
-        if is_at(room, n, 1, i + 1) {
-            return 7;
+    if is_at(room, n, CARET_KIND, i) {
+        if is_at(room, n, TERM_KIND, i + 1) {
+            return BOOST_FRONT;
         }
     }
     0
@@ -88,7 +97,7 @@ fn put_boost(
             next: i + 2,
         };
     }
-    let b = put_header(out, at, 0x04, end - at - 3);
+    let b = put_header(out, at, BOOST_TAG, end - at - HEADER);
     put_big4(out, b, bits_at(room, n, i + 1));
     Wrote {
         end: end,
@@ -99,34 +108,31 @@ fn put_boost(
 // The term or the quote at i.
 fn write_leaf<'a>(
     room: &'a [u8],
-    n: usize,
     default: &'a [u8],
-    operator: u8,
-    from: usize,
-    analyzer: u8,
+    p: Scope,
     plain: bool,
     i: usize,
     out: &mut [u8],
     at: usize,
 ) -> Wrote
-    requires { ⌜ (Rowed (now room) n) × (Fielded (now room) n (now default) from) × (i < n) × (at ≤ 65536) × (length (now out) ≤ 65000) × (plain ≡ isAt termKind (tokensOf (now room) n) i) × ((st : Setup) × (m : Made) × (j : ℕ) × LeafToWrite (now room) n (now default) operator from analyzer i at (length (now out)) st m j) ⌝ }
-    ensures wrote { λ r. ⌜ ((st : Setup) (m : Made) (j : ℕ) → LeafToWrite (now (room .entry)) n (now (default .entry)) operator from analyzer i at (length (now (out .entry))) st m j → (r .next ≡ j) × Put (now (out .entry)) at (madeBytes m) (r .end) (now (out .exit))) ⌝ }
-    ensures within { λ r. ⌜ (i < r .next) × (r .next ≤ n) ⌝ }
+    requires { ⌜ (Rowed (now room) (p .n)) × (Fielded (now room) (p .n) (now default) (p .from)) × (i < p .n) × (at ≤ 65536) × (length (now out) ≤ 65000) × (plain ≡ isAt termKind (tokensOf (now room) (p .n)) i) × ((st : Setup) × (m : Made) × (j : ℕ) × LeafToWrite (now room) (p .n) (now default) (p .operator) (p .from) (p .analyzer) i at (length (now out)) st m j) ⌝ }
+    ensures wrote { λ r. ⌜ ((st : Setup) (m : Made) (j : ℕ) → LeafToWrite (now (room .entry)) (p .n) (now (default .entry)) (p .operator) (p .from) (p .analyzer) i at (length (now (out .entry))) st m j → (r .next ≡ j) × Put (now (out .entry)) at (madeBytes m) (r .end) (now (out .exit))) ⌝ }
+    ensures within { λ r. ⌜ (i < r .next) × (r .next ≤ p .n) ⌝ }
 {
-    let field = field_part(room, default, from);
+    let field = field_part(room, default, p.from);
     let text = text_at(room, i);
-    let one = one_at(room, n, i, analyzer);
-    let size = boost_size(room, n, i + 1);
+    let one = one_at(room, p.n, i, p.analyzer);
+    let size = boost_size(room, p.n, i + 1);
     if size == 0 {
-        let end = write_text(plain, one, operator, field, analyzer, text, out, at);
+        let end = write_text(plain, one, p.operator, field, p.analyzer, text, out, at);
         return Wrote {
             end: end,
             next: i + 1,
         };
     }
     let start = at + size;
-    let end = write_text(plain, one, operator, field, analyzer, text, out, start);
-    put_boost(room, n, i + 1, out, at, start, end)
+    let end = write_text(plain, one, p.operator, field, p.analyzer, text, out, start);
+    put_boost(room, p.n, i + 1, out, at, start, end)
 }
 
 // The front of a Boolean that fills the stretch; none where a query is its one clause.
@@ -137,8 +143,8 @@ fn put_query_front(out: &mut [u8], alone: bool) -> usize
     if alone {
         return 0;
     }
-    let len = out.len() - 3;
-    let b = put_header(out, 0, 0x03, len);
+    let len = out.len() - HEADER;
+    let b = put_header(out, 0, BOOLEAN_TAG, len);
     put_minimum(out, b, 0)
 }
 
@@ -150,7 +156,7 @@ fn body_start(alone: bool, at: usize) -> usize
     if alone {
         return at;
     }
-    at + 3
+    at + HEADER
 }
 
 // The conjunction c alters the kind of the clause that was kept last, whose header stands at `last`.
@@ -164,24 +170,20 @@ fn touch_last(out: &mut [u8], kept: bool, last: usize, operator: u8, c: u8)
     }
 }
 
-// The query in brackets from i on, below `depth` open brackets, and a boost behind it.
+// The query in brackets from i on, and a boost behind it.
 fn write_bracket<'a>(
     room: &'a [u8],
-    n: usize,
     default: &'a [u8],
-    operator: u8,
-    from: usize,
-    analyzer: u8,
-    depth: usize,
+    p: Scope,
     i: usize,
     out: &mut [u8],
     at: usize,
 ) -> Wrote
-    requires { ⌜ (Rowed (now room) n) × (Fielded (now room) n (now default) from) × (i ≤ n) × (depth ≤ 24) × (at ≤ 65536) × (length (now out) ≤ 65000) × ((st : Setup) × (m : Made) × (j : ℕ) × BracketToWrite (now room) n (now default) operator from analyzer depth i at (length (now out)) st m j) ⌝ }
-    ensures wrote { λ r. ⌜ ((st : Setup) (m : Made) (j : ℕ) → BracketToWrite (now (room .entry)) n (now (default .entry)) operator from analyzer depth i at (length (now (out .entry))) st m j → (r .next ≡ j) × Put (now (out .entry)) at (madeBytes m) (r .end) (now (out .exit))) ⌝ }
-    ensures within { λ r. ⌜ (i < r .next) × (r .next ≤ n) ⌝ }
+    requires { ⌜ (Rowed (now room) (p .n)) × (Fielded (now room) (p .n) (now default) (p .from)) × (i ≤ p .n) × (p .depth ≤ 24) × (at ≤ 65536) × (length (now out) ≤ 65000) × ((st : Setup) × (m : Made) × (j : ℕ) × BracketToWrite (now room) (p .n) (now default) (p .operator) (p .from) (p .analyzer) (p .depth) i at (length (now out)) st m j) ⌝ }
+    ensures wrote { λ r. ⌜ ((st : Setup) (m : Made) (j : ℕ) → BracketToWrite (now (room .entry)) (p .n) (now (default .entry)) (p .operator) (p .from) (p .analyzer) (p .depth) i at (length (now (out .entry))) st m j → (r .next ≡ j) × Put (now (out .entry)) at (madeBytes m) (r .end) (now (out .exit))) ⌝ }
+    ensures within { λ r. ⌜ (i < r .next) × (r .next ≤ p .n) ⌝ }
 {
-    match measure_query(room, n, default, operator, from, analyzer, depth, i) {
+    match measure_query(room, default, p, i) {
         Counted::Fault(_) => Wrote { end: at, next: i },
         Counted::Clauses {
             count,
@@ -190,75 +192,52 @@ fn write_bracket<'a>(
             next,
         } => {
             let len = query_len(count, tag, bytes);
-            let start = at + boost_size(room, n, next + 1);
+            let start = at + boost_size(room, p.n, next + 1);
             let end = start + len;
             if len == 0 {
-                return put_boost(room, n, next + 1, out, at, start, start);
+                return put_boost(room, p.n, next + 1, out, at, start, start);
             }
             write_query(
                 room,
-                n,
                 default,
-                operator,
-                from,
-                analyzer,
-                depth,
+                p,
                 i,
                 is_alone(count, tag),
                 &mut out[start..end],
             );
-            put_boost(room, n, next + 1, out, at, start, end)
+            put_boost(room, p.n, next + 1, out, at, start, end)
         }
     }
 }
 
-// One clause at i, below `depth` open brackets: where its bytes end, and the next token. Nothing is written where it analyzes to nothing.
+// One clause at i: where its bytes end, and the next token. Nothing is written where it analyzes to nothing.
 fn write_clause<'a>(
     room: &'a [u8],
-    n: usize,
     default: &'a [u8],
-    operator: u8,
-    from: usize,
-    analyzer: u8,
-    depth: usize,
+    p: Scope,
     i: usize,
     out: &mut [u8],
     at: usize,
 ) -> Wrote
-    requires { ⌜ (Rowed (now room) n) × (Fielded (now room) n (now default) from) × (i ≤ 2000) × (depth ≤ 24) × (at ≤ 65536) × (length (now out) ≤ 65000) × ((st : Setup) × (m : Made) × (j : ℕ) × ClauseToWrite (now room) n (now default) operator from analyzer depth i at (length (now out)) st m j) ⌝ }
-    ensures wrote { λ r. ⌜ ((st : Setup) (m : Made) (j : ℕ) → ClauseToWrite (now (room .entry)) n (now (default .entry)) operator from analyzer depth i at (length (now (out .entry))) st m j → (r .next ≡ j) × Put (now (out .entry)) at (madeBytes m) (r .end) (now (out .exit))) ⌝ }
-    ensures within { λ r. ⌜ (i < r .next) × (r .next ≤ n) ⌝ }
+    requires { ⌜ (Rowed (now room) (p .n)) × (Fielded (now room) (p .n) (now default) (p .from)) × (i ≤ 2000) × (p .depth ≤ 24) × (at ≤ 65536) × (length (now out) ≤ 65000) × ((st : Setup) × (m : Made) × (j : ℕ) × ClauseToWrite (now room) (p .n) (now default) (p .operator) (p .from) (p .analyzer) (p .depth) i at (length (now out)) st m j) ⌝ }
+    ensures wrote { λ r. ⌜ ((st : Setup) (m : Made) (j : ℕ) → ClauseToWrite (now (room .entry)) (p .n) (now (default .entry)) (p .operator) (p .from) (p .analyzer) (p .depth) i at (length (now (out .entry))) st m j → (r .next ≡ j) × Put (now (out .entry)) at (madeBytes m) (r .end) (now (out .exit))) ⌝ }
+    ensures within { λ r. ⌜ (i < r .next) × (r .next ≤ p .n) ⌝ }
 {
-    match clause_start(room, n, from, analyzer, i) {
+    match clause_start(room, p.n, p.from, p.analyzer, i) {
         Start::Long => Wrote { end: at, next: i },
         Start::At { from, analyzer, i } => {
-            if !is_at(room, n, 9, i) {
-                let plain = is_at(room, n, 1, i);
-                return write_leaf(
-                    room,
-                    n,
-                    default,
-                    operator,
-                    from,
-                    analyzer,
-                    plain,
-                    i,
-                    out,
-                    at,
-                );
+            let inner = Scope {
+                n: p.n,
+                from: from,
+                depth: p.depth + 1,
+                operator: p.operator,
+                analyzer: analyzer,
+            };
+            if !is_at(room, p.n, OPEN_KIND, i) {
+                let plain = is_at(room, p.n, TERM_KIND, i);
+                return write_leaf(room, default, inner, plain, i, out, at);
             }
-            write_bracket(
-                room,
-                n,
-                default,
-                operator,
-                from,
-                analyzer,
-                depth + 1,
-                i + 1,
-                out,
-                at,
-            )
+            write_bracket(room, default, inner, i + 1, out, at)
         }
     }
 }
@@ -266,41 +245,26 @@ fn write_clause<'a>(
 // The clauses from `at` on: one that stands for itself, or a Boolean of all that are kept.
 pub fn write_query<'a>(
     room: &'a [u8],
-    n: usize,
     default: &'a [u8],
-    operator: u8,
-    from: usize,
-    analyzer: u8,
-    depth: usize,
+    p: Scope,
     at: usize,
     alone: bool,
     out: &mut [u8],
 )
-    requires { ⌜ (Rowed (now room) n) × (Fielded (now room) n (now default) from) × (at ≤ n) × (depth ≤ 24) × (0 < length (now out)) × (length (now out) ≤ 65000) × ((st : Setup) × (cs : Clauses) × (j : ℕ) × QueryToWrite (now room) n (now default) operator from analyzer depth at alone (length (now out)) st cs j) ⌝ }
-    ensures { λ _. ⌜ ((st : Setup) (cs : Clauses) (j : ℕ) → QueryToWrite (now (room .entry)) n (now (default .entry)) operator from analyzer depth at alone (length (now (out .entry))) st cs j → now (out .exit) ≡ madeBytes (queryOf cs)) ⌝ }
+    requires { ⌜ (Rowed (now room) (p .n)) × (Fielded (now room) (p .n) (now default) (p .from)) × (at ≤ p .n) × (p .depth ≤ 24) × (0 < length (now out)) × (length (now out) ≤ 65000) × ((st : Setup) × (cs : Clauses) × (j : ℕ) × QueryToWrite (now room) (p .n) (now default) (p .operator) (p .from) (p .analyzer) (p .depth) at alone (length (now out)) st cs j) ⌝ }
+    ensures { λ _. ⌜ ((st : Setup) (cs : Clauses) (j : ℕ) → QueryToWrite (now (room .entry)) (p .n) (now (default .entry)) (p .operator) (p .from) (p .analyzer) (p .depth) at alone (length (now (out .entry))) st cs j → now (out .exit) ≡ madeBytes (queryOf cs)) ⌝ }
 {
     let mut w = put_query_front(out, alone);
     let mut last = 0;
     let mut i = at;
-    while kinds::more_at(room, n, i) {
-        let c = kinds::conjunction_at(room, n, 8 < w, i);
+    while kinds::more_at(room, p.n, i) {
+        let c = kinds::conjunction_at(room, p.n, BOOLEAN_FRONT < w, i);
         let j = kinds::after(c, i);
-        let m = kinds::modifier_at(room, n, j);
+        let m = kinds::modifier_at(room, p.n, j);
         let k = kinds::after(m, j);
-        touch_last(out, 8 < w, last, operator, c);
+        touch_last(out, BOOLEAN_FRONT < w, last, p.operator, c);
         let start = body_start(alone, w);
-        let r = write_clause(
-            room,
-            n,
-            default,
-            operator,
-            from,
-            analyzer,
-            depth,
-            k,
-            out,
-            start,
-        );
+        let r = write_clause(room, default, p, k, out, start);
         i = r.next;
         if r.end == start {
             continue;
@@ -308,7 +272,7 @@ pub fn write_query<'a>(
         if alone {
             return;
         }
-        put_header(out, w, kinds::tag_after(operator, c, m), r.end - start);
+        put_header(out, w, kinds::tag_after(p.operator, c, m), r.end - start);
         last = w;
         w = r.end;
     }

@@ -1,4 +1,7 @@
 // How the clauses of a query were counted, and what that says of the query: whether it is its one clause, and how long it is.
+use names::BOOLEAN_FRONT;
+use names::HEADER;
+use names::MUST_NOT_TAG;
 ghost use mathlib.Core.Path.{_≡_};
 ghost use Prim.Native.Nat.{ℕ, _+_, _*_, _≤_};
 ghost use Rattle.rules.specs.Query.{Clauses};
@@ -21,7 +24,7 @@ pub fn is_alone(count: usize, tag: u8) -> bool
     ensures { λ r. ⌜ ((cs : Clauses) (bytes : ℕ) → Sums cs count tag bytes → r ≡ isAlone cs) ⌝ }
 {
     if count == 1 {
-        return tag < 0x22;
+        return tag < MUST_NOT_TAG;
     }
     false
 }
@@ -36,7 +39,7 @@ pub fn query_len(count: usize, tag: u8, bytes: usize) -> usize
         return 0;
     }
     if is_alone(count, tag) {
-        return bytes - 3;
+        return bytes - HEADER;
     }
-    8 + bytes
+    BOOLEAN_FRONT + bytes
 }

@@ -1,5 +1,10 @@
 // A nested boost is one 32-bit product. A sum of boosts runs in 64 bits, in clause order, and is rounded once to 32.
 // A boost comes as its pattern, and each function tests for a NaN before it makes a float of it or a pattern of a float, where a NaN has no one value.
+use names::INFINITY;
+use names::SIGN;
+use names::THE_NAN;
+use names::WIDE_INFINITY;
+use names::WIDE_SIGN;
 ghost use mathlib.Core.Path.{_≡_};
 ghost use Prim.Native.Nat.{_<_};
 ghost use Rattle.rules.specs.Floats.{widened, narrowed, plus, times, isOne};
@@ -8,15 +13,15 @@ ghost use Rattle.rules.specs.Floats.{widened, narrowed, plus, times, isOne};
 pub fn product(a: u32, b: u32) -> u32
     ensures { λ r. ⌜ r ≡ times a b ⌝ }
 {
-    if 0x7f80_0000 < a % 0x8000_0000 {
-        return 0x7fc0_0000;
+    if INFINITY < a % SIGN {
+        return THE_NAN;
     }
-    if 0x7f80_0000 < b % 0x8000_0000 {
-        return 0x7fc0_0000;
+    if INFINITY < b % SIGN {
+        return THE_NAN;
     }
     let p = f32::from_bits(a) * f32::from_bits(b);
     if p != p {
-        return 0x7fc0_0000;
+        return THE_NAN;
     }
     f32::to_bits(p)
 }
@@ -26,7 +31,7 @@ pub fn as_sum(b: u32) -> f64
     ensures { λ r. ⌜ r ≡ widened b ⌝ }
 {
     let w = crate::bits::widen(b);
-    if 0x7ff0_0000_0000_0000 < w % 0x8000_0000_0000_0000 {
+    if WIDE_INFINITY < w % WIDE_SIGN {
         return 0.0 / 0.0;
     }
     f64::from_bits(w)
@@ -44,7 +49,7 @@ pub fn rounded_bits(sum: f64) -> u32
     ensures { λ r. ⌜ r ≡ narrowed sum ⌝ }
 {
     if sum != sum {
-        return 0x7fc0_0000;
+        return THE_NAN;
     }
     crate::bits::narrow(f64::to_bits(sum))
 }
@@ -60,7 +65,7 @@ pub fn is_one(sum: f64) -> bool
 pub fn is_one_bits(b: u32) -> bool
     ensures { λ r. ⌜ r ≡ isOne (widened b) ⌝ }
 {
-    if 0x7f80_0000 < b % 0x8000_0000 {
+    if INFINITY < b % SIGN {
         return false;
     }
     f32::from_bits(b) == 1.0

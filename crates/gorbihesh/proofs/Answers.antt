@@ -1,19 +1,16 @@
 -- No second answer: two answers that meet a public contract for the same input are one, and so is every byte that was lent. Section 'Proof obligations on answers'.
 -- A law for each form that a contract has; docs/ANSWERS.md says which function has which.
 use mathlib.Core.Path.{_≡_, refl, sym, ap, subst, _∙_}
-use Prim.Native.Nat.{ℕ, _<_}
+use Prim.Native.Nat.{ℕ}
 use mathlib.Core.List.{List}
-use mathlib.Core.Bool.{Bool, true, false}
 use native.Mathlib.Omega.{arith}
-use lib.ListN.{length}
-use lib.Dec.{leb}
-use Rattle.rules.specs.Numbers.{Read, got, refused, need, onRead, andThen, longAnswer, shortRoom, parseRoom}
+use Rattle.rules.specs.Numbers.{Read, got, refused, onRead, andThen, parseRoom}
 use Rattle.rules.specs.Query.{Query}
-use Rattle.rules.specs.Stored.{encode}
 use Rattle.rules.specs.Setup.{readSetup}
 use Rattle.rules.specs.Parsing.{parse}
-use Rattle.rules.specs.Answers.{Answer, Left, storedReply, fitting, leave, call, parseReply, parseLeft}
-use Rattle.rules.proofs.stored.Refusals.{number-some}
+use Rattle.rules.specs.Answers.{Left, storedReply, parseReply, parseLeft}
+use Rattle.rules.proofs.Answers.{Telling, Some, call-telling, ofAnswer, refusal-told, same-answer}
+use Rattle.rules.proofs.stored.Refusals.{no-got, got-same}
 use Rattle.rules.proofs.rewriting.Measures.{weight-length}
 use Rattle.rules.proofs.stored.Weights.{weight-some}
 use Rattle.numbers.specs.Laid.{Put}
@@ -64,35 +61,22 @@ module _ {s l rows rows′ rows″ : List ℕ} {r r′ : Selected} where
 
 -- ---- parsing: an answer of no bytes is a refusal, for no query is stored in none
 
-abbrev Telling : Answer → Type 0
-Telling a = a .refusal ≡ 0 → 0 < a .written
+stored-some : (r : Read Query) → Some (onRead storedReply r)
+stored-some (got q) a e = rw (← got-same e) (omega (arith, weight-length q, weight-some q))
+stored-some (refused x) a e = no-got e
 
-call-telling : (n : ℕ) (r : Read Query) (out room : List ℕ) → Telling (call n (onRead storedReply r) out room .answer)
-unfolding call
-call-telling n r out room = by (leb n (length room)) r
-  where
-    fitted : (b : Bool) (q : Query) → Telling (leave (need b longAnswer (got (storedReply q))) out room .answer)
-    fitted true q e = omega (arith, weight-length q, weight-some q)
-    fitted false q e = absurd (number-some longAnswer e)
-
-    by : (b : Bool) (r : Read Query) → Telling (leave (need b shortRoom (andThen (onRead storedReply r) (fitting (length out)))) out room .answer)
-    by false r e = absurd (number-some shortRoom e)
-    by true (refused x) e = absurd (number-some x e)
-    by true (got q) e = fitted (leb (length (encode q)) (length out)) q e
-
-same-answer : (p p′ : Parsed) → answerOf p ≡ answerOf p′ → Telling (answerOf p) → p ≡ p′
-same-answer (Refused n) (Refused m) e t = ap Refused (ap (λ (a : Answer). a .refusal) e)
-same-answer (Bytes n) (Bytes m) e t = ap Bytes (ap (λ (a : Answer). a .written) e)
-same-answer (Refused n) (Bytes m) e t = absurd (let z = t (ap (λ (a : Answer). a .refusal) e) in omega arith)
-same-answer (Bytes n) (Refused m) e t = absurd (let z = t refl in omega (arith, ap (λ (a : Answer). a .written) e))
+told : (p : Parsed) → Telling (answerOf p) → ofAnswer Refused Bytes (answerOf p) ≡ p
+told (Refused n) t = refusal-told Refused Bytes n t
+told (Bytes n) t = refl
 
 module _ {o a : ℕ} {f es text out room out′ room′ out″ room″ : List ℕ} {p p′ : Parsed} where
   pub no-second-parse : Parses o a f es text out room out′ room′ p → Parses o a f es text out room out″ room″ p′ → (p ≡ p′) × (out′ ≡ out″) × (room′ ≡ room″)
   unfolding parseLeft parseReply
   no-second-parse P Q =
       let e = no-second (P .is) (Q .is) in
-      let t = call-telling parseRoom (andThen (readSetup o a f es) (λ st. parse st text)) out room in (
-        same-answer p p′ (ap (λ (x : Left). x .answer) e) (subst Telling (sym (ap (λ (x : Left). x .answer) (P .is))) t),
+      let r = andThen (readSetup o a f es) (λ st. parse st text) in
+      let t = call-telling parseRoom (onRead storedReply r) out room (stored-some r) in (
+        same-answer answerOf (ofAnswer Refused Bytes) told p p′ (ap (λ (x : Left). x .answer) e) (subst Telling (sym (ap (λ (x : Left). x .answer) (P .is))) t),
         ap (λ (x : Left). x .output) e,
         ap (λ (x : Left). x .room) e,
       )

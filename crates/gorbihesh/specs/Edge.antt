@@ -14,3 +14,7 @@ left refusal len count rounds output room = record {
 -- an answer that tells these four numbers
 abbrev pub Told : ℕ → ℕ → ℕ → ℕ → ℕ → ℕ → ℕ → ℕ → Type 0
 Told refusal len count rounds refusal′ len′ count′ rounds′ = (refusal′ ≡ refusal) × (len′ ≡ len) × (count′ ≡ count) × (rounds′ ≡ rounds)
+
+-- the version of the calls, major, minor and patch as one number: 1.0.0
+abbrev pub version : ℕ
+version = 1000000

@@ -1,5 +1,8 @@
 // The calls that programs in C make: numbers and byte slices in, one struct of four numbers out. include/gorbihesh.h says what each takes,
 // promises and refuses. Each is thin over the crate that does the work, asks for nothing, and leaves what its definition says.
+use names::PARSE_ROOM;
+use names::REWRITE_ROOM;
+use names::SELECT_ROOM;
 use parser::parse::Parsed;
 use parser::parse::parse;
 use rewriter::rounds::rewrite;
@@ -8,7 +11,7 @@ use selection::select::select_bytes;
 ghost use mathlib.Core.Path.{_≡_};
 ghost use Rattle.rules.specs.Numbers.{parseRoom, rewriteRoom, selectRoom};
 ghost use Rattle.rules.specs.Answers.{parseLeft, rewriteLeft, selectLeft};
-ghost use Rattle.gorbihesh.specs.Edge.{left, Told};
+ghost use Rattle.gorbihesh.specs.Edge.{left, Told, version};
 
 // The refusal's number or 0, the bytes written, the records chosen, the rounds made.
 #[repr(C)]
@@ -18,6 +21,9 @@ pub struct Answer {
     pub count: u32,
     pub rounds: u32,
 }
+
+// A row is a record's number.
+const ROW_BYTES: u32 = 4;
 
 fn told(refusal: u32, length: u32, count: u32, rounds: u32) -> Answer
     ensures { λ r. ⌜ Told refusal length count rounds (r .refusal) (r .length) (r .count) (r .rounds) ⌝ }
@@ -67,8 +73,17 @@ pub extern "C" fn gorbihesh_select(
 {
     match select_bytes(query, list, rows, room) {
         Selected::Refused(number) => told(number as u32, 0, 0, 0),
-        Selected::Chosen(count) => told(0, 4 * count as u32, count as u32, 0),
+        Selected::Chosen(count) => told(0, ROW_BYTES * count as u32, count as u32, 0),
     }
+}
+
+// ---- the version
+
+#[no_mangle]
+pub extern "C" fn gorbihesh_version() -> u32
+    ensures { λ r. ⌜ r ≡ version ⌝ }
+{
+    1000000
 }
 
 // ---- the rooms
@@ -77,19 +92,19 @@ pub extern "C" fn gorbihesh_select(
 pub extern "C" fn gorbihesh_parse_room() -> usize
     ensures { λ r. ⌜ r ≡ parseRoom ⌝ }
 {
-    5120
+    PARSE_ROOM
 }
 
 #[no_mangle]
 pub extern "C" fn gorbihesh_rewrite_room() -> usize
     ensures { λ r. ⌜ r ≡ rewriteRoom ⌝ }
 {
-    114687
+    REWRITE_ROOM
 }
 
 #[no_mangle]
 pub extern "C" fn gorbihesh_select_room() -> usize
     ensures { λ r. ⌜ r ≡ selectRoom ⌝ }
 {
-    0
+    SELECT_ROOM
 }

@@ -1,4 +1,24 @@
 // One token: what begins with a byte that is no whitespace.
+use names::AND_KIND;
+use names::CARET_KIND;
+use names::CHUNK_MOST;
+use names::CLOSE_KIND;
+use names::COLON_KIND;
+use names::END_KIND;
+use names::LETTER_CLASS;
+use names::MINUS_KIND;
+use names::NOT_KIND;
+use names::OPEN_KIND;
+use names::OR_KIND;
+use names::PLUS_KIND;
+use names::QUOTED_KIND;
+use names::RANGE_BRACKET;
+use names::TERM_KIND;
+use names::TILDE_KIND;
+use names::WILDCARD;
+use row::NO_NOTE;
+use row::WORD_NOTE;
+use texts::Ended;
 ghost use mathlib.Core.Path.{_≡_};
 ghost use mathlib.Core.Bool.{true, false, cond};
 ghost use mathlib.Core.List.{_∷_, []};
@@ -11,7 +31,6 @@ ghost use Rattle.rules.specs.Analysis.{classes};
 ghost use Rattle.rules.specs.Lexing.{termKind, signKind, isWildcard, wordKind, termFrom, quotedFrom, tokenAt};
 ghost use Rattle.row.specs.Row.{roomLeast, Kept};
 ghost use Rattle.lexer.specs.Tokens.{Makes, noteOf, doubleKind, badStart};
-use texts::Ended;
 
 // A token: its kind, its note, how many bytes its text has in the room from its place on, and where it ended in the input.
 pub enum Step {
@@ -31,33 +50,33 @@ fn peek(text: &[u8], i: usize) -> u8
     if i < text.len() { text[i] } else { 0 }
 }
 
-// The kind of a token that is one byte; 0: none.
+// The kind of a token that is one byte; END_KIND: none.
 fn sign_kind(c: u8) -> u8
     ensures { λ r. ⌜ r ≡ signKind c ⌝ }
 {
     match c {
-        0x2b => 4,
-        0x2d => 5,
-        0x21 => 6,
-        0x28 => 9,
-        0x29 => 10,
-        0x3a => 3,
-        0x5e => 11,
-        0x7e => 12,
-        _ => 0,
+        b'+' => PLUS_KIND,
+        b'-' => MINUS_KIND,
+        b'!' => NOT_KIND,
+        b'(' => OPEN_KIND,
+        b')' => CLOSE_KIND,
+        b':' => COLON_KIND,
+        b'^' => CARET_KIND,
+        b'~' => TILDE_KIND,
+        _ => END_KIND,
     }
 }
 
-// `&&` and `||`; 0: neither.
+// `&&` and `||`; END_KIND: neither.
 fn double_kind(c: u8, d: u8) -> u8
     ensures { λ r. ⌜ r ≡ doubleKind c d ⌝ }
 {
-    if c == 0x26 {
-        if d == 0x26 { 7 } else { 0 }
-    } else if c == 0x7c {
-        if d == 0x7c { 8 } else { 0 }
+    if c == b'&' {
+        if d == b'&' { AND_KIND } else { END_KIND }
+    } else if c == b'|' {
+        if d == b'|' { OR_KIND } else { END_KIND }
     } else {
-        0
+        END_KIND
     }
 }
 
@@ -66,12 +85,12 @@ fn bad_start(c: u8) -> u8
     ensures { λ r. ⌜ r ≡ badStart c ⌝ }
 {
     match c {
-        0x5b => 6,
-        0x5d => 6,
-        0x7b => 6,
-        0x7d => 6,
-        0x2a => 7,
-        0x3f => 7,
+        b'[' => RANGE_BRACKET,
+        b']' => RANGE_BRACKET,
+        b'{' => RANGE_BRACKET,
+        b'}' => RANGE_BRACKET,
+        b'*' => WILDCARD,
+        b'?' => WILDCARD,
         _ => 0,
     }
 }
@@ -80,20 +99,27 @@ fn is_wildcard(c: u8) -> bool
     ensures { λ r. ⌜ r ≡ isWildcard c ⌝ }
 {
     match c {
-        0x2a => true,
-        0x3f => true,
+        b'*' => true,
+        b'?' => true,
         _ => false,
     }
 }
+
+// The operators that are words, as one number in base 256.
+const AND_WORD: u32 = 0x414e44;
+
+const NOT_WORD: u32 = 0x4e4f54;
+
+const OR_WORD: u32 = 0x4f52;
 
 // AND and NOT.
 fn long_word(a: u8, b: u8, c: u8) -> u8
     ensures { λ r. ⌜ r ≡ wordKind (a ∷ b ∷ c ∷ []) ⌝ }
 {
     match a as u32 * 65536 + b as u32 * 256 + c as u32 {
-        0x414e44 => 7,
-        0x4e4f54 => 6,
-        _ => 1,
+        AND_WORD => AND_KIND,
+        NOT_WORD => NOT_KIND,
+        _ => TERM_KIND,
     }
 }
 
@@ -102,8 +128,8 @@ fn short_word(a: u8, b: u8) -> u8
     ensures { λ r. ⌜ r ≡ wordKind (a ∷ b ∷ []) ⌝ }
 {
     match a as u32 * 256 + b as u32 {
-        0x4f52 => 8,
-        _ => 1,
+        OR_WORD => OR_KIND,
+        _ => TERM_KIND,
     }
 }
 
@@ -117,14 +143,14 @@ fn word_kind(word: &[u8]) -> u8
     if word.len() == 2 {
         return short_word(word[0], word[1]);
     }
-    1
+    TERM_KIND
 }
 
 // The text of an operator is not kept.
 fn kept_len(kind: u8, len: usize) -> usize
     ensures { λ r. ⌜ r ≡ cond (eqb kind termKind) len 0 ⌝ }
 {
-    if kind == 1 { len } else { 0 }
+    if kind == TERM_KIND { len } else { 0 }
 }
 
 // A term that is letters only is noted as a word, if it is no longer than a chunk.
@@ -132,12 +158,16 @@ fn word_note(kind: u8, word: bool, len: usize) -> u8
     ensures { λ r. ⌜ r ≡ noteOf kind word len ⌝ }
 {
     if !word {
-        return 0;
+        return NO_NOTE;
     }
-    if kind != 1 {
-        return 0;
+    if kind != TERM_KIND {
+        return NO_NOTE;
     }
-    if len <= 255 { 6 } else { 0 }
+    if len <= CHUNK_MOST {
+        WORD_NOTE
+    } else {
+        NO_NOTE
+    }
 }
 
 fn term_at(table: &[u8; 128], text: &[u8], at: usize, room: &mut [u8]) -> Step
@@ -149,7 +179,7 @@ fn term_at(table: &[u8; 128], text: &[u8], at: usize, room: &mut [u8]) -> Step
         Ended::Refused(f) => Step::Refused(f),
         Ended::At { next, len, word } => {
             if is_wildcard(peek(text, next)) {
-                return Step::Refused(7);
+                return Step::Refused(WILDCARD);
             }
             let end = at + len;
             let kind = word_kind(&room[at..end]);
@@ -171,8 +201,8 @@ fn quoted_at(text: &[u8], at: usize, room: &mut [u8]) -> Step
     match texts::read_quoted(text, at, room) {
         Ended::Refused(f) => Step::Refused(f),
         Ended::At { next, len, word: _ } => Step::Token {
-            kind: 2,
-            note: 0,
+            kind: QUOTED_KIND,
+            note: NO_NOTE,
             len: len,
             next: next,
         },
@@ -186,28 +216,28 @@ pub fn token_at(table: &[u8; 128], text: &[u8], at: usize, room: &mut [u8]) -> S
     ensures makes { λ r. ⌜ Makes r (tokenAt (getD (now (text .entry)) at 0) (drop (at + 1) (now (text .entry)))) (now (text .entry)) at (now (room .exit)) ⌝ }
 {
     let c = text[at];
-    if 4 <= classes::class_at(table, c) {
+    if LETTER_CLASS <= classes::class_at(table, c) {
         return term_at(table, text, at, room);
     }
     let sign = sign_kind(c);
-    if sign != 0 {
+    if sign != END_KIND {
         return Step::Token {
             kind: sign,
-            note: 0,
+            note: NO_NOTE,
             len: 0,
             next: at + 1,
         };
     }
     let double = double_kind(c, peek(text, at + 1));
-    if double != 0 {
+    if double != END_KIND {
         return Step::Token {
             kind: double,
-            note: 0,
+            note: NO_NOTE,
             len: 0,
             next: at + 2,
         };
     }
-    if c == 0x22 {
+    if c == b'"' {
         return quoted_at(text, at, room);
     }
     let bad = bad_start(c);

@@ -1,5 +1,13 @@
 // Measures of a stored query that was checked: its weight and its largest minimum_should_match.
 // Both go over the headers in reading order, into each part that holds a query and past each that holds none: one loop and no stack.
+use names::BOOLEAN_FRONT;
+use names::BOOLEAN_TAG;
+use names::BOOST_FRONT;
+use names::BOOST_TAG;
+use names::CONSTANT_SCORE_TAG;
+use names::HEADER;
+use names::MUST_TAG;
+use names::PHRASE_TAG;
 use numbers::big2;
 use parts::part::size_of;
 ghost use mathlib.Core.Path.{_≡_};
@@ -17,10 +25,16 @@ fn skip(t: &[u8]) -> usize
 {
     let tag = t[0];
     match tag {
-        3 => 8,
-        4 => 7,
-        5 => 3,
-        _ => { if tag >= 0x20 { 3 } else { 3 + size_of(t) } }
+        BOOLEAN_TAG => BOOLEAN_FRONT,
+        BOOST_TAG => BOOST_FRONT,
+        CONSTANT_SCORE_TAG => HEADER,
+        _ => {
+            if tag >= MUST_TAG {
+                HEADER
+            } else {
+                HEADER + size_of(t)
+            }
+        }
     }
 }
 
@@ -37,18 +51,25 @@ fn worth(tag: u8) -> usize
     ensures { λ r. ⌜ (r ≡ worthOf tag) × (r ≤ 3) ⌝ }
 {
     match tag {
-        2 => 2,
-        3 => 3,
+        PHRASE_TAG => 2,
+        BOOLEAN_TAG => 3,
         _ => 1,
     }
 }
+
+// Where the minimum of a Boolean stands: behind its header and its own.
+const MINIMUM_AT: usize = HEADER + HEADER;
 
 // The minimum of the Boolean at the front, and 0 where none is there.
 fn least(t: &[u8]) -> usize
     requires { ⌜ (1 ≤ length (now t)) × (tagOf (now t) ≡ booleanTag → 8 ≤ length (now t)) ⌝ }
     ensures { λ r. ⌜ (r ≡ leastOf (now (t .entry))) × (r < 65536) ⌝ }
 {
-    if t[0] == 3 { big2(&t[6..]) } else { 0 }
+    if t[0] == BOOLEAN_TAG {
+        big2(&t[MINIMUM_AT..])
+    } else {
+        0
+    }
 }
 
 fn larger(a: usize, b: usize) -> usize

@@ -1,5 +1,6 @@
 // The numbers of the rules, each once, under the name that `rules/specs/Numbers` and `rules/specs/Lexing` give it: limits, rooms,
-// operators, analyzers, tags, kinds of token, refusals. Whoever uses one is proved against the definition of that name.
+// operators, analyzers, tags, kinds of token, classes of bytes, patterns of floats, refusals; and how many bytes the stored form has for what it
+// holds. Whoever uses one is proved against the definition of that name.
 
 // ---- limits
 
@@ -14,6 +15,9 @@ pub const BRACKETS_MOST: usize = 24;
 pub const NUMERAL_MOST: usize = 40;
 
 pub const CHUNK_MOST: usize = 255;
+
+// the largest byte of a text
+pub const ASCII_MOST: u8 = 0x7f;
 
 pub const REWRITER_BYTES: usize = 32768;
 
@@ -44,6 +48,24 @@ pub const WHITESPACE_ANALYZER: u8 = 1;
 pub const SIMPLE_ANALYZER: u8 = 2;
 
 pub const KEYWORD_ANALYZER: u8 = 3;
+
+// ---- bytes of the stored form: a part's header is a tag and a length of two bytes
+
+pub const HEADER: usize = 3;
+
+pub const MINIMUM_BYTES: usize = 2;
+
+pub const POSITION_BYTES: usize = 4;
+
+pub const BOOST_BYTES: usize = 4;
+
+// the number of a bound and of a value
+pub const NUMBER_BYTES: usize = 8;
+
+// what stands before the query of a Boost, and before the clauses of a Boolean
+pub const BOOST_FRONT: usize = HEADER + BOOST_BYTES;
+
+pub const BOOLEAN_FRONT: usize = HEADER + HEADER + MINIMUM_BYTES;
 
 // ---- tags: queries
 
@@ -77,7 +99,9 @@ pub const MINIMUM_TAG: u8 = 0x13;
 
 pub const VALUE_TAG: u8 = 0x14;
 
-// ---- tags: clauses
+// ---- tags: clauses; where no clause stands there is none
+
+pub const NO_TAG: u8 = 0;
 
 pub const MUST_TAG: u8 = 0x20;
 
@@ -132,6 +156,32 @@ pub const CLOSE_KIND: u8 = 10;
 pub const CARET_KIND: u8 = 11;
 
 pub const TILDE_KIND: u8 = 12;
+
+// ---- classes of bytes, as flags of the lexer's table
+
+pub const SPACE_CLASS: u8 = 1;
+
+pub const END_CLASS: u8 = 2;
+
+pub const LETTER_CLASS: u8 = 4;
+
+// ---- patterns of floats with no sign, the sign, and the step from one exponent to the next: at 32 bits, then at 64
+
+pub const INFINITY: u32 = 0x7f80_0000;
+
+pub const THE_NAN: u32 = 0x7fc0_0000;
+
+pub const SIGN: u32 = 0x8000_0000;
+
+pub const EXPONENT_STEP: u32 = 0x80_0000;
+
+pub const WIDE_INFINITY: u64 = 0x7ff0_0000_0000_0000;
+
+pub const WIDE_NAN: u64 = 0x7ff8_0000_0000_0000;
+
+pub const WIDE_SIGN: u64 = 0x8000_0000_0000_0000;
+
+pub const WIDE_EXPONENT_STEP: u64 = 0x10_0000_0000_0000;
 
 // ---- refusals
 

@@ -2,12 +2,26 @@
 // The first half measures, so that what does not fit is refused before a byte is written. The room ends all zeros in every case.
 use crate::setup;
 use clauses::measure::measure_query;
+use clauses::scope::Scope;
 use clauses::write::write_query;
 use counted::Counted;
 use counted::is_alone;
 use counted::query_len;
-use fields::analyzer_among;
+use fields::analyzer_of;
 use lexer::Lexed;
+use names::BAD_SETUP;
+use names::END_KIND;
+use names::ENTRIES_MOST;
+use names::FIELD_MOST;
+use names::HEADER;
+use names::LONG_ANSWER;
+use names::LONG_TEXT;
+use names::MATCH_NONE_TAG;
+use names::NOT_ASCII;
+use names::PARSE_ROOM;
+use names::SHORT_ROOM;
+use names::TEXT_MOST;
+use names::UNEXPECTED_TOKEN;
 use parts::write::put_header;
 use row::kind_at;
 use stretches::clear;
@@ -32,40 +46,27 @@ pub enum Parsed {
 
 // The query of kept clauses, which has `len` bytes, goes to the output, if it fits; where none is kept, `len` is 0.
 fn write_whole<'a>(
-    operator: u8,
-    analyzer: u8,
-    field: &'a [u8],
-    n: usize,
     room: &'a [u8],
+    field: &'a [u8],
+    p: Scope,
     alone: bool,
     len: usize,
     out: &mut [u8],
 ) -> Parsed
-    requires { ⌜ (Rowed (now room) n) × (Fielded (now room) n (now field) 0) × (len ≤ 65000) × ((st : Setup) × (cs : Clauses) × (j : ℕ) × QueryToWrite (now room) n (now field) operator 0 analyzer 0 0 alone len st cs j) ⌝ }
-    ensures { λ r. ⌜ ((st : Setup) (cs : Clauses) (j : ℕ) → QueryToWrite (now (room .entry)) n (now (field .entry)) operator 0 analyzer 0 0 alone len st cs j → Delivers (got (orMatchNone (queryOf cs))) (now (out .entry)) r (now (out .exit))) ⌝ }
+    requires { ⌜ (Rowed (now room) (p .n)) × (Fielded (now room) (p .n) (now field) (p .from)) × (len ≤ 65000) × ((st : Setup) × (cs : Clauses) × (j : ℕ) × QueryToWrite (now room) (p .n) (now field) (p .operator) (p .from) (p .analyzer) (p .depth) 0 alone len st cs j) × (p .depth ≤ 24) ⌝ }
+    ensures { λ r. ⌜ ((st : Setup) (cs : Clauses) (j : ℕ) → QueryToWrite (now (room .entry)) (p .n) (now (field .entry)) (p .operator) (p .from) (p .analyzer) (p .depth) 0 alone len st cs j → Delivers (got (orMatchNone (queryOf cs))) (now (out .entry)) r (now (out .exit))) ⌝ }
 {
     if len == 0 {
-        if out.len() < 3 {
-            return Parsed::Refused(18);
+        if out.len() < HEADER {
+            return Parsed::Refused(LONG_ANSWER);
         }
-        put_header(out, 0, 0x07, 0);
-        return Parsed::Bytes(3);
+        put_header(out, 0, MATCH_NONE_TAG, 0);
+        return Parsed::Bytes(HEADER);
     }
     if out.len() < len {
-        return Parsed::Refused(18);
+        return Parsed::Refused(LONG_ANSWER);
     }
-    write_query(
-        room,
-        n,
-        field,
-        operator,
-        0,
-        analyzer,
-        0,
-        0,
-        alone,
-        &mut out[0..len],
-    );
+    write_query(room, field, p, 0, alone, &mut out[0..len]);
     Parsed::Bytes(len)
 }
 
@@ -81,7 +82,14 @@ fn parse_tokens<'a>(
     requires { ⌜ (Rowed (now room) n) × (length (now field) ≤ fieldMost) × ((st : Setup) × Tuned st operator (now room) n (now field) 0 analyzer × (st .field ≡ now field)) ⌝ }
     ensures { λ r. ⌜ ((st : Setup) → Tuned st operator (now (room .entry)) n (now (field .entry)) 0 analyzer → st .field ≡ now (field .entry) → Delivers (parseTokens st (tokensOf (now (room .entry)) n)) (now (out .entry)) r (now (out .exit))) ⌝ }
 {
-    match measure_query(room, n, field, operator, 0, analyzer, 0, 0) {
+    let p = Scope {
+        n: n,
+        from: 0,
+        depth: 0,
+        operator: operator,
+        analyzer: analyzer,
+    };
+    match measure_query(room, field, p, 0) {
         Counted::Fault(e) => Parsed::Refused(e),
         Counted::Clauses {
             count,
@@ -89,20 +97,11 @@ fn parse_tokens<'a>(
             bytes,
             next,
         } => {
-            if kind_at(room, n, next) == 0 {
+            if kind_at(room, n, next) == END_KIND {
                 let len = query_len(count, tag, bytes);
-                return write_whole(
-                    operator,
-                    analyzer,
-                    field,
-                    n,
-                    room,
-                    is_alone(count, tag),
-                    len,
-                    out,
-                );
+                return write_whole(room, field, p, is_alone(count, tag), len, out);
             }
-            Parsed::Refused(11)
+            Parsed::Refused(UNEXPECTED_TOKEN)
         }
     }
 }
@@ -120,27 +119,27 @@ fn parse_text(
     requires { ⌜ roomLeast ≤ length (now room) ⌝ }
     ensures { λ r. ⌜ Delivers (andThen (readSetup operator analyzer (now (field .entry)) (now (fields .entry))) (λ st. parse st (now (text .entry)))) (now (out .entry)) r (now (out .exit)) ⌝ }
 {
-    let mut names = [[0u8; 32]; 8];
-    let mut lengths = [0u8; 8];
-    let mut analyzers = [0u8; 8];
+    let mut names = [[0u8; FIELD_MOST]; ENTRIES_MOST];
+    let mut lengths = [0u8; ENTRIES_MOST];
+    let mut analyzers = [0u8; ENTRIES_MOST];
     let count = setup::read_entries(fields, &mut names, &mut lengths, &mut analyzers);
-    if 8 < count {
-        return Parsed::Refused(3);
+    if ENTRIES_MOST < count {
+        return Parsed::Refused(BAD_SETUP);
     }
     if !setup::is_plain(operator, analyzer, field) {
-        return Parsed::Refused(3);
+        return Parsed::Refused(BAD_SETUP);
     }
-    if 1024 < text.len() {
-        return Parsed::Refused(1);
+    if TEXT_MOST < text.len() {
+        return Parsed::Refused(LONG_TEXT);
     }
     if !is_text(text) {
-        return Parsed::Refused(2);
+        return Parsed::Refused(NOT_ASCII);
     }
     match lexer::lex(text, room) {
         Lexed::Refused(e) => Parsed::Refused(e),
         Lexed::Tokens(n) => {
             setup::note_fields(room, n, &names, &lengths, &analyzers, count, analyzer);
-            let a = analyzer_among(&names, &lengths, &analyzers, count, analyzer, field);
+            let a = analyzer_of(&names, &lengths, &analyzers, count, analyzer, field);
             parse_tokens(operator, a, field, n, room, out)
         }
     }
@@ -159,9 +158,9 @@ pub fn parse(
 ) -> Parsed
     ensures { λ r. ⌜ Parses operator analyzer (now (field .entry)) (now (fields .entry)) (now (text .entry)) (now (out .entry)) (now (room .entry)) (now (out .exit)) (now (room .exit)) r ⌝ }
 {
-    if room.len() < 5120 {
+    if room.len() < PARSE_ROOM {
         clear(room);
-        return Parsed::Refused(32);
+        return Parsed::Refused(SHORT_ROOM);
     }
     let p = parse_text(operator, analyzer, field, fields, text, out, room);
     clear(room);

@@ -1,6 +1,14 @@
 // The setup of a call: its entries are tested and read into arrays, and the analyzer of each field that the text names is noted
 // at the name's token, so that the parser hands down a number.
-use fields::analyzer_among;
+use fields::analyzer_of;
+use names::AND_OPERATOR;
+use names::ASCII_MOST;
+use names::COLON_KIND;
+use names::ENTRIES_MOST;
+use names::FIELD_MOST;
+use names::KEYWORD_ANALYZER;
+use names::TERM_KIND;
+use names::WHITESPACE_ANALYZER;
 use row::kind_at;
 use row::put_note;
 use row::text_at;
@@ -18,20 +26,29 @@ ghost use Rattle.fields.specs.Fields.{arrayEntries};
 ghost use Rattle.clauses.specs.Measured.{Rowed};
 ghost use Rattle.parser.specs.Noted.{RowPut, Entered, Noted};
 
+// The head of an entry: its analyzer and the length of its name.
+const HEAD: usize = 2;
+
+// More entries than there may be: what stands for entries that break a rule.
+const BROKEN: usize = ENTRIES_MOST + 1;
+
 fn is_analyzer(a: u8) -> bool
     ensures { λ r. ⌜ r ≡ isAnalyzer a ⌝ }
 {
-    if a < 1 {
+    if a < WHITESPACE_ANALYZER {
         return false;
     }
-    a <= 3
+    a <= KEYWORD_ANALYZER
 }
 
-// The head of an entry keeps the rules: an analyzer, and a name of at most 32 bytes.
+// FIELD_MOST as a byte.
+const NAME_MOST: u8 = FIELD_MOST as u8;
+
+// The head of an entry keeps the rules: an analyzer, and a name that is short enough.
 fn is_head(analyzer: u8, len: u8) -> bool
     ensures { λ r. ⌜ r ≡ (leb len fieldMost && isAnalyzer analyzer) ⌝ }
 {
-    if 32 < len {
+    if NAME_MOST < len {
         return false;
     }
     is_analyzer(analyzer)
@@ -41,7 +58,7 @@ fn is_head(analyzer: u8, len: u8) -> bool
 pub fn is_plain(operator: u8, analyzer: u8, field: &[u8]) -> bool
     ensures { λ r. ⌜ r ≡ (leb operator andOperator && (isAnalyzer analyzer && isField (now (field .entry)))) ⌝ }
 {
-    if 1 < operator {
+    if AND_OPERATOR < operator {
         return false;
     }
     if !is_analyzer(analyzer) {
@@ -51,14 +68,14 @@ pub fn is_plain(operator: u8, analyzer: u8, field: &[u8]) -> bool
 }
 
 // Lays a name in the k-th row; false where a byte of it is not ASCII. One loop for both: a call to copy four bytes takes longer.
-fn put_row(names: &mut [[u8; 32]; 8], k: usize, s: &[u8]) -> bool
+fn put_row(names: &mut [[u8; FIELD_MOST]; ENTRIES_MOST], k: usize, s: &[u8]) -> bool
     requires { ⌜ (k < length (now names)) × (length (now names) ≡ 8) × (length (getD (now names) k []) ≡ 32) × (length (now s) ≤ 32) ⌝ }
     ensures { λ r. ⌜ RowPut (now (names .entry)) k (now (s .entry)) r (now (names .exit)) ⌝ }
 {
     let mut i = 0;
     while i < s.len() {
         let c = s[i];
-        if 127 < c {
+        if ASCII_MOST < c {
             return false;
         }
         names[k][i] = c;
@@ -67,12 +84,12 @@ fn put_row(names: &mut [[u8; 32]; 8], k: usize, s: &[u8]) -> bool
     true
 }
 
-// Reads the entries into the arrays, and returns how many there are; 9 where they break a rule.
+// Reads the entries into the arrays, and returns how many there are; BROKEN where they break a rule.
 pub fn read_entries(
     fields: &[u8],
-    names: &mut [[u8; 32]; 8],
-    lengths: &mut [u8; 8],
-    analyzers: &mut [u8; 8],
+    names: &mut [[u8; FIELD_MOST]; ENTRIES_MOST],
+    lengths: &mut [u8; ENTRIES_MOST],
+    analyzers: &mut [u8; ENTRIES_MOST],
 ) -> usize
     requires { ⌜ (length (now names) ≡ 8) × (length (now lengths) ≡ 8) × (length (now analyzers) ≡ 8) × ((k : ℕ) → k < 8 → length (getD (now names) k []) ≡ 32) ⌝ }
     ensures { λ r. ⌜ Entered (now (fields .entry)) (now (names .exit)) (now (lengths .exit)) (now (analyzers .exit)) r ⌝ }
@@ -80,25 +97,25 @@ pub fn read_entries(
     let mut at = 0;
     let mut count: usize = 0;
     while at < fields.len() {
-        if fields.len() - at < 2 {
-            return 9;
+        if fields.len() - at < HEAD {
+            return BROKEN;
         }
         let analyzer = fields[at];
         let len = fields[at + 1];
-        let start = at + 2;
+        let start = at + HEAD;
         if fields.len() - start < len as usize {
-            return 9;
+            return BROKEN;
         }
-        if count == 8 {
-            return 9;
+        if count == ENTRIES_MOST {
+            return BROKEN;
         }
         let end = start + len as usize;
         let name = &fields[start..end];
         if !is_head(analyzer, len) {
-            return 9;
+            return BROKEN;
         }
         if !put_row(names, count, name) {
-            return 9;
+            return BROKEN;
         }
         lengths[count] = len;
         analyzers[count] = analyzer;
@@ -112,9 +129,9 @@ pub fn read_entries(
 pub fn note_fields(
     room: &mut [u8],
     n: usize,
-    names: &[[u8; 32]; 8],
-    lengths: &[u8; 8],
-    analyzers: &[u8; 8],
+    names: &[[u8; FIELD_MOST]; ENTRIES_MOST],
+    lengths: &[u8; ENTRIES_MOST],
+    analyzers: &[u8; ENTRIES_MOST],
     count: usize,
     default: u8,
 )
@@ -125,13 +142,13 @@ pub fn note_fields(
     while k < n {
         let i = k - 1;
         k += 1;
-        if kind_at(room, n, i + 1) != 3 {
+        if kind_at(room, n, i + 1) != COLON_KIND {
             continue;
         }
-        if kind_at(room, n, i) != 1 {
+        if kind_at(room, n, i) != TERM_KIND {
             continue;
         }
-        let a = analyzer_among(names, lengths, analyzers, count, default, text_at(room, i));
+        let a = analyzer_of(names, lengths, analyzers, count, default, text_at(room, i));
         put_note(room, i, a);
     }
 }

@@ -1,5 +1,9 @@
 // A part at the front of a slice: a tag, a length of two bytes and a body. What holds of it is proved once, over the tag.
+use names::FIELD_TAG;
+use names::HEADER;
 use numbers::wide;
+use stretches::MIDDLE_LEAST;
+use stretches::MIDDLE_MOST;
 use stretches::is_field;
 use stretches::is_middle_text;
 ghost use mathlib.Core.Path.{_≡_};
@@ -25,14 +29,14 @@ pub fn size_of(s: &[u8]) -> usize
     wide(s[1]) * 256 + wide(s[2])
 }
 
-// Whether three bytes are there, and the length that they state.
+// Whether a header is there, and the length that it states.
 pub fn whole(s: &[u8]) -> bool
     ensures { λ r. ⌜ r ≡ wholeOf (now (s .entry)) ⌝ }
 {
-    if s.len() < 3 {
+    if s.len() < HEADER {
         return false;
     }
-    3 + size_of(s) <= s.len()
+    HEADER + size_of(s) <= s.len()
 }
 
 pub fn is_part(s: &[u8], tag: u8) -> bool
@@ -72,23 +76,23 @@ pub fn body(s: &[u8]) -> &[u8]
     requires { ⌜ wholeOf (now s) ≡ true ⌝ }
     ensures { λ r. ⌜ now r ≡ bodyOf (now (s .entry)) ⌝ }
 {
-    let e = 3 + size_of(s);
-    &s[3..e]
+    let e = HEADER + size_of(s);
+    &s[HEADER..e]
 }
 
 pub fn rest(s: &[u8]) -> &[u8]
     requires { ⌜ wholeOf (now s) ≡ true ⌝ }
     ensures { λ r. ⌜ now r ≡ restOf (now (s .entry)) ⌝ }
 {
-    let e = 3 + size_of(s);
+    let e = HEADER + size_of(s);
     &s[e..]
 }
 
-// Whether a part 10 with a field in it stands at the front.
+// Whether a part with a field in it stands at the front.
 pub fn is_field_part(s: &[u8]) -> bool
     ensures { λ r. ⌜ r ≡ isFieldPart (now (s .entry)) ⌝ }
 {
-    if !is_part(s, 0x10) {
+    if !is_part(s, FIELD_TAG) {
         return false;
     }
     is_field(body(s))
@@ -99,13 +103,13 @@ pub fn is_field_part(s: &[u8]) -> bool
 pub fn is_plain(b: &[u8], tag: u8, least: usize) -> bool
     ensures { λ r. ⌜ (r ≡ true → Plain tag least (now (b .entry))) ⌝ }
 {
-    if b.len() < 8 {
+    if b.len() < MIDDLE_LEAST {
         return false;
     }
-    if b.len() > 32 {
+    if b.len() > MIDDLE_MOST {
         return false;
     }
-    if !is_part(b, 0x10) {
+    if !is_part(b, FIELD_TAG) {
         return false;
     }
     let t = rest(b);

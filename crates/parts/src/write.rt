@@ -1,5 +1,8 @@
 // Parts written into an output. Each writer lays its bytes at a place and gives the place behind them; all other bytes stay as they were.
 // Lengths are known before the first byte, so a caller tests once that all of it fits, and no writer refuses.
+use names::HEADER;
+use names::MINIMUM_BYTES;
+use names::MINIMUM_TAG;
 use numbers::put_big2;
 use stretches::copy;
 ghost use Prim.Native.Nat.{_+_, _≤_, _<_};
@@ -16,7 +19,7 @@ pub fn put_header(out: &mut [u8], at: usize, tag: u8, n: usize) -> usize
     out[at] = tag;
     out[at + 1] = (n / 256) as u8;
     out[at + 2] = (n % 256) as u8;
-    at + 3
+    at + HEADER
 }
 
 pub fn put_part(out: &mut [u8], at: usize, tag: u8, s: &[u8]) -> usize
@@ -31,6 +34,6 @@ pub fn put_minimum(out: &mut [u8], at: usize, m: usize) -> usize
     requires { ⌜ (at + 5 ≤ length (now out)) × (m < 65536) ⌝ }
     ensures { λ r. ⌜ Put (now (out .entry)) at (part minimumTag (big 2 m)) r (now (out .exit)) ⌝ }
 {
-    let b = put_header(out, at, 0x13, 2);
+    let b = put_header(out, at, MINIMUM_TAG, MINIMUM_BYTES);
     put_big2(out, b, m)
 }

@@ -6,6 +6,9 @@ ghost use Rattle.rules.specs.Numerals.{numeralBits};
 ghost use Rattle.boost.specs.Numeral.{answerOf};
 ghost use Rattle.probe.specs.Packed.{packed};
 
+// What one counts in the upper 32 bits.
+const UPPER: u64 = 0x1_0000_0000;
+
 // A refusal's number in the upper 32 bits, or the float's bits in the lower.
 #[no_mangle]
 pub extern "C" fn probe_numeral(text: &[u8]) -> u64
@@ -13,7 +16,7 @@ pub extern "C" fn probe_numeral(text: &[u8]) -> u64
 {
     let a = boost::numeral::numeral(text);
     match a {
-        boost::numeral::Answer::Refused(n) => (n as u64) * 0x1_0000_0000,
+        boost::numeral::Answer::Refused(n) => (n as u64) * UPPER,
         boost::numeral::Answer::Bits(b) => b as u64,
     }
 }

@@ -6,6 +6,9 @@ ghost use mathlib.Core.Path.{_≡_};
 ghost use Rattle.rules.specs.Answers.{selectLeft};
 ghost use Rattle.probe_selection.specs.Probe.{packed, SelectsRows};
 
+// What one counts in the upper half.
+const UPPER: u64 = 0x1_0000_0000;
+
 // The refusal's number in the upper half, and the count in the lower.
 #[no_mangle]
 pub extern "C" fn probe_select_bytes(
@@ -19,7 +22,7 @@ pub extern "C" fn probe_select_bytes(
     ensures room { λ r. ⌜ now (room .exit) ≡ selectLeft (now (query .entry)) (now (list .entry)) (now (rows .entry)) (now (room .entry)) .room ⌝ }
 {
     match select_bytes(query, list, rows, room) {
-        Selected::Refused(n) => n as u64 * 4294967296,
+        Selected::Refused(n) => n as u64 * UPPER,
         Selected::Chosen(n) => n as u64,
     }
 }
@@ -29,7 +32,7 @@ pub extern "C" fn probe_select_rows(query: &[u8], list: &[u8], rows: &mut [u32])
     ensures { λ r. ⌜ SelectsRows (now (query .entry)) (now (list .entry)) (now (rows .entry)) (now (rows .exit)) r ⌝ }
 {
     match select(query, list, rows) {
-        Selected::Refused(n) => n as u64 * 4294967296,
+        Selected::Refused(n) => n as u64 * UPPER,
         Selected::Chosen(n) => n as u64,
     }
 }

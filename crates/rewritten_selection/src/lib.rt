@@ -1,11 +1,15 @@
 // Selection with what the rewriter makes of a query, in one call: what it lists is said of the query as written. The rewritten query is held in
 // a room of its own, since two parts of one slice cannot be lent for writing at the same time.
+use names::SHORT_ROOM;
 use rewriter::rounds::rewrite;
 use selection::select::Selected;
 use selection::select::select;
 use stretches::clear;
 ghost use mathlib.Core.Path.{_≡_};
 ghost use Rattle.rewritten_selection.specs.Choice.{left, choiceLeft, Demanded};
+
+// What a rewritten query can take, as `specs/Choice` says.
+pub const HELD_ROOM: usize = 38229;
 
 pub struct Choice {
     pub refusal: u8,
@@ -23,8 +27,8 @@ fn refuse(n: u8) -> Choice
     }
 }
 
-// Refuses as the two calls do, one after the other: 32 for either room, then what the rewriter refuses in the query, what selection refuses in the list,
-// and 18 where the rows are too short. A refusal leaves the rows; both rooms end all zeros.
+// Refuses as the two calls do, one after the other: SHORT_ROOM for either room, then what the rewriter refuses in the query, what selection refuses in the list,
+// and LONG_ANSWER where the rows are too short. A refusal leaves the rows; both rooms end all zeros.
 pub fn rewrite_and_select(
     query: &[u8],
     list: &[u8],
@@ -37,10 +41,10 @@ pub fn rewrite_and_select(
     ensures demand { λ r. ⌜ Demanded (now (query .entry)) (now (list .entry)) (now (rows .entry)) (now (held .entry)) (now (room .entry))
         (r .refusal) (r .count) (r .rounds) (now (rows .exit)) ⌝ }
 {
-    if held.len() < 38229 {
+    if held.len() < HELD_ROOM {
         clear(held);
         clear(room);
-        return refuse(32);
+        return refuse(SHORT_ROOM);
     }
     let a = rewrite(query, held, room);
     if a.refusal != 0 {

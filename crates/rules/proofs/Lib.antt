@@ -1,5 +1,6 @@
 pub mod Bools
 pub mod Chains
+pub mod Answers
 pub mod stored
 pub mod choosing
 pub mod rewriting

@@ -2,11 +2,9 @@
 use mathlib.Core.Path.{_≡_, refl, sym, ap, subst, _∙_}
 use Prim.Native.Nat.{ℕ, _<_}
 use mathlib.Core.List.{List}
-use mathlib.Core.Bool.{Bool, true, false}
 use native.Mathlib.Omega.{arith}
 use lib.ListN.{length}
-use lib.Dec.{leb}
-use Rattle.rules.specs.Numbers.{Read, got, refused, need, onRead, andThen, longAnswer, shortRoom, rewriteRoom}
+use Rattle.rules.specs.Numbers.{Read, got, refused, onRead, andThen, rewriteRoom}
 use Rattle.rules.specs.Bytes.{ascii}
 use Rattle.rules.specs.Query.{Query}
 use Rattle.rules.specs.Stored.{encode}
@@ -15,9 +13,10 @@ use Rattle.rules.specs.Setup.{Setup}
 use Rattle.rules.specs.Parsing.{parse}
 use Rattle.rules.specs.Rewriting.{Rewritten, rewritten, rewrite}
 use Rattle.rules.specs.Show.{showRewritten, showParsed, showSetup, firstLine, secondLine, orRefusal, showText}
-use Rattle.rules.specs.Answers.{Answer, Left, leave, call}
-use Rattle.rules.proofs.stored.Refusals.{number-some}
-use Rattle.show.specs.Answer.{textReply, showLeft, leftOf}
+use Rattle.rules.specs.Answers.{Left}
+use Rattle.rules.proofs.Answers.{Telling, call-telling, ofAnswer, refusal-told, same-answer}
+use Rattle.rules.proofs.stored.Refusals.{got-same}
+use Rattle.show.specs.Answer.{textReply, showLeft, answerOf, leftOf}
 use Rattle.show.specs.declared.call.Shown.{Shown}
 use Rattle.show.specs.declared.call.Shown.the-variants.{Refused, Bytes}
 
@@ -45,33 +44,17 @@ text-some s = by (showSetup (firstLine s))
     by (got st) = then (parse st (secondLine s))
     by (refused x) = omega arith
 
-abbrev Telling : Answer → Type 0
-Telling a = a .refusal ≡ 0 → 0 < a .written
-
-left-telling : (s out room : List ℕ) → Telling (showLeft s out room .answer)
-unfolding showLeft call
-left-telling s out room = by (leb rewriteRoom (length room)) (leb (length (showText s)) (length out))
-  where
-    by : (b c : Bool) → Telling (leave (need b shortRoom (need c longAnswer (got (textReply (showText s))))) out room .answer)
-    by true true e = text-some s
-    by true false e = absurd (number-some longAnswer e)
-    by false c e = absurd (number-some shortRoom e)
-
-same-answer : (p q : Shown) (out room out′ room′ : List ℕ) → leftOf p out room ≡ leftOf q out′ room′ → Telling (leftOf p out room .answer) → p ≡ q
-same-answer (Refused n) (Refused m) out room out′ room′ e t = ap Refused (ap (λ (x : Left). x .answer .refusal) e)
-same-answer (Bytes n) (Bytes m) out room out′ room′ e t = ap Bytes (ap (λ (x : Left). x .answer .written) e)
-same-answer (Refused n) (Bytes m) out room out′ room′ e t = absurd (let z = t (ap (λ (x : Left). x .answer .refusal) e) in omega arith)
-same-answer (Bytes n) (Refused m) out room out′ room′ e t = absurd (let z = t refl in omega (arith, ap (λ (x : Left). x .answer .written) e))
-
-leaves : (p : Shown) (out room : List ℕ) → (leftOf p out room .output ≡ out) × (leftOf p out room .room ≡ room)
-leaves (Refused n) out room = (refl, refl)
-leaves (Bytes n) out room = (refl, refl)
+told : (p : Shown) → Telling (answerOf p) → ofAnswer Refused Bytes (answerOf p) ≡ p
+told (Refused n) t = refusal-told Refused Bytes n t
+told (Bytes n) t = refl
 
 module _ (s out room : List ℕ) {out′ room′ out″ room″ : List ℕ} {p q : Shown} where
   pub no-second-show : leftOf p out′ room′ ≡ showLeft s out room → leftOf q out″ room″ ≡ showLeft s out room → (p ≡ q) × (out′ ≡ out″) × (room′ ≡ room″)
+  unfolding showLeft
   no-second-show P Q =
-      let e = P ∙ sym Q in (
-        same-answer p q out′ room′ out″ room″ e (subst Telling (sym (ap (λ (x : Left). x .answer) P)) (left-telling s out room)),
-        sym (leaves p out′ room′ .0) ∙ ap (λ (x : Left). x .output) e ∙ leaves q out″ room″ .0,
-        sym (leaves p out′ room′ .1) ∙ ap (λ (x : Left). x .room) e ∙ leaves q out″ room″ .1,
+      let e = P ∙ sym Q in
+      let t = call-telling rewriteRoom (got (textReply (showText s))) out room (λ a h. subst (λ b. 0 < length (b .bytes)) (got-same h) (text-some s)) in (
+        same-answer answerOf (ofAnswer Refused Bytes) told p q (ap (λ (x : Left). x .answer) e) (subst Telling (sym (ap (λ (x : Left). x .answer) P)) t),
+        ap (λ (x : Left). x .output) e,
+        ap (λ (x : Left). x .room) e,
       )

@@ -10,7 +10,7 @@ use Rattle.rules.specs.Bytes.{ascii}
 use Rattle.rules.specs.Checked.{Stored}
 use Rattle.rules.specs.Rewriting.{rewritten}
 use Rattle.rules.specs.Show.{decimal, showRewritten, showText}
-use Rattle.rules.specs.Answers.{Left, Reply, call}
+use Rattle.rules.specs.Answers.{Answer, Left, Reply, call}
 use Rattle.show.specs.Node.{queryIn}
 use Rattle.show.specs.declared.call.Shown.{Shown}
 use Rattle.show.specs.declared.call.Shown.the-variants.{Refused, Bytes}
@@ -49,9 +49,12 @@ textReply t = record { bytes = t; count = 0; rounds = 0 }
 unfoldable pub showLeft : List ℕ → List ℕ → List ℕ → Left
 showLeft s output room = call rewriteRoom (got (textReply (showText s))) output room
 
+abbrev pub answerOf : Shown → Answer
+answerOf (Refused r) = record { refusal = r; written = 0; count = 0; rounds = 0 }
+answerOf (Bytes n) = record { refusal = 0; written = n; count = 0; rounds = 0 }
+
 abbrev pub leftOf : Shown → List ℕ → List ℕ → Left
-leftOf (Refused r) output room = record { answer = record { refusal = r; written = 0; count = 0; rounds = 0 }; output = output; room = room }
-leftOf (Bytes n) output room = record { answer = record { refusal = 0; written = n; count = 0; rounds = 0 }; output = output; room = room }
+leftOf p output room = record { answer = answerOf p; output = output; room = room }
 
 -- what becomes of a text and an output: it fits, or 18 and the output stays as it was
 unfoldable pub delivered : List ℕ → List ℕ → List ℕ → Left

@@ -3,6 +3,9 @@ use crate::lines::parse_lines;
 use crate::put::put;
 use crate::put::put_decimal;
 use crate::query::show_query;
+use names::LONG_ANSWER;
+use names::LONG_QUERY;
+use names::NO_TAG;
 use parser::parse::Parsed;
 use rewriter::rounds::rewrite;
 ghost use mathlib.Core.Path.{_≡_};
@@ -25,9 +28,9 @@ pub struct Made {
 fn refused(e: u8) -> Made
     ensures { λ r. ⌜ (r .refusal ≡ shownRefusal e) × (r .written ≡ 0) × (r .rewritten ≡ 0) × (r .rounds ≡ 0) ⌝ }
 {
-    if e == 18 {
+    if e == LONG_ANSWER {
         return Made {
-            refusal: 19,
+            refusal: LONG_QUERY,
             written: 0,
             rewritten: 0,
             rounds: 0,
@@ -84,9 +87,9 @@ pub fn put_answer(
         return put_refusal(out, at, refusal);
     }
     let p = put(out, at, b"written\n");
-    let q = show_query(out, p, 0, 0, written);
+    let q = show_query(out, p, 0, NO_TAG, written);
     let r = put(out, q, b"rewritten ");
     let s = put_decimal(out, r, rounds);
     let t = put(out, s, b"\n");
-    show_query(out, t, 0, 0, rewritten)
+    show_query(out, t, 0, NO_TAG, rewritten)
 }

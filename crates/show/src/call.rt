@@ -1,6 +1,11 @@
 // The public call: an input of two lines becomes the show text. What does not fit is refused before a byte is written.
 use crate::answer::make;
 use crate::answer::put_answer;
+use names::LONG_ANSWER;
+use names::REWRITE_ROOM;
+use names::REWRITER_BYTES;
+use names::SELECTION_BYTES;
+use names::SHORT_ROOM;
 use stretches::clear;
 ghost use mathlib.Core.Path.{_≡_};
 ghost use Prim.Native.Nat.{_≤_};
@@ -22,7 +27,7 @@ fn deliver(out: &mut [u8], refusal: u8, written: &[u8], rewritten: &[u8], rounds
 {
     let n = put_answer(&mut out[0..0], 0, refusal, written, rewritten, rounds);
     if out.len() < n {
-        return Shown::Refused(18);
+        return Shown::Refused(LONG_ANSWER);
     }
     put_answer(out, 0, refusal, written, rewritten, rounds);
     Shown::Bytes(n)
@@ -44,17 +49,17 @@ fn show_with(
     deliver(out, m.refusal, &first[0..w], &second[0..v], m.rounds)
 }
 
-// The show text of the input goes to the front of the output: 32 for a short room, 18 where it is longer than the output. Refusals of
+// The show text of the input goes to the front of the output: SHORT_ROOM for a short room, LONG_ANSWER where it is longer than the output. Refusals of
 // parsing and rewriting are texts. The room ends all zeros. The two stored queries stand on the stack, since one room cannot be lent
 // for writing in two parts.
 pub fn show(input: &[u8], out: &mut [u8], room: &mut [u8]) -> Shown
     ensures { λ r. ⌜ leftOf r (now (out .exit)) (now (room .exit)) ≡ showLeft (now (input .entry)) (now (out .entry)) (now (room .entry)) ⌝ }
 {
-    if room.len() < 114687 {
+    if room.len() < REWRITE_ROOM {
         clear(room);
-        return Shown::Refused(32);
+        return Shown::Refused(SHORT_ROOM);
     }
-    let mut first = [0u8; 32768];
-    let mut second = [0u8; 65535];
+    let mut first = [0u8; REWRITER_BYTES];
+    let mut second = [0u8; SELECTION_BYTES];
     show_with(input, out, &mut first, &mut second, room)
 }

@@ -1,4 +1,7 @@
 // The two lines of an input: operator and default field, and the text. They are parsed here.
+use names::AND_OPERATOR;
+use names::OR_OPERATOR;
+use names::SIMPLE_ANALYZER;
 use parser::parse::Parsed;
 use parser::parse::parse;
 use stretches::same;
@@ -42,39 +45,42 @@ fn behind(s: &[u8], b: u8) -> &[u8]
     &s[e..]
 }
 
-// The operator's number; 2, which no setup has, for any other word.
+// What stands for an operator that is none: no setup has it.
+const NO_OPERATOR: u8 = 2;
+
+// The operator's number; NO_OPERATOR for any other word.
 fn operator(word: &[u8]) -> u8
     ensures { λ r. ⌜ r ≡ operatorNumber (now (word .entry)) ⌝ }
 {
     if same(word, b"or") {
-        return 0;
+        return OR_OPERATOR;
     }
     if same(word, b"and") {
-        return 1;
+        return AND_OPERATOR;
     }
-    2
+    NO_OPERATOR
 }
 
 // The same for a line, in which a space has to follow the word.
 fn line_operator(line: &[u8]) -> u8
     ensures { λ r. ⌜ r ≡ lineOperator (now (line .entry)) ⌝ }
 {
-    let word = before(line, 32);
+    let word = before(line, b' ');
     if word.len() < line.len() {
         return operator(word);
     }
-    2
+    NO_OPERATOR
 }
 
 pub fn parse_lines(input: &[u8], out: &mut [u8], room: &mut [u8]) -> Parsed
     ensures { λ r. ⌜ leftOf r (now (out .exit)) (now (room .exit)) ≡ call parseRoom (onRead storedReply (writtenIn (now (input .entry)))) (now (out .entry)) (now (room .entry)) ⌝ }
 {
-    let line = before(input, 10);
-    let text = before(behind(input, 10), 10);
+    let line = before(input, b'\n');
+    let text = before(behind(input, b'\n'), b'\n');
     parse(
         line_operator(line),
-        2,
-        behind(line, 32),
+        SIMPLE_ANALYZER,
+        behind(line, b' '),
         &line[0..0],
         text,
         out,

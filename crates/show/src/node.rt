@@ -4,6 +4,18 @@ use crate::put::put_decimal;
 use crate::text::put_field;
 use crate::text::put_hex;
 use crate::text::put_shown;
+use names::BOOLEAN_TAG;
+use names::BOOST_BYTES;
+use names::BOOST_TAG;
+use names::CONSTANT_SCORE_TAG;
+use names::INCLUDED_TAG;
+use names::MATCH_ALL_TAG;
+use names::MATCH_NONE_TAG;
+use names::OPEN_TAG;
+use names::PHRASE_TAG;
+use names::POSITION_BYTES;
+use names::TERM_TAG;
+use names::WHOLE_RANGE_TAG;
 use numbers::big2;
 use numbers::big4;
 use parts::part::body;
@@ -39,7 +51,7 @@ fn put_word(out: &mut [u8], at: usize, ws: &[u8]) -> usize
     let p = put(out, at, b" ");
     let q = put_decimal(out, p, big4(w) as usize);
     let r = put(out, q, b":");
-    put_shown(out, r, &w[4..])
+    put_shown(out, r, &w[POSITION_BYTES..])
 }
 
 fn put_words(out: &mut [u8], at: usize, ws: &[u8]) -> usize
@@ -78,7 +90,7 @@ fn put_boost(out: &mut [u8], at: usize, b: &[u8]) -> usize
     ensures { λ r. ⌜ Lays (now (out .entry)) at (boostText (now (b .entry))) r (now (out .exit)) ⌝ }
 {
     let p = put(out, at, b"boost ");
-    put_hex(out, p, &b[0..4])
+    put_hex(out, p, &b[0..BOOST_BYTES])
 }
 
 fn put_bound(out: &mut [u8], at: usize, s: &[u8]) -> usize
@@ -86,10 +98,10 @@ fn put_bound(out: &mut [u8], at: usize, s: &[u8]) -> usize
     ensures { λ r. ⌜ Lays (now (out .entry)) at (shownBound (boundOf (now (s .entry)))) r (now (out .exit)) ⌝ }
 {
     let tag = tag_of(s);
-    if tag == 0x30 {
+    if tag == OPEN_TAG {
         return put(out, at, b" open");
     }
-    if tag == 0x31 {
+    if tag == INCLUDED_TAG {
         let p = put(out, at, b" included:");
         return put_hex(out, p, body(s));
     }
@@ -100,7 +112,7 @@ fn put_bound(out: &mut [u8], at: usize, s: &[u8]) -> usize
 fn put_range_name(out: &mut [u8], at: usize, tag: u8) -> usize
     ensures { λ r. ⌜ Lays (now (out .entry)) at (rangeName tag) r (now (out .exit)) ⌝ }
 {
-    if tag == 8 {
+    if tag == WHOLE_RANGE_TAG {
         return put(out, at, b"wholerange ");
     }
     put(out, at, b"floatrange ")
@@ -124,13 +136,13 @@ pub fn put_node(out: &mut [u8], at: usize, s: &[u8]) -> usize
     let b = body(s);
     let tag = tag_of(s);
     match tag {
-        1 => put_term(out, at, b),
-        2 => put_phrase(out, at, b),
-        3 => put_boolean(out, at, b),
-        4 => put_boost(out, at, b),
-        5 => put(out, at, b"constantscore"),
-        6 => put(out, at, b"matchall"),
-        7 => put(out, at, b"matchnone"),
+        TERM_TAG => put_term(out, at, b),
+        PHRASE_TAG => put_phrase(out, at, b),
+        BOOLEAN_TAG => put_boolean(out, at, b),
+        BOOST_TAG => put_boost(out, at, b),
+        CONSTANT_SCORE_TAG => put(out, at, b"constantscore"),
+        MATCH_ALL_TAG => put(out, at, b"matchall"),
+        MATCH_NONE_TAG => put(out, at, b"matchnone"),
         _ => put_range(out, at, tag, b),
     }
 }

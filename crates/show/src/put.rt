@@ -7,13 +7,15 @@ ghost use Rattle.rules.specs.Show.{digit, decimal};
 ghost use Rattle.show.specs.Lays.{Lays};
 
 // Places end at 2^62, so that no sum overflows: no text is as long.
+const PLACES: usize = 0x4000_0000_0000_0000;
+
 pub fn put(out: &mut [u8], at: usize, s: &[u8]) -> usize
     ensures { λ r. ⌜ Lays (now (out .entry)) at (now (s .entry)) r (now (out .exit)) ⌝ }
 {
-    if 0x4000_0000_0000_0000 < at {
+    if PLACES < at {
         return at;
     }
-    if 0x4000_0000_0000_0000 - at < s.len() {
+    if PLACES - at < s.len() {
         return at;
     }
     let e = at + s.len();
@@ -26,7 +28,7 @@ pub fn put(out: &mut [u8], at: usize, s: &[u8]) -> usize
 pub fn put_byte(out: &mut [u8], at: usize, b: u8) -> usize
     ensures { λ r. ⌜ Lays (now (out .entry)) at (b ∷ []) r (now (out .exit)) ⌝ }
 {
-    if 0x4000_0000_0000_0000 <= at {
+    if PLACES <= at {
         return at;
     }
     if out.len() <= at {
@@ -36,12 +38,15 @@ pub fn put_byte(out: &mut [u8], at: usize, b: u8) -> usize
     at + 1
 }
 
+// The letter `a` stands for ten.
+const LETTERS: u8 = b'a' - 10;
+
 // A number below 16 as a digit.
 pub fn digit(n: u8) -> u8
     requires { ⌜ n ≤ 15 ⌝ }
     ensures { λ r. ⌜ r ≡ digit n ⌝ }
 {
-    if n < 10 { 48 + n } else { 87 + n }
+    if n < 10 { b'0' + n } else { LETTERS + n }
 }
 
 pub fn put_decimal(out: &mut [u8], at: usize, n: usize) -> usize

@@ -2,6 +2,15 @@
 use crate::node::put_node;
 use crate::put::put;
 use crate::put::put_decimal;
+use names::BOOLEAN_TAG;
+use names::BOOST_BYTES;
+use names::BOOST_TAG;
+use names::CONSTANT_SCORE_TAG;
+use names::FILTER_TAG;
+use names::MUST_NOT_TAG;
+use names::MUST_TAG;
+use names::NO_TAG;
+use names::SHOULD_TAG;
 use parts::part::body;
 use parts::part::rest;
 use parts::part::tag_of;
@@ -14,10 +23,10 @@ fn put_kind(out: &mut [u8], at: usize, kind: u8) -> usize
     ensures { λ r. ⌜ Lays (now (out .entry)) at (kindText kind) r (now (out .exit)) ⌝ }
 {
     match kind {
-        0x20 => put(out, at, b"must"),
-        0x21 => put(out, at, b"should"),
-        0x22 => put(out, at, b"mustnot"),
-        0x23 => put(out, at, b"filter"),
+        MUST_TAG => put(out, at, b"must"),
+        SHOULD_TAG => put(out, at, b"should"),
+        MUST_NOT_TAG => put(out, at, b"mustnot"),
+        FILTER_TAG => put(out, at, b"filter"),
         _ => put(out, at, b"-"),
     }
 }
@@ -48,7 +57,7 @@ fn show_clauses(out: &mut [u8], at: usize, d: usize, cs: &[u8]) -> usize
     a
 }
 
-// The kind is a clause's tag, or 0.
+// The kind is a clause's tag, or NO_TAG.
 pub fn show_query(out: &mut [u8], at: usize, d: usize, kind: u8, s: &[u8]) -> usize
     requires { ⌜ ToShow d (now s) ⌝ }
     ensures { λ r. ⌜ Lays (now (out .entry)) at (show d (kindText kind) (queryIn (now (s .entry)))) r (now (out .exit)) ⌝ }
@@ -57,9 +66,9 @@ pub fn show_query(out: &mut [u8], at: usize, d: usize, kind: u8, s: &[u8]) -> us
     let b = body(s);
     let tag = tag_of(s);
     match tag {
-        3 => show_clauses(out, a, d + 1, rest(b)),
-        4 => show_query(out, a, d + 1, 0, &b[4..]),
-        5 => show_query(out, a, d + 1, 0, b),
+        BOOLEAN_TAG => show_clauses(out, a, d + 1, rest(b)),
+        BOOST_TAG => show_query(out, a, d + 1, NO_TAG, &b[BOOST_BYTES..]),
+        CONSTANT_SCORE_TAG => show_query(out, a, d + 1, NO_TAG, b),
         _ => a,
     }
 }

@@ -29,16 +29,16 @@ pub fn put_hex(out: &mut [u8], at: usize, s: &[u8]) -> usize
 fn is_plain(c: u8) -> bool
     ensures { λ r. ⌜ r ≡ isPlain c ⌝ }
 {
-    if c < 0x21 {
+    if c < b'!' {
         return false;
     }
-    if 0x7e < c {
+    if b'~' < c {
         return false;
     }
-    if c == 0x5c {
+    if c == b'\\' {
         return false;
     }
-    c != 0x3a
+    c != b':'
 }
 
 fn put_shown_byte(out: &mut [u8], at: usize, c: u8) -> usize
@@ -47,7 +47,7 @@ fn put_shown_byte(out: &mut [u8], at: usize, c: u8) -> usize
     if is_plain(c) {
         return put_byte(out, at, c);
     }
-    let a = put_byte(out, at, 0x5c);
+    let a = put_byte(out, at, b'\\');
     put_hex_byte(out, a, c)
 }
 

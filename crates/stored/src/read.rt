@@ -1,5 +1,40 @@
-// The reader of stored queries, for both limits: 0 where the bytes are one query's stored form, else 19, 20 or 21 in reading order.
+// The reader of stored queries, for both limits: 0 where the bytes are one query's stored form, else LONG_QUERY, MALFORMED_QUERY or
+// DEEP_QUERY in reading order.
 // No function here calls itself: a scheduler's thread has little stack, and a query may nest 192 records.
+use names::BOOLEAN_FRONT;
+use names::BOOLEAN_TAG;
+use names::BOOST_BYTES;
+use names::BOOST_FRONT;
+use names::BOOST_TAG;
+use names::CONSTANT_SCORE_TAG;
+use names::DEEP_QUERY;
+use names::EXCLUDED_TAG;
+use names::FIELD_TAG;
+use names::FILTER_TAG;
+use names::FLOAT_RANGE_TAG;
+use names::HEADER;
+use names::INCLUDED_TAG;
+use names::INFINITY;
+use names::LONG_QUERY;
+use names::MALFORMED_QUERY;
+use names::MATCH_ALL_TAG;
+use names::MATCH_NONE_TAG;
+use names::MINIMUM_BYTES;
+use names::MINIMUM_TAG;
+use names::MUST_TAG;
+use names::NUMBER_BYTES;
+use names::OPEN_TAG;
+use names::PHRASE_TAG;
+use names::POSITION_BYTES;
+use names::REWRITER_BYTES;
+use names::REWRITER_DEPTH;
+use names::SELECTION_BYTES;
+use names::SELECTION_DEPTH;
+use names::SIGN;
+use names::TERM_TAG;
+use names::TEXT_TAG;
+use names::THE_NAN;
+use names::WORD_TAG;
 use numbers::big4;
 use parts::part::body;
 use parts::part::is_field_part;
@@ -25,14 +60,14 @@ ghost use Rattle.stored.specs.Read.{verdict, said, rowOf, isTerm, isPhra
 pub fn is_word(s: &[u8]) -> bool
     ensures { λ r. ⌜ r ≡ isWord (now (s .entry)) ⌝ }
 {
-    if !is_part(s, 0x12) {
+    if !is_part(s, WORD_TAG) {
         return false;
     }
     let w = body(s);
-    if w.len() < 4 {
+    if w.len() < POSITION_BYTES {
         return false;
     }
-    is_text(&w[4..])
+    is_text(&w[POSITION_BYTES..])
 }
 
 fn is_words(s: &[u8]) -> bool
@@ -57,9 +92,9 @@ fn is_bound(s: &[u8]) -> bool
     }
     let b = body(s);
     match s[0] {
-        0x30 => b.len() == 0,
-        0x31 => b.len() == 8,
-        0x32 => b.len() == 8,
+        OPEN_TAG => b.len() == 0,
+        INCLUDED_TAG => b.len() == NUMBER_BYTES,
+        EXCLUDED_TAG => b.len() == NUMBER_BYTES,
         _ => false,
     }
 }
@@ -67,14 +102,14 @@ fn is_bound(s: &[u8]) -> bool
 fn is_term(b: &[u8]) -> bool
     ensures { λ r. ⌜ r ≡ isTerm (now (b .entry)) ⌝ }
 {
-    if !is_part(b, 0x10) {
+    if !is_part(b, FIELD_TAG) {
         return false;
     }
     if !is_field(body(b)) {
         return false;
     }
     let t = rest(b);
-    if !is_part(t, 0x11) {
+    if !is_part(t, TEXT_TAG) {
         return false;
     }
     if !is_text(body(t)) {
@@ -87,7 +122,7 @@ fn is_term(b: &[u8]) -> bool
 fn is_any_term(b: &[u8]) -> bool
     ensures { λ r. ⌜ r ≡ isTerm (now (b .entry)) ⌝ }
 {
-    if is_plain(b, 0x11, 0) {
+    if is_plain(b, TEXT_TAG, 0) {
         return true;
     }
     is_term(b)
@@ -124,10 +159,10 @@ fn is_leaf(tag: u8, b: &[u8]) -> bool
     ensures { λ r. ⌜ r ≡ isLeaf tag (now (b .entry)) ⌝ }
 {
     match tag {
-        1 => is_term(b),
-        2 => is_phrase(b),
-        6 => b.len() == 0,
-        7 => b.len() == 0,
+        TERM_TAG => is_term(b),
+        PHRASE_TAG => is_phrase(b),
+        MATCH_ALL_TAG => b.len() == 0,
+        MATCH_NONE_TAG => b.len() == 0,
         _ => is_range(b),
     }
 }
@@ -137,36 +172,36 @@ fn is_leaf(tag: u8, b: &[u8]) -> bool
 fn is_minimum(b: &[u8]) -> bool
     ensures { λ r. ⌜ r ≡ isMinimum (now (b .entry)) ⌝ }
 {
-    is_part_of(b, 0x13, 2)
+    is_part_of(b, MINIMUM_TAG, MINIMUM_BYTES)
 }
 
 fn is_clause(s: &[u8]) -> bool
     ensures { λ r. ⌜ r ≡ isClause (now (s .entry)) ⌝ }
 {
-    is_within(s, 0x20, 0x23)
+    is_within(s, MUST_TAG, FILTER_TAG)
 }
 
 fn is_record(s: &[u8]) -> bool
     ensures { λ r. ⌜ r ≡ isRecord (now (s .entry)) ⌝ }
 {
-    is_within(s, 0x01, 0x09)
+    is_within(s, TERM_TAG, FLOAT_RANGE_TAG)
 }
 
 // There is one NaN: any other is malformed.
 fn is_boost(bits: u32) -> bool
     ensures { λ r. ⌜ r ≡ isBoost bits ⌝ }
 {
-    if bits % 0x8000_0000 <= 0x7f80_0000 {
+    if bits % SIGN <= INFINITY {
         return true;
     }
-    bits == 0x7fc0_0000
+    bits == THE_NAN
 }
 
-// The four bytes before the query that a Boost holds.
+// The bytes before the query that a Boost holds.
 fn is_boosted(b: &[u8]) -> bool
     ensures { λ r. ⌜ r ≡ isBoosted (now (b .entry)) ⌝ }
 {
-    if b.len() < 4 {
+    if b.len() < BOOST_BYTES {
         return false;
     }
     is_boost(big4(b))
@@ -187,35 +222,35 @@ fn look(q: &[u8], left: usize) -> Front
     ensures { λ r. ⌜ OfFront left (now (q .entry)) r ⌝ }
 {
     if !is_record(q) {
-        return Front::Fault(20);
+        return Front::Fault(MALFORMED_QUERY);
     }
     if left == 0 {
-        return Front::Fault(21);
+        return Front::Fault(DEEP_QUERY);
     }
-    let e = 3 + size_of(q);
+    let e = HEADER + size_of(q);
     let b = body(q);
     let tag = q[0];
     match tag {
-        3 => {
+        BOOLEAN_TAG => {
             if is_minimum(b) {
-                Front::Row(8, e)
+                Front::Row(BOOLEAN_FRONT, e)
             } else {
-                Front::Fault(20)
+                Front::Fault(MALFORMED_QUERY)
             }
         }
-        4 => {
+        BOOST_TAG => {
             if is_boosted(b) {
-                Front::Inner(7, e)
+                Front::Inner(BOOST_FRONT, e)
             } else {
-                Front::Fault(20)
+                Front::Fault(MALFORMED_QUERY)
             }
         }
-        5 => Front::Inner(3, e),
+        CONSTANT_SCORE_TAG => Front::Inner(HEADER, e),
         _ => {
             if is_leaf(tag, b) {
                 Front::Leaf(e)
             } else {
-                Front::Fault(20)
+                Front::Fault(MALFORMED_QUERY)
             }
         }
     }
@@ -264,7 +299,7 @@ fn is_simple(q: &[u8], left: usize) -> bool
     if left == 0 {
         return false;
     }
-    if !is_part(q, 1) {
+    if !is_part(q, TERM_TAG) {
         return false;
     }
     if !is_any_term(body(q)) {
@@ -278,25 +313,25 @@ fn step(t: &[u8], left: usize) -> Next
     ensures { λ r. ⌜ OfNext left (now (t .entry)) r ⌝ }
 {
     if !is_clause(t) {
-        return Next::Fault(20);
+        return Next::Fault(MALFORMED_QUERY);
     }
     let q = body(t);
     let n = q.len();
     if is_simple(q, left) {
-        return Next::Past(3 + n);
+        return Next::Past(HEADER + n);
     }
     match unwrap(q, left) {
         Opened::Fault(r) => Next::Fault(r),
         Opened::Leaf(e) => {
             if e == n {
-                Next::Past(3 + n)
+                Next::Past(HEADER + n)
             } else {
-                Next::Fault(20)
+                Next::Fault(MALFORMED_QUERY)
             }
         }
         Opened::Row(a, e, l) => {
-            let from = 3 + a;
-            let to = 3 + e;
+            let from = HEADER + a;
+            let to = HEADER + e;
             if e == n {
                 Next::Into(from, to, l)
             } else {
@@ -312,8 +347,8 @@ fn rows(s: &[u8], first: usize, sound: u8) -> u8
     requires { ⌜ (first < 192) × (length (now s) < 65536) ⌝ }
     ensures { λ r. ⌜ r ≡ verdict sound (rowOf first (now (s .entry))) ⌝ }
 {
-    let mut ends = [0u16; 192];
-    let mut lefts = [0u8; 192];
+    let mut ends = [0u16; SELECTION_DEPTH];
+    let mut lefts = [0u8; SELECTION_DEPTH];
     let mut n: usize = 0;
     let mut at: usize = 0;
     let mut end = s.len();
@@ -323,9 +358,7 @@ fn rows(s: &[u8], first: usize, sound: u8) -> u8
         if at < end {
             match step(&s[at..end], left) {
                 Next::Fault(r) => return r,
-                Next::Past(k) => {
-                    at = at + k;
-                }
+                Next::Past(k) => at = at + k,
                 Next::Into(a, e, l) => {
                     ends[n] = end as u16;
                     lefts[n] = left as u8;
@@ -336,16 +369,15 @@ fn rows(s: &[u8], first: usize, sound: u8) -> u8
                 }
                 Next::Last(a, e, l) => {
                     n = 0;
-                    good = 20;
+                    good = MALFORMED_QUERY;
                     end = at + e;
                     at = at + a;
                     left = l;
                 }
             }
+        } else if n == 0 {
+            return good;
         } else {
-            if n == 0 {
-                return good;
-            }
             n = n - 1;
             end = ends[n] as usize;
             left = lefts[n] as usize;
@@ -358,7 +390,7 @@ fn rows(s: &[u8], first: usize, sound: u8) -> u8
 fn say(ok: bool) -> u8
     ensures { λ r. ⌜ r ≡ said ok 0 ⌝ }
 {
-    if ok { 0 } else { 20 }
+    if ok { 0 } else { MALFORMED_QUERY }
 }
 
 // For any limit on the bytes, and a limit on the depth of at most 192.
@@ -367,7 +399,7 @@ fn check_query(s: &[u8], most: usize, depth: usize) -> u8
     ensures { λ r. ⌜ r ≡ numberOf (readWithin most depth (now (s .entry))) ⌝ }
 {
     if s.len() > most {
-        return 19;
+        return LONG_QUERY;
     }
     match unwrap(s, depth) {
         Opened::Fault(r) => r,
@@ -379,11 +411,11 @@ fn check_query(s: &[u8], most: usize, depth: usize) -> u8
 pub fn for_rewriting(s: &[u8]) -> u8
     ensures { λ r. ⌜ r ≡ numberOf (readForRewriting (now (s .entry))) ⌝ }
 {
-    check_query(s, 32768, 64)
+    check_query(s, REWRITER_BYTES, REWRITER_DEPTH)
 }
 
 pub fn for_selection(s: &[u8]) -> u8
     ensures { λ r. ⌜ r ≡ numberOf (readForSelection (now (s .entry))) ⌝ }
 {
-    check_query(s, 65535, 192)
+    check_query(s, SELECTION_BYTES, SELECTION_DEPTH)
 }

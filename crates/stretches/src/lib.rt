@@ -1,5 +1,7 @@
 // Stretches of bytes: texts and fields, comparison, copy, clear. Short ones are tested in words that may overlap, the last one first;
 // longer ones go by a loop without a way out before its end, which a compiler widens.
+use names::ASCII_MOST;
+use names::FIELD_MOST;
 use numbers::big4;
 use numbers::big8;
 ghost use mathlib.Core.Path.{_≡_};
@@ -9,21 +11,31 @@ ghost use lib.Dec.{eqb};
 ghost use Rattle.rules.specs.Bytes.{isText, isField, same};
 ghost use Rattle.numbers.specs.Laid.{Put};
 
+// How long a stretch is that two pairs of words cover.
+pub const MIDDLE_LEAST: usize = 8;
+
+pub const MIDDLE_MOST: usize = 32;
+
 // ---- texts
+
+// The top bit of each byte of a word.
+const TOPS8: u64 = 0x8080_8080_8080_8080;
+
+const TOPS4: u32 = 0x8080_8080;
 
 // The top bits of the first eight bytes and of the first four: 0 exactly where these bytes are ASCII.
 fn tops8(s: &[u8]) -> u64
     requires { ⌜ 8 ≤ length (now s) ⌝ }
     ensures { λ r. ⌜ eqb r 0 ≡ isText (take 8 (now (s .entry))) ⌝ }
 {
-    big8(s) & 0x8080_8080_8080_8080
+    big8(s) & TOPS8
 }
 
 fn tops4(s: &[u8]) -> u32
     requires { ⌜ 4 ≤ length (now s) ⌝ }
     ensures { λ r. ⌜ eqb r 0 ≡ isText (take 4 (now (s .entry))) ⌝ }
 {
-    big4(s) & 0x8080_8080
+    big4(s) & TOPS4
 }
 
 // Most texts are short: two words of four bytes that may overlap, or the first, the middle and the last byte.
@@ -42,7 +54,7 @@ fn is_short_text(s: &[u8]) -> bool
     if n == 0 {
         return true;
     }
-    (s[0] | s[n / 2] | s[n - 1]) <= 127
+    (s[0] | s[n / 2] | s[n - 1]) <= ASCII_MOST
 }
 
 fn is_long_text(s: &[u8]) -> bool
@@ -54,7 +66,7 @@ fn is_long_text(s: &[u8]) -> bool
         seen = seen | s[i];
         i += 1;
     }
-    seen <= 127
+    seen <= ASCII_MOST
 }
 
 // From eight to sixteen bytes.
@@ -88,7 +100,7 @@ fn is_longer_text(s: &[u8]) -> bool
     requires { ⌜ 8 ≤ length (now s) ⌝ }
     ensures { λ r. ⌜ r ≡ isText (now (s .entry)) ⌝ }
 {
-    if s.len() <= 32 {
+    if s.len() <= MIDDLE_MOST {
         return is_middle_text(s);
     }
     is_long_text(s)
@@ -98,7 +110,7 @@ fn is_longer_text(s: &[u8]) -> bool
 pub fn is_text(s: &[u8]) -> bool
     ensures { λ r. ⌜ r ≡ isText (now (s .entry)) ⌝ }
 {
-    if s.len() < 8 {
+    if s.len() < MIDDLE_LEAST {
         return is_short_text(s);
     }
     is_longer_text(s)
@@ -107,7 +119,7 @@ pub fn is_text(s: &[u8]) -> bool
 pub fn is_field(s: &[u8]) -> bool
     ensures { λ r. ⌜ r ≡ isField (now (s .entry)) ⌝ }
 {
-    if s.len() > 32 {
+    if s.len() > FIELD_MOST {
         return false;
     }
     is_text(s)

@@ -1,4 +1,8 @@
 // Terms and quotes: their bytes go, unescaped, into the room from the token's own place on.
+use names::END_CLASS;
+use names::LETTER_CLASS;
+use names::NOTHING_ESCAPED;
+use names::OPEN_QUOTE;
 ghost use mathlib.Core.Path.{_≡_};
 ghost use mathlib.Core.Bool.{true, cond};
 ghost use Prim.Native.Nat.{_+_, _-_, _≤_, _<_};
@@ -20,7 +24,7 @@ pub enum Ended {
 fn escape(c: u8) -> usize
     ensures { λ r. ⌜ r ≡ cond (isBackslash c) 1 0 ⌝ }
 {
-    if c == 0x5c { 1 } else { 0 }
+    if c == b'\\' { 1 } else { 0 }
 }
 
 // Letters stand for themselves, so each goes to its own place in the room. Gives the place behind them.
@@ -32,7 +36,7 @@ fn read_letters(table: &[u8; 128], text: &[u8], at: usize, room: &mut [u8]) -> u
     let mut i = at;
     while i < text.len() {
         let c = text[i];
-        if classes::class_at(table, c) < 4 {
+        if classes::class_at(table, c) < LETTER_CLASS {
             return i;
         }
         room[i] = c;
@@ -51,14 +55,14 @@ fn read_rest(table: &[u8; 128], text: &[u8], at: usize, from: usize, room: &mut 
     let mut len: usize = from - at;
     while i < text.len() {
         let c = text[i];
-        if classes::class_at(table, c) / 2 % 2 == 1 {
+        if classes::class_at(table, c) / END_CLASS % 2 == 1 {
             return Ended::At {
                 next: i,
                 len: len,
                 word: false,
             };
         }
-        if c != 0x5c {
+        if c != b'\\' {
             room[at + len] = c;
             len += 1;
             i += 1;
@@ -66,7 +70,7 @@ fn read_rest(table: &[u8; 128], text: &[u8], at: usize, from: usize, room: &mut 
         }
         let j = i + 1;
         if text.len() <= j {
-            return Ended::Refused(5);
+            return Ended::Refused(NOTHING_ESCAPED);
         }
         room[at + len] = text[j];
         len += 1;
@@ -93,7 +97,7 @@ pub fn read_term(table: &[u8; 128], text: &[u8], at: usize, room: &mut [u8]) -> 
             word: true,
         };
     }
-    if classes::class_at(table, text[i]) / 2 % 2 == 1 {
+    if classes::class_at(table, text[i]) / END_CLASS % 2 == 1 {
         return Ended::At {
             next: i,
             len: i - at,
@@ -113,7 +117,7 @@ pub fn read_quoted(text: &[u8], at: usize, room: &mut [u8]) -> Ended
     let mut len: usize = 0;
     while i < text.len() {
         let c = text[i];
-        if c == 0x22 {
+        if c == b'"' {
             return Ended::At {
                 next: i + 1,
                 len: len,
@@ -122,11 +126,11 @@ pub fn read_quoted(text: &[u8], at: usize, room: &mut [u8]) -> Ended
         }
         let j = i + escape(c);
         if text.len() <= j {
-            return Ended::Refused(5); // and not 4, though the quote is open
+            return Ended::Refused(NOTHING_ESCAPED); // and not OPEN_QUOTE, though the quote is open
         }
         room[at + len] = text[j];
         len += 1;
         i = j + 1;
     }
-    Ended::Refused(4)
+    Ended::Refused(OPEN_QUOTE)
 }

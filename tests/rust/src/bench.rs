@@ -7,6 +7,7 @@
 
 mod inputs;
 
+use gorbihesh::calls;
 use original::answers::{Setup, ascii};
 use original::stored::decode;
 use plain::{lists, matching, queries};
@@ -24,9 +25,9 @@ const ROW: Duration = Duration::from_secs(4);
 fn main() {
     println!(
         "room: parse {}, rewrite {}, select {} bytes",
-        grouped(gorbihesh::gorbihesh_parse_room()),
-        grouped(gorbihesh::gorbihesh_rewrite_room()),
-        grouped(gorbihesh::gorbihesh_select_room()),
+        grouped(calls::parse_room()),
+        grouped(calls::rewrite_room()),
+        grouped(calls::select_room()),
     );
     println!(
         "{:<8} {:<50} {:>14} {:>14} {:>7}",
@@ -55,8 +56,8 @@ fn main() {
 
 fn parse(name: &str, setup: &Setup, text: &[u8]) {
     let mut out = vec![0; 65_535];
-    let mut room = vec![0; gorbihesh::gorbihesh_parse_room()];
-    let lent = gorbihesh::Setup {
+    let mut room = vec![0; calls::parse_room()];
+    let lent = calls::Setup {
         operator: setup.operator,
         analyzer: setup.analyzer,
         field: &setup.field,
@@ -66,30 +67,30 @@ fn parse(name: &str, setup: &Setup, text: &[u8]) {
     let text = black_box(text);
     row(
         ("parse", name),
-        || gorbihesh::parse(lent, text, &mut out, &mut room),
+        || calls::parse(lent, text, &mut out, &mut room),
         || parser.parse(ascii(text)),
     );
 }
 
 fn rewrite(name: &str, query: &[u8]) {
     let mut out = vec![0; 65_535];
-    let mut room = vec![0; gorbihesh::gorbihesh_rewrite_room()];
+    let mut room = vec![0; calls::rewrite_room()];
     let tree = decode(query).expect("a stored query");
     let query = black_box(query);
     row(
         ("rewrite", name),
-        || gorbihesh::rewrite(query, &mut out, &mut room),
+        || calls::rewrite(query, &mut out, &mut room),
         || tree.rewrite(),
     );
 }
 
 fn select(name: &str, query: &[u8], list: &[u8]) {
     let mut rows = vec![0; 4 * list.len()];
-    let mut room = vec![0; gorbihesh::gorbihesh_select_room()];
+    let mut room = vec![0; calls::select_room()];
     let (query, list) = (black_box(query), black_box(list));
     row(
         ("select", name),
-        || gorbihesh::select(query, list, &mut rows, &mut room),
+        || calls::select(query, list, &mut rows, &mut room),
         || {
             let query = queries::read(query, queries::SELECTION).expect("a query");
             matching::chosen(&query, &lists::read(list).expect("a list"))

@@ -7,7 +7,7 @@
 mod tally;
 mod texts;
 
-use gorbihesh::desk::Desk;
+use desk::Desk;
 use original::answers::{self, Setup};
 use original::limits;
 use original::random::Random as Numbers;
@@ -58,7 +58,7 @@ fn parse(r: &mut Random, desk: &mut Desk) -> Result<Vec<u8>, u32> {
     let answer = expected(&setup, &text);
     let (out, short) = lend(r, answer.as_ref().map(Vec::len).map_err(|e| *e));
     let answer = short.map_or(answer, Err);
-    let lent = gorbihesh::Setup {
+    let lent = gorbihesh::calls::Setup {
         operator: setup.operator,
         analyzer: setup.analyzer,
         field: &setup.field,

@@ -6,7 +6,7 @@
 
 mod tally;
 
-use gorbihesh::desk::Desk;
+use desk::Desk;
 use plain::damage::damaged;
 use plain::lists::{self, Record};
 use plain::matching::chosen;

@@ -1,7 +1,7 @@
-//! A desk that lends output and room to the calls and holds every call to what it promises of them: the
+//! The crate `desk`: it lends output and room to the calls and holds every call to what it promises of them: the
 //! room ends all zeros, only the answer's bytes change, a refusal changes nothing. Panics where not.
 
-use crate::{Answer, Setup};
+use gorbihesh::calls::{self, Answer, Setup};
 
 /// What the output and the fence behind it hold before a call.
 const UNTOUCHED: u8 = 0xA5;
@@ -30,8 +30,8 @@ impl Desk {
     /// # Errors
     /// The refusal number.
     pub fn parse(&mut self, setup: Setup, text: &[u8], out: usize) -> Result<Vec<u8>, u32> {
-        let room = crate::gorbihesh_parse_room();
-        let (answer, bytes) = self.call(out, room, |o, r| crate::parse(setup, text, o, r))?;
+        let room = calls::parse_room();
+        let (answer, bytes) = self.call(out, room, |o, r| calls::parse(setup, text, o, r))?;
         assert_eq!((answer.count, answer.rounds), (0, 0), "{answer:?}");
         Ok(bytes)
     }
@@ -41,8 +41,8 @@ impl Desk {
     /// # Errors
     /// The refusal number.
     pub fn rewrite(&mut self, query: &[u8], out: usize) -> Result<(Vec<u8>, u32), u32> {
-        let room = crate::gorbihesh_rewrite_room();
-        let (answer, bytes) = self.call(out, room, |o, r| crate::rewrite(query, o, r))?;
+        let room = calls::rewrite_room();
+        let (answer, bytes) = self.call(out, room, |o, r| calls::rewrite(query, o, r))?;
         assert_eq!(answer.count, 0, "{answer:?}");
         Ok((bytes, answer.rounds))
     }
@@ -52,8 +52,8 @@ impl Desk {
     /// # Errors
     /// The refusal number.
     pub fn select(&mut self, query: &[u8], list: &[u8], rows: usize) -> Result<Vec<u32>, u32> {
-        let room = crate::gorbihesh_select_room();
-        let (answer, bytes) = self.call(rows, room, |o, r| crate::select(query, list, o, r))?;
+        let room = calls::select_room();
+        let (answer, bytes) = self.call(rows, room, |o, r| calls::select(query, list, o, r))?;
         let (rows, rest) = bytes.as_chunks::<4>();
         assert!(rest.is_empty(), "rows of four bytes");
         assert_eq!(

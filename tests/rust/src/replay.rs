@@ -3,8 +3,8 @@
 //!
 //!     replay DIRECTORY
 
-use gorbihesh::Setup;
-use gorbihesh::desk::Desk;
+use desk::Desk;
+use gorbihesh::calls::Setup;
 use std::process::exit;
 
 /// An output that every answer of the lists fits.

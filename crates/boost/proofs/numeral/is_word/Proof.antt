@@ -19,17 +19,17 @@ returns c = other-length (c .before .before .before .args .s .now) (c .before .b
 loop-holds : tie.Need-loop-holds Inv-loop μ-loop
 loop-holds c = match-first (c .before .before .before .args .s .now) (c .before .before .before .args .w .now) (c .if1 .left)
 
-shared-slice-read-small-letter : tie.Need-shared-slice-read-small-letter Inv-loop μ-loop
-shared-slice-read-small-letter c = omega (arith, c .before .before .loop .inv .count)
+shared-slice-read-lower : tie.Need-shared-slice-read-lower Inv-loop μ-loop
+shared-slice-read-lower c = omega (arith, c .before .before .loop .inv .count)
 
-small-letter-requires : tie.Need-small-letter-requires Inv-loop μ-loop
-small-letter-requires c κs = search needs
+lower-requires : tie.Need-lower-requires Inv-loop μ-loop
+lower-requires c κs = search needs
 
 shared-slice-read-if2 : tie.Need-shared-slice-read-if2 Inv-loop μ-loop
 shared-slice-read-if2 c = omega arith
 
 returns-2 : tie.Need-returns-2 Inv-loop μ-loop
-returns-2 c = match-no (c .before .before .before .before .before .before .before .before .before .args .s .now) (c .before .before .before .before .before .before .before .before .before .args .w .now) (c .before .before .before .before .before .loop .i) (c .before .before .before .before .before .loop .inv) (c .before .before .before .before .loop-test .taken) (c .before .before .small-letter .result) (c .before .before .small-letter .ensures) (c .if2 .taken)
+returns-2 c = match-no (c .before .before .before .before .before .before .before .before .before .args .s .now) (c .before .before .before .before .before .before .before .before .before .args .w .now) (c .before .before .before .before .before .loop .i) (c .before .before .before .before .before .loop .inv) (c .before .before .before .before .loop-test .taken) (c .before .before .lower .result) (c .before .before .lower .ensures) (c .if2 .taken)
 
 add-i : tie.Need-add-i Inv-loop μ-loop
 add-i c = omega arith
@@ -38,7 +38,7 @@ loop-less : tie.Need-loop-less Inv-loop μ-loop
 loop-less c = omega arith
 
 loop-again : tie.Need-loop-again Inv-loop μ-loop
-loop-again c = match-next (c .before .before .before .before .before .before .before .before .before .args .s .now) (c .before .before .before .before .before .before .before .before .before .args .w .now) (c .before .before .before .before .before .loop .i) (c .before .before .before .before .before .loop .inv) (c .before .before .before .before .loop-test .taken) (c .before .before .small-letter .result) (c .before .before .small-letter .ensures) (c .if2 .left)
+loop-again c = match-next (c .before .before .before .before .before .before .before .before .before .args .s .now) (c .before .before .before .before .before .before .before .before .before .args .w .now) (c .before .before .before .before .before .loop .i) (c .before .before .before .before .before .loop .inv) (c .before .before .before .before .loop-test .taken) (c .before .before .lower .result) (c .before .before .lower .ensures) (c .if2 .left)
 
 returns-3 : tie.Need-returns-3 Inv-loop μ-loop
 returns-3 c = match-done (c .before .before .before .before .before .args .s .now) (c .before .before .before .before .before .args .w .now) (c .before .loop .i) (c .before .loop .inv) (c .loop-test .left)
@@ -51,8 +51,8 @@ is-word-spec =
     μ-loop
     returns
     loop-holds
-    shared-slice-read-small-letter
-    small-letter-requires
+    shared-slice-read-lower
+    lower-requires
     shared-slice-read-if2
     returns-2
     add-i

@@ -51,13 +51,13 @@ use Rattle.clauses.proofs.write.+write_bracket+write_clause+write_query
 use Rattle.clauses.proofs.write.+write_bracket+write_clause+write_query.Tie.{close}
 
 abbrev μ-write-bracket : Measures 2 write-bracket-kinds.ps ℕ
-μ-write-bracket κs a = 3 * (a .1 .0 - a .1 .1 .1 .1 .1 .1 .1 .0) + 2
+μ-write-bracket κs a = 3 * (a .1 .1 .0 .n - a .1 .1 .1 .0) + 2
 
 abbrev μ-write-clause : Measures 2 write-clause-kinds.ps ℕ
-μ-write-clause κs a = 3 * (a .1 .0 - a .1 .1 .1 .1 .1 .1 .1 .0)
+μ-write-clause κs a = 3 * (a .1 .1 .0 .n - a .1 .1 .1 .0)
 
 abbrev μ-write-query : Measures 2 write-query-kinds.ps ℕ
-μ-write-query κs a = 3 * (a .1 .0 - a .1 .1 .1 .1 .1 .1 .1 .0) + 1
+μ-write-query κs a = 3 * (a .1 .1 .0 .n - a .1 .1 .1 .0) + 1
 
 abbrev write-bracket-at : ℕ → In 2 write-bracket-kinds.ps
 write-bracket-at t =
@@ -122,16 +122,16 @@ write-bracket-boost-size-requires : (t : ℕ) → write-bracket-lts.Need-boost-s
 write-bracket-boost-size-requires t c κs = let K = rw (c .before .before .count .given .1) at (c .before .before .before .before .measure-query .ensures .1) in (c .before .before .before .before .before .before .before .before .pre .1 .0 .few, c .before .before .before .before .before .before .before .before .pre .1 .0 .least, omega (arith, K .1, c .before .before .before .before .before .before .before .before .pre .1 .0 .few))
 
 write-bracket-add-start : (t : ℕ) → write-bracket-lts.Need-add-start (write-bracket-calls t) (write-bracket-at t) write-bracket.Post
-write-bracket-add-start t c = omega (arith, size-most (isBoosted (tokensOf (c .before .before .before .before .before .before .before .before .before .args .room .now) (c .before .before .before .before .before .before .before .before .before .args .n)) ((c .before .before .before .count .given .0 .1 .1 .1 .0) + 1)), c .boost-size .ensures, c .before .before .before .before .before .before .before .before .before .pre .1 .4)
+write-bracket-add-start t c = omega (arith, size-most (isBoosted (tokensOf (c .before .before .before .before .before .before .before .before .before .args .room .now) (c .before .before .before .before .before .before .before .before .before .args .p .n)) ((c .before .before .before .count .given .0 .1 .1 .1 .0) + 1)), c .boost-size .ensures, c .before .before .before .before .before .before .before .before .before .pre .1 .4)
 
 write-bracket-add-end : (t : ℕ) → write-bracket-lts.Need-add-end (write-bracket-calls t) (write-bracket-at t) write-bracket.Post
-write-bracket-add-end t c = let K = rw (c .before .before .before .count .given .1) at (c .before .before .before .before .before .measure-query .ensures .1) in omega (arith, size-most (isBoosted (tokensOf (c .before .before .before .before .before .before .before .before .before .args .room .now) (c .before .before .before .before .before .before .before .before .before .args .n)) ((c .before .before .before .count .given .0 .1 .1 .1 .0) + 1)), c .boost-size .ensures, c .before .before .before .before .before .before .before .before .before .pre .1 .4, c .before .query-len .ensures .1, K .3, place-most (c .before .before .before .before .before .before .before .before .before .pre .1 .0) (c .before .before .before .count .given .0 .1 .1 .1 .0))
+write-bracket-add-end t c = let K = rw (c .before .before .before .count .given .1) at (c .before .before .before .before .before .measure-query .ensures .1) in omega (arith, size-most (isBoosted (tokensOf (c .before .before .before .before .before .before .before .before .before .args .room .now) (c .before .before .before .before .before .before .before .before .before .args .p .n)) ((c .before .before .before .count .given .0 .1 .1 .1 .0) + 1)), c .boost-size .ensures, c .before .before .before .before .before .before .before .before .before .pre .1 .4, c .before .query-len .ensures .1, K .3, place-most (c .before .before .before .before .before .before .before .before .before .pre .1 .0) (c .before .before .before .count .given .0 .1 .1 .1 .0))
 
 write-bracket-add-put-boost : (t : ℕ) → write-bracket-lts.Need-add-put-boost (write-bracket-calls t) (write-bracket-at t) write-bracket.Post
 write-bracket-add-put-boost t c = let K = rw (c .before .before .before .before .count .given .1) at (c .before .before .before .before .before .before .measure-query .ensures .1) in omega (arith, K .1, c .before .before .before .before .before .before .before .before .before .before .pre .1 .0 .few)
 
 write-bracket-put-boost-requires : (t : ℕ) → write-bracket-lts.Need-put-boost-requires (write-bracket-calls t) (write-bracket-at t) write-bracket.Post
-write-bracket-put-boost-requires t c κs = let k = kind-in (c .before .before .before .before .before .before .before .before .before .before .before .args .room .now) (c .before .before .before .before .before .before .before .before .before .before .before .args .n) 10 (c .before .before .before .before .before .count .given .0 .1 .1 .1 .0) (λ y. omega arith) (bracket-closed (c .before .before .before .before .before .before .before .before .before .before .before .pre .1 .6 .3) (c .before .before .before .before .before .before .before .measure-query .ensures .0 (c .before .before .before .before .before .before .before .before .before .before .before .pre .1 .6 .0) ((c .before .before .before .before .before .before .before .before .before .before .before .pre .1 .6 .3) .tuned)) (c .before .before .before .before .before .count .given .1)) in (c .before .before .before .before .before .before .before .before .before .before .before .pre .1 .0, omega (arith, k), ap (λ (x : ℕ). c .before .before .before .before .before .before .before .before .before .before .before .args .at + x) (c .before .before .boost-size .ensures), omega arith, (λ h. absurd (omega arith)), c .before .before .before .before .before .before .before .before .before .before .before .pre .1 .5)
+write-bracket-put-boost-requires t c κs = let k = kind-in (c .before .before .before .before .before .before .before .before .before .before .before .args .room .now) (c .before .before .before .before .before .before .before .before .before .before .before .args .p .n) 10 (c .before .before .before .before .before .count .given .0 .1 .1 .1 .0) (λ y. omega arith) (bracket-closed (c .before .before .before .before .before .before .before .before .before .before .before .pre .1 .6 .3) (c .before .before .before .before .before .before .before .measure-query .ensures .0 (c .before .before .before .before .before .before .before .before .before .before .before .pre .1 .6 .0) ((c .before .before .before .before .before .before .before .before .before .before .before .pre .1 .6 .3) .tuned)) (c .before .before .before .before .before .count .given .1)) in (c .before .before .before .before .before .before .before .before .before .before .before .pre .1 .0, omega (arith, k), ap (λ (x : ℕ). c .before .before .before .before .before .before .before .before .before .before .before .args .at + x) (c .before .before .boost-size .ensures), omega arith, (λ h. absurd (omega arith)), c .before .before .before .before .before .before .before .before .before .before .before .pre .1 .5)
 
 write-bracket-same-length : (t : ℕ) → write-bracket-lts.Need-same-length (write-bracket-calls t) (write-bracket-at t) write-bracket.Post
 write-bracket-same-length t c = c .before .before .put-boost .kept .1 .1 .1 .0
@@ -146,28 +146,28 @@ write-bracket-sub-write-query : (t : ℕ) → write-bracket-lts.Need-sub-write-q
 write-bracket-sub-write-query t c = omega arith
 
 write-bracket-part-write-query-start : (t : ℕ) → write-bracket-lts.Need-part-write-query-start (write-bracket-calls t) (write-bracket-at t) write-bracket.Post
-write-bracket-part-write-query-start t c = let l = c .before .before .before .query-len .ensures .0 (bracket-kept (c .before .before .before .before .before .before .before .before .before .before .before .pre .1 .6 .3) (c .before .before .before .before .before .before .before .measure-query .ensures .0 (c .before .before .before .before .before .before .before .before .before .before .before .pre .1 .6 .0) ((c .before .before .before .before .before .before .before .before .before .before .before .pre .1 .6 .3) .tuned)) (c .before .before .before .before .before .count .given .1)) (bracket-sums (c .before .before .before .before .before .before .before .before .before .before .before .pre .1 .6 .3) (c .before .before .before .before .before .before .before .measure-query .ensures .0 (c .before .before .before .before .before .before .before .before .before .before .before .pre .1 .6 .0) ((c .before .before .before .before .before .before .before .before .before .before .before .pre .1 .6 .3) .tuned)) (c .before .before .before .before .before .count .given .1)) in let R = boost-room (c .before .before .before .before .before .before .before .before .before .before .before .pre .1 .6 .0) (tokensOf (c .before .before .before .before .before .before .before .before .before .before .before .args .room .now) (c .before .before .before .before .before .before .before .before .before .before .before .args .n)) (queryOf (bracket-kept (c .before .before .before .before .before .before .before .before .before .before .before .pre .1 .6 .3) (c .before .before .before .before .before .before .before .measure-query .ensures .0 (c .before .before .before .before .before .before .before .before .before .before .before .pre .1 .6 .0) ((c .before .before .before .before .before .before .before .before .before .before .before .pre .1 .6 .3) .tuned)) (c .before .before .before .before .before .count .given .1))) ((c .before .before .before .before .before .count .given .0 .1 .1 .1 .0) + 1) (c .before .before .before .before .before .before .before .before .before .before .before .args .at) (length (c .before .before .before .before .before .before .before .before .before .before .before .args .out .now)) (bracket-boost (c .before .before .before .before .before .before .before .before .before .before .before .pre .1 .6 .3) (c .before .before .before .before .before .before .before .measure-query .ensures .0 (c .before .before .before .before .before .before .before .before .before .before .before .pre .1 .6 .0) ((c .before .before .before .before .before .before .before .before .before .before .before .pre .1 .6 .3) .tuned)) (c .before .before .before .before .before .count .given .1)) ((c .before .before .before .before .before .before .before .before .before .before .before .pre .1 .6 .3) .fits) (omega (arith, l, c .before .if1 .left)) in let h : (c .before .before .before .before .before .before .before .before .before .before .before .args .at + c .before .before .boost-size .result) + (c .before .before .before .query-len .result) ≤ length (c .before .before .before .before .before .before .before .before .before .before .before .args .out .now) = omega (arith, R, l, c .before .before .boost-size .ensures) in omega (arith, h)
+write-bracket-part-write-query-start t c = let l = c .before .before .before .query-len .ensures .0 (bracket-kept (c .before .before .before .before .before .before .before .before .before .before .before .pre .1 .6 .3) (c .before .before .before .before .before .before .before .measure-query .ensures .0 (c .before .before .before .before .before .before .before .before .before .before .before .pre .1 .6 .0) ((c .before .before .before .before .before .before .before .before .before .before .before .pre .1 .6 .3) .tuned)) (c .before .before .before .before .before .count .given .1)) (bracket-sums (c .before .before .before .before .before .before .before .before .before .before .before .pre .1 .6 .3) (c .before .before .before .before .before .before .before .measure-query .ensures .0 (c .before .before .before .before .before .before .before .before .before .before .before .pre .1 .6 .0) ((c .before .before .before .before .before .before .before .before .before .before .before .pre .1 .6 .3) .tuned)) (c .before .before .before .before .before .count .given .1)) in let R = boost-room (c .before .before .before .before .before .before .before .before .before .before .before .pre .1 .6 .0) (tokensOf (c .before .before .before .before .before .before .before .before .before .before .before .args .room .now) (c .before .before .before .before .before .before .before .before .before .before .before .args .p .n)) (queryOf (bracket-kept (c .before .before .before .before .before .before .before .before .before .before .before .pre .1 .6 .3) (c .before .before .before .before .before .before .before .measure-query .ensures .0 (c .before .before .before .before .before .before .before .before .before .before .before .pre .1 .6 .0) ((c .before .before .before .before .before .before .before .before .before .before .before .pre .1 .6 .3) .tuned)) (c .before .before .before .before .before .count .given .1))) ((c .before .before .before .before .before .count .given .0 .1 .1 .1 .0) + 1) (c .before .before .before .before .before .before .before .before .before .before .before .args .at) (length (c .before .before .before .before .before .before .before .before .before .before .before .args .out .now)) (bracket-boost (c .before .before .before .before .before .before .before .before .before .before .before .pre .1 .6 .3) (c .before .before .before .before .before .before .before .measure-query .ensures .0 (c .before .before .before .before .before .before .before .before .before .before .before .pre .1 .6 .0) ((c .before .before .before .before .before .before .before .before .before .before .before .pre .1 .6 .3) .tuned)) (c .before .before .before .before .before .count .given .1)) ((c .before .before .before .before .before .before .before .before .before .before .before .pre .1 .6 .3) .fits) (omega (arith, l, c .before .if1 .left)) in let h : (c .before .before .before .before .before .before .before .before .before .before .before .args .at + c .before .before .boost-size .result) + (c .before .before .before .query-len .result) ≤ length (c .before .before .before .before .before .before .before .before .before .before .before .args .out .now) = omega (arith, R, l, c .before .before .boost-size .ensures) in omega (arith, h)
 
 write-bracket-part-write-query-end : (t : ℕ) → write-bracket-lts.Need-part-write-query-end (write-bracket-calls t) (write-bracket-at t) write-bracket.Post
-write-bracket-part-write-query-end t c = let l = c .before .before .before .query-len .ensures .0 (bracket-kept (c .before .before .before .before .before .before .before .before .before .before .before .pre .1 .6 .3) (c .before .before .before .before .before .before .before .measure-query .ensures .0 (c .before .before .before .before .before .before .before .before .before .before .before .pre .1 .6 .0) ((c .before .before .before .before .before .before .before .before .before .before .before .pre .1 .6 .3) .tuned)) (c .before .before .before .before .before .count .given .1)) (bracket-sums (c .before .before .before .before .before .before .before .before .before .before .before .pre .1 .6 .3) (c .before .before .before .before .before .before .before .measure-query .ensures .0 (c .before .before .before .before .before .before .before .before .before .before .before .pre .1 .6 .0) ((c .before .before .before .before .before .before .before .before .before .before .before .pre .1 .6 .3) .tuned)) (c .before .before .before .before .before .count .given .1)) in let R = boost-room (c .before .before .before .before .before .before .before .before .before .before .before .pre .1 .6 .0) (tokensOf (c .before .before .before .before .before .before .before .before .before .before .before .args .room .now) (c .before .before .before .before .before .before .before .before .before .before .before .args .n)) (queryOf (bracket-kept (c .before .before .before .before .before .before .before .before .before .before .before .pre .1 .6 .3) (c .before .before .before .before .before .before .before .measure-query .ensures .0 (c .before .before .before .before .before .before .before .before .before .before .before .pre .1 .6 .0) ((c .before .before .before .before .before .before .before .before .before .before .before .pre .1 .6 .3) .tuned)) (c .before .before .before .before .before .count .given .1))) ((c .before .before .before .before .before .count .given .0 .1 .1 .1 .0) + 1) (c .before .before .before .before .before .before .before .before .before .before .before .args .at) (length (c .before .before .before .before .before .before .before .before .before .before .before .args .out .now)) (bracket-boost (c .before .before .before .before .before .before .before .before .before .before .before .pre .1 .6 .3) (c .before .before .before .before .before .before .before .measure-query .ensures .0 (c .before .before .before .before .before .before .before .before .before .before .before .pre .1 .6 .0) ((c .before .before .before .before .before .before .before .before .before .before .before .pre .1 .6 .3) .tuned)) (c .before .before .before .before .before .count .given .1)) ((c .before .before .before .before .before .before .before .before .before .before .before .pre .1 .6 .3) .fits) (omega (arith, l, c .before .if1 .left)) in let h : (c .before .before .before .before .before .before .before .before .before .before .before .args .at + c .before .before .boost-size .result) + (c .before .before .before .query-len .result) ≤ length (c .before .before .before .before .before .before .before .before .before .before .before .args .out .now) = omega (arith, R, l, c .before .before .boost-size .ensures) in omega (arith, h)
+write-bracket-part-write-query-end t c = let l = c .before .before .before .query-len .ensures .0 (bracket-kept (c .before .before .before .before .before .before .before .before .before .before .before .pre .1 .6 .3) (c .before .before .before .before .before .before .before .measure-query .ensures .0 (c .before .before .before .before .before .before .before .before .before .before .before .pre .1 .6 .0) ((c .before .before .before .before .before .before .before .before .before .before .before .pre .1 .6 .3) .tuned)) (c .before .before .before .before .before .count .given .1)) (bracket-sums (c .before .before .before .before .before .before .before .before .before .before .before .pre .1 .6 .3) (c .before .before .before .before .before .before .before .measure-query .ensures .0 (c .before .before .before .before .before .before .before .before .before .before .before .pre .1 .6 .0) ((c .before .before .before .before .before .before .before .before .before .before .before .pre .1 .6 .3) .tuned)) (c .before .before .before .before .before .count .given .1)) in let R = boost-room (c .before .before .before .before .before .before .before .before .before .before .before .pre .1 .6 .0) (tokensOf (c .before .before .before .before .before .before .before .before .before .before .before .args .room .now) (c .before .before .before .before .before .before .before .before .before .before .before .args .p .n)) (queryOf (bracket-kept (c .before .before .before .before .before .before .before .before .before .before .before .pre .1 .6 .3) (c .before .before .before .before .before .before .before .measure-query .ensures .0 (c .before .before .before .before .before .before .before .before .before .before .before .pre .1 .6 .0) ((c .before .before .before .before .before .before .before .before .before .before .before .pre .1 .6 .3) .tuned)) (c .before .before .before .before .before .count .given .1))) ((c .before .before .before .before .before .count .given .0 .1 .1 .1 .0) + 1) (c .before .before .before .before .before .before .before .before .before .before .before .args .at) (length (c .before .before .before .before .before .before .before .before .before .before .before .args .out .now)) (bracket-boost (c .before .before .before .before .before .before .before .before .before .before .before .pre .1 .6 .3) (c .before .before .before .before .before .before .before .measure-query .ensures .0 (c .before .before .before .before .before .before .before .before .before .before .before .pre .1 .6 .0) ((c .before .before .before .before .before .before .before .before .before .before .before .pre .1 .6 .3) .tuned)) (c .before .before .before .before .before .count .given .1)) ((c .before .before .before .before .before .before .before .before .before .before .before .pre .1 .6 .3) .fits) (omega (arith, l, c .before .if1 .left)) in let h : (c .before .before .before .before .before .before .before .before .before .before .before .args .at + c .before .before .boost-size .result) + (c .before .before .before .query-len .result) ≤ length (c .before .before .before .before .before .before .before .before .before .before .before .args .out .now) = omega (arith, R, l, c .before .before .boost-size .ensures) in omega (arith, h)
 
 write-bracket-write-query-requires : (t : ℕ) → write-bracket-lts.Need-write-query-requires (write-bracket-calls t) (write-bracket-at t) write-bracket.Post
-write-bracket-write-query-requires t c κs = let l = c .before .before .before .before .query-len .ensures .0 (bracket-kept (c .before .before .before .before .before .before .before .before .before .before .before .before .pre .1 .6 .3) (c .before .before .before .before .before .before .before .before .measure-query .ensures .0 (c .before .before .before .before .before .before .before .before .before .before .before .before .pre .1 .6 .0) ((c .before .before .before .before .before .before .before .before .before .before .before .before .pre .1 .6 .3) .tuned)) (c .before .before .before .before .before .before .count .given .1)) (bracket-sums (c .before .before .before .before .before .before .before .before .before .before .before .before .pre .1 .6 .3) (c .before .before .before .before .before .before .before .before .measure-query .ensures .0 (c .before .before .before .before .before .before .before .before .before .before .before .before .pre .1 .6 .0) ((c .before .before .before .before .before .before .before .before .before .before .before .before .pre .1 .6 .3) .tuned)) (c .before .before .before .before .before .before .count .given .1)) in let R = boost-room (c .before .before .before .before .before .before .before .before .before .before .before .before .pre .1 .6 .0) (tokensOf (c .before .before .before .before .before .before .before .before .before .before .before .before .args .room .now) (c .before .before .before .before .before .before .before .before .before .before .before .before .args .n)) (queryOf (bracket-kept (c .before .before .before .before .before .before .before .before .before .before .before .before .pre .1 .6 .3) (c .before .before .before .before .before .before .before .before .measure-query .ensures .0 (c .before .before .before .before .before .before .before .before .before .before .before .before .pre .1 .6 .0) ((c .before .before .before .before .before .before .before .before .before .before .before .before .pre .1 .6 .3) .tuned)) (c .before .before .before .before .before .before .count .given .1))) ((c .before .before .before .before .before .before .count .given .0 .1 .1 .1 .0) + 1) (c .before .before .before .before .before .before .before .before .before .before .before .before .args .at) (length (c .before .before .before .before .before .before .before .before .before .before .before .before .args .out .now)) (bracket-boost (c .before .before .before .before .before .before .before .before .before .before .before .before .pre .1 .6 .3) (c .before .before .before .before .before .before .before .before .measure-query .ensures .0 (c .before .before .before .before .before .before .before .before .before .before .before .before .pre .1 .6 .0) ((c .before .before .before .before .before .before .before .before .before .before .before .before .pre .1 .6 .3) .tuned)) (c .before .before .before .before .before .before .count .given .1)) ((c .before .before .before .before .before .before .before .before .before .before .before .before .pre .1 .6 .3) .fits) (omega (arith, l, c .before .before .if1 .left)) in let h : (c .before .before .before .before .before .before .before .before .before .before .before .before .args .at + c .before .before .before .boost-size .result) + (c .before .before .before .before .query-len .result) ≤ length (c .before .before .before .before .before .before .before .before .before .before .before .before .args .out .now) = omega (arith, R, l, c .before .before .before .boost-size .ensures) in let r = slice-length (c .before .before .before .before .before .before .before .before .before .before .before .before .args .out .now) (c .before .before .before .before .before .before .before .before .before .before .before .before .args .at + c .before .before .before .boost-size .result) (c .before .before .before .before .query-len .result) (omega (arith, h)) in (omega (arith, c .before .before .before .before .before .before .before .before .before .before .before .before .pre .0), (c .before .before .before .before .before .before .before .before .before .before .before .before .pre .1 .0, c .before .before .before .before .before .before .before .before .before .before .before .before .pre .1 .1, c .before .before .before .before .before .before .before .before .before .before .before .before .pre .1 .2, c .before .before .before .before .before .before .before .before .before .before .before .before .pre .1 .3, omega (arith, r, c .before .before .if1 .left), omega (arith, r, h, c .before .before .before .before .before .before .before .before .before .before .before .before .pre .1 .5), ((c .before .before .before .before .before .before .before .before .before .before .before .before .pre .1 .6 .0), bracket-kept (c .before .before .before .before .before .before .before .before .before .before .before .before .pre .1 .6 .3) (c .before .before .before .before .before .before .before .before .measure-query .ensures .0 (c .before .before .before .before .before .before .before .before .before .before .before .before .pre .1 .6 .0) ((c .before .before .before .before .before .before .before .before .before .before .before .before .pre .1 .6 .3) .tuned)) (c .before .before .before .before .before .before .count .given .1), (c .before .before .before .before .before .before .count .given .0 .1 .1 .1 .0), (bracket-query (c .before .before .before .before .before .before .before .before .before .before .before .before .pre .1 .6 .3) (c .before .before .before .before .before .before .before .before .measure-query .ensures .0 (c .before .before .before .before .before .before .before .before .before .before .before .before .pre .1 .6 .0) ((c .before .before .before .before .before .before .before .before .before .before .before .before .pre .1 .6 .3) .tuned)) (c .before .before .before .before .before .before .count .given .1) (c .before .is-alone .result) _ (c .before .is-alone .ensures (bracket-kept (c .before .before .before .before .before .before .before .before .before .before .before .before .pre .1 .6 .3) (c .before .before .before .before .before .before .before .before .measure-query .ensures .0 (c .before .before .before .before .before .before .before .before .before .before .before .before .pre .1 .6 .0) ((c .before .before .before .before .before .before .before .before .before .before .before .before .pre .1 .6 .3) .tuned)) (c .before .before .before .before .before .before .count .given .1)) (c .before .before .before .before .before .before .count .given .0 .1 .1 .0) (bracket-sums (c .before .before .before .before .before .before .before .before .before .before .before .before .pre .1 .6 .3) (c .before .before .before .before .before .before .before .before .measure-query .ensures .0 (c .before .before .before .before .before .before .before .before .before .before .before .before .pre .1 .6 .0) ((c .before .before .before .before .before .before .before .before .before .before .before .before .pre .1 .6 .3) .tuned)) (c .before .before .before .before .before .before .count .given .1))) (r ∙ l)))))
+write-bracket-write-query-requires t c κs = let l = c .before .before .before .before .query-len .ensures .0 (bracket-kept (c .before .before .before .before .before .before .before .before .before .before .before .before .pre .1 .6 .3) (c .before .before .before .before .before .before .before .before .measure-query .ensures .0 (c .before .before .before .before .before .before .before .before .before .before .before .before .pre .1 .6 .0) ((c .before .before .before .before .before .before .before .before .before .before .before .before .pre .1 .6 .3) .tuned)) (c .before .before .before .before .before .before .count .given .1)) (bracket-sums (c .before .before .before .before .before .before .before .before .before .before .before .before .pre .1 .6 .3) (c .before .before .before .before .before .before .before .before .measure-query .ensures .0 (c .before .before .before .before .before .before .before .before .before .before .before .before .pre .1 .6 .0) ((c .before .before .before .before .before .before .before .before .before .before .before .before .pre .1 .6 .3) .tuned)) (c .before .before .before .before .before .before .count .given .1)) in let R = boost-room (c .before .before .before .before .before .before .before .before .before .before .before .before .pre .1 .6 .0) (tokensOf (c .before .before .before .before .before .before .before .before .before .before .before .before .args .room .now) (c .before .before .before .before .before .before .before .before .before .before .before .before .args .p .n)) (queryOf (bracket-kept (c .before .before .before .before .before .before .before .before .before .before .before .before .pre .1 .6 .3) (c .before .before .before .before .before .before .before .before .measure-query .ensures .0 (c .before .before .before .before .before .before .before .before .before .before .before .before .pre .1 .6 .0) ((c .before .before .before .before .before .before .before .before .before .before .before .before .pre .1 .6 .3) .tuned)) (c .before .before .before .before .before .before .count .given .1))) ((c .before .before .before .before .before .before .count .given .0 .1 .1 .1 .0) + 1) (c .before .before .before .before .before .before .before .before .before .before .before .before .args .at) (length (c .before .before .before .before .before .before .before .before .before .before .before .before .args .out .now)) (bracket-boost (c .before .before .before .before .before .before .before .before .before .before .before .before .pre .1 .6 .3) (c .before .before .before .before .before .before .before .before .measure-query .ensures .0 (c .before .before .before .before .before .before .before .before .before .before .before .before .pre .1 .6 .0) ((c .before .before .before .before .before .before .before .before .before .before .before .before .pre .1 .6 .3) .tuned)) (c .before .before .before .before .before .before .count .given .1)) ((c .before .before .before .before .before .before .before .before .before .before .before .before .pre .1 .6 .3) .fits) (omega (arith, l, c .before .before .if1 .left)) in let h : (c .before .before .before .before .before .before .before .before .before .before .before .before .args .at + c .before .before .before .boost-size .result) + (c .before .before .before .before .query-len .result) ≤ length (c .before .before .before .before .before .before .before .before .before .before .before .before .args .out .now) = omega (arith, R, l, c .before .before .before .boost-size .ensures) in let r = slice-length (c .before .before .before .before .before .before .before .before .before .before .before .before .args .out .now) (c .before .before .before .before .before .before .before .before .before .before .before .before .args .at + c .before .before .before .boost-size .result) (c .before .before .before .before .query-len .result) (omega (arith, h)) in (omega (arith, c .before .before .before .before .before .before .before .before .before .before .before .before .pre .0), (c .before .before .before .before .before .before .before .before .before .before .before .before .pre .1 .0, c .before .before .before .before .before .before .before .before .before .before .before .before .pre .1 .1, c .before .before .before .before .before .before .before .before .before .before .before .before .pre .1 .2, c .before .before .before .before .before .before .before .before .before .before .before .before .pre .1 .3, omega (arith, r, c .before .before .if1 .left), omega (arith, r, h, c .before .before .before .before .before .before .before .before .before .before .before .before .pre .1 .5), ((c .before .before .before .before .before .before .before .before .before .before .before .before .pre .1 .6 .0), bracket-kept (c .before .before .before .before .before .before .before .before .before .before .before .before .pre .1 .6 .3) (c .before .before .before .before .before .before .before .before .measure-query .ensures .0 (c .before .before .before .before .before .before .before .before .before .before .before .before .pre .1 .6 .0) ((c .before .before .before .before .before .before .before .before .before .before .before .before .pre .1 .6 .3) .tuned)) (c .before .before .before .before .before .before .count .given .1), (c .before .before .before .before .before .before .count .given .0 .1 .1 .1 .0), (bracket-query (c .before .before .before .before .before .before .before .before .before .before .before .before .pre .1 .6 .3) (c .before .before .before .before .before .before .before .before .measure-query .ensures .0 (c .before .before .before .before .before .before .before .before .before .before .before .before .pre .1 .6 .0) ((c .before .before .before .before .before .before .before .before .before .before .before .before .pre .1 .6 .3) .tuned)) (c .before .before .before .before .before .before .count .given .1) (c .before .is-alone .result) _ (c .before .is-alone .ensures (bracket-kept (c .before .before .before .before .before .before .before .before .before .before .before .before .pre .1 .6 .3) (c .before .before .before .before .before .before .before .before .measure-query .ensures .0 (c .before .before .before .before .before .before .before .before .before .before .before .before .pre .1 .6 .0) ((c .before .before .before .before .before .before .before .before .before .before .before .before .pre .1 .6 .3) .tuned)) (c .before .before .before .before .before .before .count .given .1)) (c .before .before .before .before .before .before .count .given .0 .1 .1 .0) (bracket-sums (c .before .before .before .before .before .before .before .before .before .before .before .before .pre .1 .6 .3) (c .before .before .before .before .before .before .before .before .measure-query .ensures .0 (c .before .before .before .before .before .before .before .before .before .before .before .before .pre .1 .6 .0) ((c .before .before .before .before .before .before .before .before .before .before .before .before .pre .1 .6 .3) .tuned)) (c .before .before .before .before .before .before .count .given .1))) (r ∙ l)))))
 
 write-bracket-add-put-boost-2 : (t : ℕ) → write-bracket-lts.Need-add-put-boost-2 (write-bracket-calls t) (write-bracket-at t) write-bracket.Post
 write-bracket-add-put-boost-2 t c = let K = rw (c .before .before .before .before .before .before .before .before .before .count .given .1) at (c .before .before .before .before .before .before .before .before .before .before .before .measure-query .ensures .1) in omega (arith, K .1, c .before .before .before .before .before .before .before .before .before .before .before .before .before .before .before .pre .1 .0 .few)
 
 write-bracket-put-boost-requires-2 : (t : ℕ) → write-bracket-lts.Need-put-boost-requires-2 (write-bracket-calls t) (write-bracket-at t) write-bracket.Post
-write-bracket-put-boost-requires-2 t c κs = let k = kind-in (c .before .before .before .before .before .before .before .before .before .before .before .before .before .before .before .before .args .room .now) (c .before .before .before .before .before .before .before .before .before .before .before .before .before .before .before .before .args .n) 10 (c .before .before .before .before .before .before .before .before .before .before .count .given .0 .1 .1 .1 .0) (λ y. omega arith) (bracket-closed (c .before .before .before .before .before .before .before .before .before .before .before .before .before .before .before .before .pre .1 .6 .3) (c .before .before .before .before .before .before .before .before .before .before .before .before .measure-query .ensures .0 (c .before .before .before .before .before .before .before .before .before .before .before .before .before .before .before .before .pre .1 .6 .0) ((c .before .before .before .before .before .before .before .before .before .before .before .before .before .before .before .before .pre .1 .6 .3) .tuned)) (c .before .before .before .before .before .before .before .before .before .before .count .given .1)) in let l = c .before .before .before .before .before .before .before .before .query-len .ensures .0 (bracket-kept (c .before .before .before .before .before .before .before .before .before .before .before .before .before .before .before .before .pre .1 .6 .3) (c .before .before .before .before .before .before .before .before .before .before .before .before .measure-query .ensures .0 (c .before .before .before .before .before .before .before .before .before .before .before .before .before .before .before .before .pre .1 .6 .0) ((c .before .before .before .before .before .before .before .before .before .before .before .before .before .before .before .before .pre .1 .6 .3) .tuned)) (c .before .before .before .before .before .before .before .before .before .before .count .given .1)) (bracket-sums (c .before .before .before .before .before .before .before .before .before .before .before .before .before .before .before .before .pre .1 .6 .3) (c .before .before .before .before .before .before .before .before .before .before .before .before .measure-query .ensures .0 (c .before .before .before .before .before .before .before .before .before .before .before .before .before .before .before .before .pre .1 .6 .0) ((c .before .before .before .before .before .before .before .before .before .before .before .before .before .before .before .before .pre .1 .6 .3) .tuned)) (c .before .before .before .before .before .before .before .before .before .before .count .given .1)) in let R = boost-room (c .before .before .before .before .before .before .before .before .before .before .before .before .before .before .before .before .pre .1 .6 .0) (tokensOf (c .before .before .before .before .before .before .before .before .before .before .before .before .before .before .before .before .args .room .now) (c .before .before .before .before .before .before .before .before .before .before .before .before .before .before .before .before .args .n)) (queryOf (bracket-kept (c .before .before .before .before .before .before .before .before .before .before .before .before .before .before .before .before .pre .1 .6 .3) (c .before .before .before .before .before .before .before .before .before .before .before .before .measure-query .ensures .0 (c .before .before .before .before .before .before .before .before .before .before .before .before .before .before .before .before .pre .1 .6 .0) ((c .before .before .before .before .before .before .before .before .before .before .before .before .before .before .before .before .pre .1 .6 .3) .tuned)) (c .before .before .before .before .before .before .before .before .before .before .count .given .1))) ((c .before .before .before .before .before .before .before .before .before .before .count .given .0 .1 .1 .1 .0) + 1) (c .before .before .before .before .before .before .before .before .before .before .before .before .before .before .before .before .args .at) (length (c .before .before .before .before .before .before .before .before .before .before .before .before .before .before .before .before .args .out .now)) (bracket-boost (c .before .before .before .before .before .before .before .before .before .before .before .before .before .before .before .before .pre .1 .6 .3) (c .before .before .before .before .before .before .before .before .before .before .before .before .measure-query .ensures .0 (c .before .before .before .before .before .before .before .before .before .before .before .before .before .before .before .before .pre .1 .6 .0) ((c .before .before .before .before .before .before .before .before .before .before .before .before .before .before .before .before .pre .1 .6 .3) .tuned)) (c .before .before .before .before .before .before .before .before .before .before .count .given .1)) ((c .before .before .before .before .before .before .before .before .before .before .before .before .before .before .before .before .pre .1 .6 .3) .fits) (omega (arith, l, c .before .before .before .before .before .before .if1 .left)) in let h : (c .before .before .before .before .before .before .before .before .before .before .before .before .before .before .before .before .args .at + c .before .before .before .before .before .before .before .boost-size .result) + (c .before .before .before .before .before .before .before .before .query-len .result) ≤ length (c .before .before .before .before .before .before .before .before .before .before .before .before .before .before .before .before .args .out .now) = omega (arith, R, l, c .before .before .before .before .before .before .before .boost-size .ensures) in let r = slice-length (c .before .before .before .before .before .before .before .before .before .before .before .before .before .before .before .before .args .out .now) (c .before .before .before .before .before .before .before .before .before .before .before .before .before .before .before .before .args .at + c .before .before .before .before .before .before .before .boost-size .result) (c .before .before .before .before .before .before .before .before .query-len .result) (omega (arith, h)) in let b = mid-bounds (c .before .before .before .before .before .before .before .before .before .before .before .before .before .before .before .before .args .out .now) (c .before .before .before .write-query .last .1 .1 .1 .1 .1 .1 .1 .1 .1 .0) (c .before .before .before .before .before .before .before .before .before .before .before .before .before .before .before .before .args .at + c .before .before .before .before .before .before .before .boost-size .result) ((c .before .before .before .before .before .before .before .before .before .before .before .before .before .before .before .before .args .at + c .before .before .before .before .before .before .before .boost-size .result) + (c .before .before .before .before .before .before .before .before .query-len .result)) (omega arith) h (c .before .before .before .write-query .kept .1 .1 .1 .1 .1 .1 .1 .1 .1 .0 ∙ r ∙ omega arith) (c .before .before .before .before .before .before .before .before .before .before .before .before .before .before .before .before .pre .1 .5) in (c .before .before .before .before .before .before .before .before .before .before .before .before .before .before .before .before .pre .1 .0, omega (arith, k), ap (λ (x : ℕ). c .before .before .before .before .before .before .before .before .before .before .before .before .before .before .before .before .args .at + x) (c .before .before .before .before .before .before .before .boost-size .ensures), omega arith, (λ x. b .0), b .1)
+write-bracket-put-boost-requires-2 t c κs = let k = kind-in (c .before .before .before .before .before .before .before .before .before .before .before .before .before .before .before .before .args .room .now) (c .before .before .before .before .before .before .before .before .before .before .before .before .before .before .before .before .args .p .n) 10 (c .before .before .before .before .before .before .before .before .before .before .count .given .0 .1 .1 .1 .0) (λ y. omega arith) (bracket-closed (c .before .before .before .before .before .before .before .before .before .before .before .before .before .before .before .before .pre .1 .6 .3) (c .before .before .before .before .before .before .before .before .before .before .before .before .measure-query .ensures .0 (c .before .before .before .before .before .before .before .before .before .before .before .before .before .before .before .before .pre .1 .6 .0) ((c .before .before .before .before .before .before .before .before .before .before .before .before .before .before .before .before .pre .1 .6 .3) .tuned)) (c .before .before .before .before .before .before .before .before .before .before .count .given .1)) in let l = c .before .before .before .before .before .before .before .before .query-len .ensures .0 (bracket-kept (c .before .before .before .before .before .before .before .before .before .before .before .before .before .before .before .before .pre .1 .6 .3) (c .before .before .before .before .before .before .before .before .before .before .before .before .measure-query .ensures .0 (c .before .before .before .before .before .before .before .before .before .before .before .before .before .before .before .before .pre .1 .6 .0) ((c .before .before .before .before .before .before .before .before .before .before .before .before .before .before .before .before .pre .1 .6 .3) .tuned)) (c .before .before .before .before .before .before .before .before .before .before .count .given .1)) (bracket-sums (c .before .before .before .before .before .before .before .before .before .before .before .before .before .before .before .before .pre .1 .6 .3) (c .before .before .before .before .before .before .before .before .before .before .before .before .measure-query .ensures .0 (c .before .before .before .before .before .before .before .before .before .before .before .before .before .before .before .before .pre .1 .6 .0) ((c .before .before .before .before .before .before .before .before .before .before .before .before .before .before .before .before .pre .1 .6 .3) .tuned)) (c .before .before .before .before .before .before .before .before .before .before .count .given .1)) in let R = boost-room (c .before .before .before .before .before .before .before .before .before .before .before .before .before .before .before .before .pre .1 .6 .0) (tokensOf (c .before .before .before .before .before .before .before .before .before .before .before .before .before .before .before .before .args .room .now) (c .before .before .before .before .before .before .before .before .before .before .before .before .before .before .before .before .args .p .n)) (queryOf (bracket-kept (c .before .before .before .before .before .before .before .before .before .before .before .before .before .before .before .before .pre .1 .6 .3) (c .before .before .before .before .before .before .before .before .before .before .before .before .measure-query .ensures .0 (c .before .before .before .before .before .before .before .before .before .before .before .before .before .before .before .before .pre .1 .6 .0) ((c .before .before .before .before .before .before .before .before .before .before .before .before .before .before .before .before .pre .1 .6 .3) .tuned)) (c .before .before .before .before .before .before .before .before .before .before .count .given .1))) ((c .before .before .before .before .before .before .before .before .before .before .count .given .0 .1 .1 .1 .0) + 1) (c .before .before .before .before .before .before .before .before .before .before .before .before .before .before .before .before .args .at) (length (c .before .before .before .before .before .before .before .before .before .before .before .before .before .before .before .before .args .out .now)) (bracket-boost (c .before .before .before .before .before .before .before .before .before .before .before .before .before .before .before .before .pre .1 .6 .3) (c .before .before .before .before .before .before .before .before .before .before .before .before .measure-query .ensures .0 (c .before .before .before .before .before .before .before .before .before .before .before .before .before .before .before .before .pre .1 .6 .0) ((c .before .before .before .before .before .before .before .before .before .before .before .before .before .before .before .before .pre .1 .6 .3) .tuned)) (c .before .before .before .before .before .before .before .before .before .before .count .given .1)) ((c .before .before .before .before .before .before .before .before .before .before .before .before .before .before .before .before .pre .1 .6 .3) .fits) (omega (arith, l, c .before .before .before .before .before .before .if1 .left)) in let h : (c .before .before .before .before .before .before .before .before .before .before .before .before .before .before .before .before .args .at + c .before .before .before .before .before .before .before .boost-size .result) + (c .before .before .before .before .before .before .before .before .query-len .result) ≤ length (c .before .before .before .before .before .before .before .before .before .before .before .before .before .before .before .before .args .out .now) = omega (arith, R, l, c .before .before .before .before .before .before .before .boost-size .ensures) in let r = slice-length (c .before .before .before .before .before .before .before .before .before .before .before .before .before .before .before .before .args .out .now) (c .before .before .before .before .before .before .before .before .before .before .before .before .before .before .before .before .args .at + c .before .before .before .before .before .before .before .boost-size .result) (c .before .before .before .before .before .before .before .before .query-len .result) (omega (arith, h)) in let b = mid-bounds (c .before .before .before .before .before .before .before .before .before .before .before .before .before .before .before .before .args .out .now) (c .before .before .before .write-query .last .1 .1 .1 .1 .1 .0) (c .before .before .before .before .before .before .before .before .before .before .before .before .before .before .before .before .args .at + c .before .before .before .before .before .before .before .boost-size .result) ((c .before .before .before .before .before .before .before .before .before .before .before .before .before .before .before .before .args .at + c .before .before .before .before .before .before .before .boost-size .result) + (c .before .before .before .before .before .before .before .before .query-len .result)) (omega arith) h (c .before .before .before .write-query .kept .1 .1 .1 .1 .1 .0 ∙ r ∙ omega arith) (c .before .before .before .before .before .before .before .before .before .before .before .before .before .before .before .before .pre .1 .5) in (c .before .before .before .before .before .before .before .before .before .before .before .before .before .before .before .before .pre .1 .0, omega (arith, k), ap (λ (x : ℕ). c .before .before .before .before .before .before .before .before .before .before .before .before .before .before .before .before .args .at + x) (c .before .before .before .before .before .before .before .boost-size .ensures), omega arith, (λ x. b .0), b .1)
 
 write-bracket-returns-2 : (t : ℕ) → write-bracket-lts.Need-returns-2 (write-bracket-calls t) (write-bracket-at t) write-bracket.Post
 write-bracket-returns-2 t c = bracket-fault (c .before .before .before .before .before .before .pre .1 .6 .3) (c .before .before .measure-query .ensures .0 (c .before .before .before .before .before .before .pre .1 .6 .0) ((c .before .before .before .before .before .before .pre .1 .6 .3) .tuned)) (c .enum-told .given .1)
 
 write-bracket-same-length-2 : (t : ℕ) → write-bracket-lts.Need-same-length-2 (write-bracket-calls t) (write-bracket-at t) write-bracket.Post
-write-bracket-same-length-2 t c = let l = c .before .before .before .before .before .before .before .before .before .before .before .query-len .ensures .0 (bracket-kept (c .before .before .before .before .before .before .before .before .before .before .before .before .before .before .before .before .before .before .before .pre .1 .6 .3) (c .before .before .before .before .before .before .before .before .before .before .before .before .before .before .before .measure-query .ensures .0 (c .before .before .before .before .before .before .before .before .before .before .before .before .before .before .before .before .before .before .before .pre .1 .6 .0) ((c .before .before .before .before .before .before .before .before .before .before .before .before .before .before .before .before .before .before .before .pre .1 .6 .3) .tuned)) (c .before .before .before .before .before .before .before .before .before .before .before .before .before .count .given .1)) (bracket-sums (c .before .before .before .before .before .before .before .before .before .before .before .before .before .before .before .before .before .before .before .pre .1 .6 .3) (c .before .before .before .before .before .before .before .before .before .before .before .before .before .before .before .measure-query .ensures .0 (c .before .before .before .before .before .before .before .before .before .before .before .before .before .before .before .before .before .before .before .pre .1 .6 .0) ((c .before .before .before .before .before .before .before .before .before .before .before .before .before .before .before .before .before .before .before .pre .1 .6 .3) .tuned)) (c .before .before .before .before .before .before .before .before .before .before .before .before .before .count .given .1)) in let R = boost-room (c .before .before .before .before .before .before .before .before .before .before .before .before .before .before .before .before .before .before .before .pre .1 .6 .0) (tokensOf (c .before .before .before .before .before .before .before .before .before .before .before .before .before .before .before .before .before .before .before .args .room .now) (c .before .before .before .before .before .before .before .before .before .before .before .before .before .before .before .before .before .before .before .args .n)) (queryOf (bracket-kept (c .before .before .before .before .before .before .before .before .before .before .before .before .before .before .before .before .before .before .before .pre .1 .6 .3) (c .before .before .before .before .before .before .before .before .before .before .before .before .before .before .before .measure-query .ensures .0 (c .before .before .before .before .before .before .before .before .before .before .before .before .before .before .before .before .before .before .before .pre .1 .6 .0) ((c .before .before .before .before .before .before .before .before .before .before .before .before .before .before .before .before .before .before .before .pre .1 .6 .3) .tuned)) (c .before .before .before .before .before .before .before .before .before .before .before .before .before .count .given .1))) ((c .before .before .before .before .before .before .before .before .before .before .before .before .before .count .given .0 .1 .1 .1 .0) + 1) (c .before .before .before .before .before .before .before .before .before .before .before .before .before .before .before .before .before .before .before .args .at) (length (c .before .before .before .before .before .before .before .before .before .before .before .before .before .before .before .before .before .before .before .args .out .now)) (bracket-boost (c .before .before .before .before .before .before .before .before .before .before .before .before .before .before .before .before .before .before .before .pre .1 .6 .3) (c .before .before .before .before .before .before .before .before .before .before .before .before .before .before .before .measure-query .ensures .0 (c .before .before .before .before .before .before .before .before .before .before .before .before .before .before .before .before .before .before .before .pre .1 .6 .0) ((c .before .before .before .before .before .before .before .before .before .before .before .before .before .before .before .before .before .before .before .pre .1 .6 .3) .tuned)) (c .before .before .before .before .before .before .before .before .before .before .before .before .before .count .given .1)) ((c .before .before .before .before .before .before .before .before .before .before .before .before .before .before .before .before .before .before .before .pre .1 .6 .3) .fits) (omega (arith, l, c .before .before .before .before .before .before .before .before .before .if1 .left)) in let h : (c .before .before .before .before .before .before .before .before .before .before .before .before .before .before .before .before .before .before .before .args .at + c .before .before .before .before .before .before .before .before .before .before .boost-size .result) + (c .before .before .before .before .before .before .before .before .before .before .before .query-len .result) ≤ length (c .before .before .before .before .before .before .before .before .before .before .before .before .before .before .before .before .before .before .before .args .out .now) = omega (arith, R, l, c .before .before .before .before .before .before .before .before .before .before .boost-size .ensures) in let r = slice-length (c .before .before .before .before .before .before .before .before .before .before .before .before .before .before .before .before .before .before .before .args .out .now) (c .before .before .before .before .before .before .before .before .before .before .before .before .before .before .before .before .before .before .before .args .at + c .before .before .before .before .before .before .before .before .before .before .boost-size .result) (c .before .before .before .before .before .before .before .before .before .before .before .query-len .result) (omega (arith, h)) in c .before .before .put-boost2 .kept .1 .1 .1 .0 ∙ mid-length (c .before .before .before .before .before .before .before .before .before .before .before .before .before .before .before .before .before .before .before .args .out .now) (c .before .before .before .before .before .before .write-query .last .1 .1 .1 .1 .1 .1 .1 .1 .1 .0) (c .before .before .before .before .before .before .before .before .before .before .before .before .before .before .before .before .before .before .before .args .at + c .before .before .before .before .before .before .before .before .before .before .boost-size .result) ((c .before .before .before .before .before .before .before .before .before .before .before .before .before .before .before .before .before .before .before .args .at + c .before .before .before .before .before .before .before .before .before .before .boost-size .result) + (c .before .before .before .before .before .before .before .before .before .before .before .query-len .result)) (omega arith) h (c .before .before .before .before .before .before .write-query .kept .1 .1 .1 .1 .1 .1 .1 .1 .1 .0 ∙ r ∙ omega arith)
+write-bracket-same-length-2 t c = let l = c .before .before .before .before .before .before .before .before .before .before .before .query-len .ensures .0 (bracket-kept (c .before .before .before .before .before .before .before .before .before .before .before .before .before .before .before .before .before .before .before .pre .1 .6 .3) (c .before .before .before .before .before .before .before .before .before .before .before .before .before .before .before .measure-query .ensures .0 (c .before .before .before .before .before .before .before .before .before .before .before .before .before .before .before .before .before .before .before .pre .1 .6 .0) ((c .before .before .before .before .before .before .before .before .before .before .before .before .before .before .before .before .before .before .before .pre .1 .6 .3) .tuned)) (c .before .before .before .before .before .before .before .before .before .before .before .before .before .count .given .1)) (bracket-sums (c .before .before .before .before .before .before .before .before .before .before .before .before .before .before .before .before .before .before .before .pre .1 .6 .3) (c .before .before .before .before .before .before .before .before .before .before .before .before .before .before .before .measure-query .ensures .0 (c .before .before .before .before .before .before .before .before .before .before .before .before .before .before .before .before .before .before .before .pre .1 .6 .0) ((c .before .before .before .before .before .before .before .before .before .before .before .before .before .before .before .before .before .before .before .pre .1 .6 .3) .tuned)) (c .before .before .before .before .before .before .before .before .before .before .before .before .before .count .given .1)) in let R = boost-room (c .before .before .before .before .before .before .before .before .before .before .before .before .before .before .before .before .before .before .before .pre .1 .6 .0) (tokensOf (c .before .before .before .before .before .before .before .before .before .before .before .before .before .before .before .before .before .before .before .args .room .now) (c .before .before .before .before .before .before .before .before .before .before .before .before .before .before .before .before .before .before .before .args .p .n)) (queryOf (bracket-kept (c .before .before .before .before .before .before .before .before .before .before .before .before .before .before .before .before .before .before .before .pre .1 .6 .3) (c .before .before .before .before .before .before .before .before .before .before .before .before .before .before .before .measure-query .ensures .0 (c .before .before .before .before .before .before .before .before .before .before .before .before .before .before .before .before .before .before .before .pre .1 .6 .0) ((c .before .before .before .before .before .before .before .before .before .before .before .before .before .before .before .before .before .before .before .pre .1 .6 .3) .tuned)) (c .before .before .before .before .before .before .before .before .before .before .before .before .before .count .given .1))) ((c .before .before .before .before .before .before .before .before .before .before .before .before .before .count .given .0 .1 .1 .1 .0) + 1) (c .before .before .before .before .before .before .before .before .before .before .before .before .before .before .before .before .before .before .before .args .at) (length (c .before .before .before .before .before .before .before .before .before .before .before .before .before .before .before .before .before .before .before .args .out .now)) (bracket-boost (c .before .before .before .before .before .before .before .before .before .before .before .before .before .before .before .before .before .before .before .pre .1 .6 .3) (c .before .before .before .before .before .before .before .before .before .before .before .before .before .before .before .measure-query .ensures .0 (c .before .before .before .before .before .before .before .before .before .before .before .before .before .before .before .before .before .before .before .pre .1 .6 .0) ((c .before .before .before .before .before .before .before .before .before .before .before .before .before .before .before .before .before .before .before .pre .1 .6 .3) .tuned)) (c .before .before .before .before .before .before .before .before .before .before .before .before .before .count .given .1)) ((c .before .before .before .before .before .before .before .before .before .before .before .before .before .before .before .before .before .before .before .pre .1 .6 .3) .fits) (omega (arith, l, c .before .before .before .before .before .before .before .before .before .if1 .left)) in let h : (c .before .before .before .before .before .before .before .before .before .before .before .before .before .before .before .before .before .before .before .args .at + c .before .before .before .before .before .before .before .before .before .before .boost-size .result) + (c .before .before .before .before .before .before .before .before .before .before .before .query-len .result) ≤ length (c .before .before .before .before .before .before .before .before .before .before .before .before .before .before .before .before .before .before .before .args .out .now) = omega (arith, R, l, c .before .before .before .before .before .before .before .before .before .before .boost-size .ensures) in let r = slice-length (c .before .before .before .before .before .before .before .before .before .before .before .before .before .before .before .before .before .before .before .args .out .now) (c .before .before .before .before .before .before .before .before .before .before .before .before .before .before .before .before .before .before .before .args .at + c .before .before .before .before .before .before .before .before .before .before .boost-size .result) (c .before .before .before .before .before .before .before .before .before .before .before .query-len .result) (omega (arith, h)) in c .before .before .put-boost2 .kept .1 .1 .1 .0 ∙ mid-length (c .before .before .before .before .before .before .before .before .before .before .before .before .before .before .before .before .before .before .before .args .out .now) (c .before .before .before .before .before .before .write-query .last .1 .1 .1 .1 .1 .0) (c .before .before .before .before .before .before .before .before .before .before .before .before .before .before .before .before .before .before .before .args .at + c .before .before .before .before .before .before .before .before .before .before .boost-size .result) ((c .before .before .before .before .before .before .before .before .before .before .before .before .before .before .before .before .before .before .before .args .at + c .before .before .before .before .before .before .before .before .before .before .boost-size .result) + (c .before .before .before .before .before .before .before .before .before .before .before .query-len .result)) (omega arith) h (c .before .before .before .before .before .before .write-query .kept .1 .1 .1 .1 .1 .0 ∙ r ∙ omega arith)
 
 write-bracket-returns-3 : (t : ℕ) → write-bracket-lts.Need-returns-3 (write-bracket-calls t) (write-bracket-at t) write-bracket.Post
-write-bracket-returns-3 t c = let K = rw (c .before .before .before .before .before .before .before .before .before .before .before .before .before .count .given .1) at (c .before .before .before .before .before .before .before .before .before .before .before .before .before .before .before .measure-query .ensures .1) in ((λ st m j W. let l = c .before .before .before .before .before .before .before .before .before .before .before .query-len .ensures .0 (bracket-kept W (c .before .before .before .before .before .before .before .before .before .before .before .before .before .before .before .measure-query .ensures .0 st (W .tuned)) (c .before .before .before .before .before .before .before .before .before .before .before .before .before .count .given .1)) (bracket-sums W (c .before .before .before .before .before .before .before .before .before .before .before .before .before .before .before .measure-query .ensures .0 st (W .tuned)) (c .before .before .before .before .before .before .before .before .before .before .before .before .before .count .given .1)) in let R = boost-room st (tokensOf (c .before .before .before .before .before .before .before .before .before .before .before .before .before .before .before .before .before .before .before .args .room .now) (c .before .before .before .before .before .before .before .before .before .before .before .before .before .before .before .before .before .before .before .args .n)) (queryOf (bracket-kept W (c .before .before .before .before .before .before .before .before .before .before .before .before .before .before .before .measure-query .ensures .0 st (W .tuned)) (c .before .before .before .before .before .before .before .before .before .before .before .before .before .count .given .1))) ((c .before .before .before .before .before .before .before .before .before .before .before .before .before .count .given .0 .1 .1 .1 .0) + 1) (c .before .before .before .before .before .before .before .before .before .before .before .before .before .before .before .before .before .before .before .args .at) (length (c .before .before .before .before .before .before .before .before .before .before .before .before .before .before .before .before .before .before .before .args .out .now)) (bracket-boost W (c .before .before .before .before .before .before .before .before .before .before .before .before .before .before .before .measure-query .ensures .0 st (W .tuned)) (c .before .before .before .before .before .before .before .before .before .before .before .before .before .count .given .1)) (W .fits) (omega (arith, l, c .before .before .before .before .before .before .before .before .before .if1 .left)) in let h : (c .before .before .before .before .before .before .before .before .before .before .before .before .before .before .before .before .before .before .before .args .at + c .before .before .before .before .before .before .before .before .before .before .boost-size .result) + (c .before .before .before .before .before .before .before .before .before .before .before .query-len .result) ≤ length (c .before .before .before .before .before .before .before .before .before .before .before .before .before .before .before .before .before .before .before .args .out .now) = omega (arith, R, l, c .before .before .before .before .before .before .before .before .before .before .boost-size .ensures) in let r = slice-length (c .before .before .before .before .before .before .before .before .before .before .before .before .before .before .before .before .before .before .before .args .out .now) (c .before .before .before .before .before .before .before .before .before .before .before .before .before .before .before .before .before .before .before .args .at + c .before .before .before .before .before .before .before .before .before .before .boost-size .result) (c .before .before .before .before .before .before .before .before .before .before .before .query-len .result) (omega (arith, h)) in c .before .before .put-boost2 .ensures .0 st (queryOf (bracket-kept W (c .before .before .before .before .before .before .before .before .before .before .before .before .before .before .before .measure-query .ensures .0 st (W .tuned)) (c .before .before .before .before .before .before .before .before .before .before .before .before .before .count .given .1))) m j (c .before .before .before .before .before .before .before .before .before .before .before .before .before .before .before .before .before .before .before .args .out .now) (bracket-boost W (c .before .before .before .before .before .before .before .before .before .before .before .before .before .before .before .measure-query .ensures .0 st (W .tuned)) (c .before .before .before .before .before .before .before .before .before .before .before .before .before .count .given .1)) (mid-put (c .before .before .before .before .before .before .before .before .before .before .before .before .before .before .before .before .before .before .before .args .out .now) (c .before .before .before .before .before .before .write-query .last .1 .1 .1 .1 .1 .1 .1 .1 .1 .0) (madeBytes (queryOf (bracket-kept W (c .before .before .before .before .before .before .before .before .before .before .before .before .before .before .before .measure-query .ensures .0 st (W .tuned)) (c .before .before .before .before .before .before .before .before .before .before .before .before .before .count .given .1)))) (c .before .before .before .before .before .before .before .before .before .before .before .before .before .before .before .before .before .before .before .args .at + c .before .before .before .before .before .before .before .before .before .before .boost-size .result) (c .before .before .before .before .before .before .before .before .before .before .before .query-len .result) h (c .before .before .before .before .before .before .write-query .ensures st (bracket-kept W (c .before .before .before .before .before .before .before .before .before .before .before .before .before .before .before .measure-query .ensures .0 st (W .tuned)) (c .before .before .before .before .before .before .before .before .before .before .before .before .before .count .given .1)) (c .before .before .before .before .before .before .before .before .before .before .before .before .before .count .given .0 .1 .1 .1 .0) (bracket-query W (c .before .before .before .before .before .before .before .before .before .before .before .before .before .before .before .measure-query .ensures .0 st (W .tuned)) (c .before .before .before .before .before .before .before .before .before .before .before .before .before .count .given .1) (c .before .before .before .before .before .before .before .before .is-alone .result) _ (c .before .before .before .before .before .before .before .before .is-alone .ensures (bracket-kept W (c .before .before .before .before .before .before .before .before .before .before .before .before .before .before .before .measure-query .ensures .0 st (W .tuned)) (c .before .before .before .before .before .before .before .before .before .before .before .before .before .count .given .1)) (c .before .before .before .before .before .before .before .before .before .before .before .before .before .count .given .0 .1 .1 .0) (bracket-sums W (c .before .before .before .before .before .before .before .before .before .before .before .before .before .before .before .measure-query .ensures .0 st (W .tuned)) (c .before .before .before .before .before .before .before .before .before .before .before .before .before .count .given .1))) (r ∙ l))) l) (sym (mid-length (c .before .before .before .before .before .before .before .before .before .before .before .before .before .before .before .before .before .before .before .args .out .now) (c .before .before .before .before .before .before .write-query .last .1 .1 .1 .1 .1 .1 .1 .1 .1 .0) (c .before .before .before .before .before .before .before .before .before .before .before .before .before .before .before .before .before .before .before .args .at + c .before .before .before .before .before .before .before .before .before .before .boost-size .result) ((c .before .before .before .before .before .before .before .before .before .before .before .before .before .before .before .before .before .before .before .args .at + c .before .before .before .before .before .before .before .before .before .before .boost-size .result) + (c .before .before .before .before .before .before .before .before .before .before .before .query-len .result)) (omega arith) h (c .before .before .before .before .before .before .write-query .kept .1 .1 .1 .1 .1 .1 .1 .1 .1 .0 ∙ r ∙ omega arith)))), (omega (arith, K .0, c .before .before .put-boost2 .ensures .1), c .before .before .put-boost2 .ensures .1 .1))
+write-bracket-returns-3 t c = let K = rw (c .before .before .before .before .before .before .before .before .before .before .before .before .before .count .given .1) at (c .before .before .before .before .before .before .before .before .before .before .before .before .before .before .before .measure-query .ensures .1) in ((λ st m j W. let l = c .before .before .before .before .before .before .before .before .before .before .before .query-len .ensures .0 (bracket-kept W (c .before .before .before .before .before .before .before .before .before .before .before .before .before .before .before .measure-query .ensures .0 st (W .tuned)) (c .before .before .before .before .before .before .before .before .before .before .before .before .before .count .given .1)) (bracket-sums W (c .before .before .before .before .before .before .before .before .before .before .before .before .before .before .before .measure-query .ensures .0 st (W .tuned)) (c .before .before .before .before .before .before .before .before .before .before .before .before .before .count .given .1)) in let R = boost-room st (tokensOf (c .before .before .before .before .before .before .before .before .before .before .before .before .before .before .before .before .before .before .before .args .room .now) (c .before .before .before .before .before .before .before .before .before .before .before .before .before .before .before .before .before .before .before .args .p .n)) (queryOf (bracket-kept W (c .before .before .before .before .before .before .before .before .before .before .before .before .before .before .before .measure-query .ensures .0 st (W .tuned)) (c .before .before .before .before .before .before .before .before .before .before .before .before .before .count .given .1))) ((c .before .before .before .before .before .before .before .before .before .before .before .before .before .count .given .0 .1 .1 .1 .0) + 1) (c .before .before .before .before .before .before .before .before .before .before .before .before .before .before .before .before .before .before .before .args .at) (length (c .before .before .before .before .before .before .before .before .before .before .before .before .before .before .before .before .before .before .before .args .out .now)) (bracket-boost W (c .before .before .before .before .before .before .before .before .before .before .before .before .before .before .before .measure-query .ensures .0 st (W .tuned)) (c .before .before .before .before .before .before .before .before .before .before .before .before .before .count .given .1)) (W .fits) (omega (arith, l, c .before .before .before .before .before .before .before .before .before .if1 .left)) in let h : (c .before .before .before .before .before .before .before .before .before .before .before .before .before .before .before .before .before .before .before .args .at + c .before .before .before .before .before .before .before .before .before .before .boost-size .result) + (c .before .before .before .before .before .before .before .before .before .before .before .query-len .result) ≤ length (c .before .before .before .before .before .before .before .before .before .before .before .before .before .before .before .before .before .before .before .args .out .now) = omega (arith, R, l, c .before .before .before .before .before .before .before .before .before .before .boost-size .ensures) in let r = slice-length (c .before .before .before .before .before .before .before .before .before .before .before .before .before .before .before .before .before .before .before .args .out .now) (c .before .before .before .before .before .before .before .before .before .before .before .before .before .before .before .before .before .before .before .args .at + c .before .before .before .before .before .before .before .before .before .before .boost-size .result) (c .before .before .before .before .before .before .before .before .before .before .before .query-len .result) (omega (arith, h)) in c .before .before .put-boost2 .ensures .0 st (queryOf (bracket-kept W (c .before .before .before .before .before .before .before .before .before .before .before .before .before .before .before .measure-query .ensures .0 st (W .tuned)) (c .before .before .before .before .before .before .before .before .before .before .before .before .before .count .given .1))) m j (c .before .before .before .before .before .before .before .before .before .before .before .before .before .before .before .before .before .before .before .args .out .now) (bracket-boost W (c .before .before .before .before .before .before .before .before .before .before .before .before .before .before .before .measure-query .ensures .0 st (W .tuned)) (c .before .before .before .before .before .before .before .before .before .before .before .before .before .count .given .1)) (mid-put (c .before .before .before .before .before .before .before .before .before .before .before .before .before .before .before .before .before .before .before .args .out .now) (c .before .before .before .before .before .before .write-query .last .1 .1 .1 .1 .1 .0) (madeBytes (queryOf (bracket-kept W (c .before .before .before .before .before .before .before .before .before .before .before .before .before .before .before .measure-query .ensures .0 st (W .tuned)) (c .before .before .before .before .before .before .before .before .before .before .before .before .before .count .given .1)))) (c .before .before .before .before .before .before .before .before .before .before .before .before .before .before .before .before .before .before .before .args .at + c .before .before .before .before .before .before .before .before .before .before .boost-size .result) (c .before .before .before .before .before .before .before .before .before .before .before .query-len .result) h (c .before .before .before .before .before .before .write-query .ensures st (bracket-kept W (c .before .before .before .before .before .before .before .before .before .before .before .before .before .before .before .measure-query .ensures .0 st (W .tuned)) (c .before .before .before .before .before .before .before .before .before .before .before .before .before .count .given .1)) (c .before .before .before .before .before .before .before .before .before .before .before .before .before .count .given .0 .1 .1 .1 .0) (bracket-query W (c .before .before .before .before .before .before .before .before .before .before .before .before .before .before .before .measure-query .ensures .0 st (W .tuned)) (c .before .before .before .before .before .before .before .before .before .before .before .before .before .count .given .1) (c .before .before .before .before .before .before .before .before .is-alone .result) _ (c .before .before .before .before .before .before .before .before .is-alone .ensures (bracket-kept W (c .before .before .before .before .before .before .before .before .before .before .before .before .before .before .before .measure-query .ensures .0 st (W .tuned)) (c .before .before .before .before .before .before .before .before .before .before .before .before .before .count .given .1)) (c .before .before .before .before .before .before .before .before .before .before .before .before .before .count .given .0 .1 .1 .0) (bracket-sums W (c .before .before .before .before .before .before .before .before .before .before .before .before .before .before .before .measure-query .ensures .0 st (W .tuned)) (c .before .before .before .before .before .before .before .before .before .before .before .before .before .count .given .1))) (r ∙ l))) l) (sym (mid-length (c .before .before .before .before .before .before .before .before .before .before .before .before .before .before .before .before .before .before .before .args .out .now) (c .before .before .before .before .before .before .write-query .last .1 .1 .1 .1 .1 .0) (c .before .before .before .before .before .before .before .before .before .before .before .before .before .before .before .before .before .before .before .args .at + c .before .before .before .before .before .before .before .before .before .before .boost-size .result) ((c .before .before .before .before .before .before .before .before .before .before .before .before .before .before .before .before .before .before .before .args .at + c .before .before .before .before .before .before .before .before .before .before .boost-size .result) + (c .before .before .before .before .before .before .before .before .before .before .before .query-len .result)) (omega arith) h (c .before .before .before .before .before .before .write-query .kept .1 .1 .1 .1 .1 .0 ∙ r ∙ omega arith)))), (omega (arith, K .0, c .before .before .put-boost2 .ensures .1), c .before .before .put-boost2 .ensures .1 .1))
 
 write-clause-clause-start-requires : (t : ℕ) → write-clause-lts.Need-clause-start-requires (write-clause-calls t) (write-clause-at t) write-clause.Post
 write-clause-clause-start-requires t c κs = (c .before .before .before .pre .1 .0, c .before .before .before .pre .1 .2)
@@ -179,54 +179,54 @@ write-clause-enum-known-from : (t : ℕ) → write-clause-lts.Need-enum-known-fr
 write-clause-enum-known-from t c = search needs
 
 write-clause-is-at-requires : (t : ℕ) → write-clause-lts.Need-is-at-requires (write-clause-calls t) (write-clause-at t) write-clause.Post
-write-clause-is-at-requires t c κs = (c .before .before .before .before .before .before .before .pre .1 .0 .few, c .before .before .before .before .before .before .before .pre .1 .0 .least)
+write-clause-is-at-requires t c κs = (c .before .before .before .before .before .before .before .before .pre .1 .0 .few, c .before .before .before .before .before .before .before .before .pre .1 .0 .least)
 
 write-clause-is-at-requires-2 : (t : ℕ) → write-clause-lts.Need-is-at-requires-2 (write-clause-calls t) (write-clause-at t) write-clause.Post
-write-clause-is-at-requires-2 t c κs = (c .before .before .before .before .before .before .before .before .before .pre .1 .0 .few, c .before .before .before .before .before .before .before .before .before .pre .1 .0 .least)
+write-clause-is-at-requires-2 t c κs = (c .before .before .before .before .before .before .before .before .before .before .pre .1 .0 .few, c .before .before .before .before .before .before .before .before .before .before .pre .1 .0 .least)
 
 write-clause-write-leaf-requires : (t : ℕ) → write-clause-lts.Need-write-leaf-requires (write-clause-calls t) (write-clause-at t) write-clause.Post
-write-clause-write-leaf-requires t c κs = let S1 = rw (c .before .before .before .before .before .from .given .1) at (c .before .before .before .before .before .before .before .clause-start .ensures) in let z = clause-leaf S1 (c .before .before .before .before .before .before .before .before .before .before .before .pre .1 .6 .3) (told-no (c .before .before .before .is-at .ensures) (c .before .before .if1 .taken)) in (c .before .before .before .before .before .before .before .before .before .before .before .pre .1 .0, S1 .fielded (c .before .before .before .before .before .before .before .before .before .before .before .args .default .now) (c .before .before .before .before .before .before .before .before .before .before .before .pre .1 .1), z .1, c .before .before .before .before .before .before .before .before .before .before .before .pre .1 .4, c .before .before .before .before .before .before .before .before .before .before .before .pre .1 .5, c .before .is-at2 .ensures, (c .before .before .before .before .before .before .before .before .before .before .before .pre .1 .6 .0, c .before .before .before .before .before .before .before .before .before .before .before .pre .1 .6 .1, c .before .before .before .before .before .before .before .before .before .before .before .pre .1 .6 .2, z .0))
+write-clause-write-leaf-requires t c κs = let S1 = rw (c .before .before .before .before .before .before .from .given .1) at (c .before .before .before .before .before .before .before .before .clause-start .ensures) in let z = clause-leaf S1 (c .before .before .before .before .before .before .before .before .before .before .before .before .pre .1 .6 .3) (told-no (c .before .before .before .is-at .ensures) (c .before .before .if1 .taken)) in (c .before .before .before .before .before .before .before .before .before .before .before .before .pre .1 .0, S1 .fielded (c .before .before .before .before .before .before .before .before .before .before .before .before .args .default .now) (c .before .before .before .before .before .before .before .before .before .before .before .before .pre .1 .1), z .1, c .before .before .before .before .before .before .before .before .before .before .before .before .pre .1 .4, c .before .before .before .before .before .before .before .before .before .before .before .before .pre .1 .5, c .before .is-at2 .ensures, (c .before .before .before .before .before .before .before .before .before .before .before .before .pre .1 .6 .0, c .before .before .before .before .before .before .before .before .before .before .before .before .pre .1 .6 .1, c .before .before .before .before .before .before .before .before .before .before .before .before .pre .1 .6 .2, z .0))
 
 write-clause-same-length : (t : ℕ) → write-clause-lts.Need-same-length (write-clause-calls t) (write-clause-at t) write-clause.Post
-write-clause-same-length t c = c .before .before .write-leaf .kept .1 .1 .1 .1 .1 .1 .1 .1 .0
+write-clause-same-length t c = c .before .before .write-leaf .kept .1 .1 .1 .1 .1 .0
 
 write-clause-returns : (t : ℕ) → write-clause-lts.Need-returns (write-clause-calls t) (write-clause-at t) write-clause.Post
-write-clause-returns t c = let S1 = rw (c .before .before .before .before .before .before .before .before .from .given .1) at (c .before .before .before .before .before .before .before .before .before .before .clause-start .ensures) in ((λ st m j W. c .before .before .write-leaf .ensures .0 st m j (clause-leaf S1 W (told-no (c .before .before .before .before .before .before .is-at .ensures) (c .before .before .before .before .before .if1 .taken)) .0)), (omega (arith, S1 .low, c .before .before .write-leaf .ensures .1), c .before .before .write-leaf .ensures .1 .1))
+write-clause-returns t c = let S1 = rw (c .before .before .before .before .before .before .before .before .before .from .given .1) at (c .before .before .before .before .before .before .before .before .before .before .before .clause-start .ensures) in ((λ st m j W. c .before .before .write-leaf .ensures .0 st m j (clause-leaf S1 W (told-no (c .before .before .before .before .before .before .is-at .ensures) (c .before .before .before .before .before .if1 .taken)) .0)), (omega (arith, S1 .low, c .before .before .write-leaf .ensures .1), c .before .before .write-leaf .ensures .1 .1))
 
 write-clause-add-write-bracket : (t : ℕ) → write-clause-lts.Need-add-write-bracket (write-clause-calls t) (write-clause-at t) write-clause.Post
-write-clause-add-write-bracket t c = omega (arith, c .before .before .before .before .before .before .before .before .before .pre .1 .3)
+write-clause-add-write-bracket t c = omega (arith, c .before .before .before .before .before .before .before .before .pre .1 .3)
 
 write-clause-add-write-bracket-2 : (t : ℕ) → write-clause-lts.Need-add-write-bracket-2 (write-clause-calls t) (write-clause-at t) write-clause.Post
-write-clause-add-write-bracket-2 t c = let S1 = rw (c .before .before .before .from .given .1) at (c .before .before .before .before .before .clause-start .ensures) in omega (arith, S1 .high, c .before .before .before .before .before .before .before .before .before .pre .1 .2)
+write-clause-add-write-bracket-2 t c = let S1 = rw (c .before .before .before .before .from .given .1) at (c .before .before .before .before .before .before .clause-start .ensures) in omega (arith, S1 .high, c .before .before .before .before .before .before .before .before .before .before .pre .1 .2)
 
 write-clause-write-bracket-requires : (t : ℕ) → write-clause-lts.Need-write-bracket-requires (write-clause-calls t) (write-clause-at t) write-clause.Post
-write-clause-write-bracket-requires t c κs = let S1 = rw (c .before .before .before .before .from .given .1) at (c .before .before .before .before .before .before .clause-start .ensures) in let k = (kind-in (c .before .before .before .before .before .before .before .before .before .before .args .room .now) (c .before .before .before .before .before .before .before .before .before .before .args .n) 9 (c .before .before .before .before .from .given .0 .1 .1 .0) (λ y. omega arith) (told-yes (c .before .before .is-at .ensures) (c .before .if1 .left))) in (omega (arith, S1 .low, k, c .before .before .before .before .before .before .before .before .before .before .pre .0), (c .before .before .before .before .before .before .before .before .before .before .pre .1 .0, S1 .fielded (c .before .before .before .before .before .before .before .before .before .before .args .default .now) (c .before .before .before .before .before .before .before .before .before .before .pre .1 .1), omega (arith, k), omega (arith, clause-depth S1 (c .before .before .before .before .before .before .before .before .before .before .pre .1 .6 .3) (told-yes (c .before .before .is-at .ensures) (c .before .if1 .left))), c .before .before .before .before .before .before .before .before .before .before .pre .1 .4, c .before .before .before .before .before .before .before .before .before .before .pre .1 .5, (c .before .before .before .before .before .before .before .before .before .before .pre .1 .6 .0, c .before .before .before .before .before .before .before .before .before .before .pre .1 .6 .1, c .before .before .before .before .before .before .before .before .before .before .pre .1 .6 .2, clause-bracket S1 (c .before .before .before .before .before .before .before .before .before .before .pre .1 .6 .3) (told-yes (c .before .before .is-at .ensures) (c .before .if1 .left)))))
+write-clause-write-bracket-requires t c κs = let S1 = rw (c .before .before .before .before .before .from .given .1) at (c .before .before .before .before .before .before .before .clause-start .ensures) in let k = (kind-in (c .before .before .before .before .before .before .before .before .before .before .before .args .room .now) (c .before .before .before .before .before .before .before .before .before .before .before .args .p .n) 9 (c .before .before .before .before .before .from .given .0 .1 .1 .0) (λ y. omega arith) (told-yes (c .before .before .is-at .ensures) (c .before .if1 .left))) in (omega (arith, S1 .low, k, c .before .before .before .before .before .before .before .before .before .before .before .pre .0), (c .before .before .before .before .before .before .before .before .before .before .before .pre .1 .0, S1 .fielded (c .before .before .before .before .before .before .before .before .before .before .before .args .default .now) (c .before .before .before .before .before .before .before .before .before .before .before .pre .1 .1), omega (arith, k), omega (arith, clause-depth S1 (c .before .before .before .before .before .before .before .before .before .before .before .pre .1 .6 .3) (told-yes (c .before .before .is-at .ensures) (c .before .if1 .left))), c .before .before .before .before .before .before .before .before .before .before .before .pre .1 .4, c .before .before .before .before .before .before .before .before .before .before .before .pre .1 .5, (c .before .before .before .before .before .before .before .before .before .before .before .pre .1 .6 .0, c .before .before .before .before .before .before .before .before .before .before .before .pre .1 .6 .1, c .before .before .before .before .before .before .before .before .before .before .before .pre .1 .6 .2, clause-bracket S1 (c .before .before .before .before .before .before .before .before .before .before .before .pre .1 .6 .3) (told-yes (c .before .before .is-at .ensures) (c .before .if1 .left)))))
 
 write-clause-returns-2 : (t : ℕ) → write-clause-lts.Need-returns-2 (write-clause-calls t) (write-clause-at t) write-clause.Post
 write-clause-returns-2 t c = let E = rw (c .enum-told .given .1) at (c .before .before .clause-start .ensures) in no-got (sym (E (c .before .before .before .before .before .before .pre .1 .6 .0) _ _ _) ∙ (c .before .before .before .before .before .before .pre .1 .6 .3) .is .1 ((c .before .before .before .before .before .before .pre .1 .6 .3) .is .0) (omega arith))
 
 write-clause-same-length-2 : (t : ℕ) → write-clause-lts.Need-same-length-2 (write-clause-calls t) (write-clause-at t) write-clause.Post
-write-clause-same-length-2 t c = c .before .before .write-bracket .kept .1 .1 .1 .1 .1 .1 .1 .1 .0
+write-clause-same-length-2 t c = c .before .before .write-bracket .kept .1 .1 .1 .1 .0
 
 write-clause-returns-3 : (t : ℕ) → write-clause-lts.Need-returns-3 (write-clause-calls t) (write-clause-at t) write-clause.Post
-write-clause-returns-3 t c = let S1 = rw (c .before .before .before .before .before .before .before .from .given .1) at (c .before .before .before .before .before .before .before .before .before .clause-start .ensures) in ((λ st m j W. c .before .before .write-bracket .ensures .0 st m j (clause-bracket S1 W (told-yes (c .before .before .before .before .before .is-at .ensures) (c .before .before .before .before .if1 .left)))), (omega (arith, S1 .low, c .before .before .write-bracket .ensures .1), c .before .before .write-bracket .ensures .1 .1))
+write-clause-returns-3 t c = let S1 = rw (c .before .before .before .before .before .before .before .before .from .given .1) at (c .before .before .before .before .before .before .before .before .before .before .clause-start .ensures) in ((λ st m j W. c .before .before .write-bracket .ensures .0 st m j (clause-bracket S1 W (told-yes (c .before .before .before .before .before .is-at .ensures) (c .before .before .before .before .if1 .left)))), (omega (arith, S1 .low, c .before .before .write-bracket .ensures .1), c .before .before .write-bracket .ensures .1 .1))
 
 abbrev write-query-Inv-loop : write-query-lts.InvT-loop
-write-query-Inv-loop room n default operator from analyzer depth at alone out₀ w₀ last₀ i₀ out w last i =
+write-query-Inv-loop room default p at alone out₀ w₀ last₀ i₀ out w last i =
     (at ≤ i)
-    × (i ≤ n)
+    × (i ≤ p .n)
     × (length out ≡ length out₀)
-    × ((st : Setup) (cs : Clauses) (j : ℕ) → QueryToWrite room n default operator from analyzer depth at alone (length out₀) st cs j
-    → Going alone st (tokensOf room n) (nameFrom room default from) depth cs j out₀ i w last out)
+    × ((st : Setup) (cs : Clauses) (j : ℕ) → QueryToWrite room (p .n) default (p .operator) (p .from) (p .analyzer) (p .depth) at alone (length out₀) st cs j
+    → Going alone st (tokensOf room (p .n)) (nameFrom room default (p .from)) (p .depth) cs j out₀ i w last out)
 
 abbrev write-query-μ-loop : write-query-lts.MeasureT-loop
-write-query-μ-loop room n default operator from analyzer depth at alone out₀ w₀ last₀ i₀ out w last i = n - i
+write-query-μ-loop room default p at alone out₀ w₀ last₀ i₀ out w last i = p .n - i
 
 write-query-put-query-front-requires : (t : ℕ) → write-query-lts.Need-put-query-front-requires (write-query-calls t) (write-query-at t) write-query.Post write-query-Inv-loop write-query-μ-loop
 write-query-put-query-front-requires t c κs = (going-room (c .before .before .before .before .args .alone) (c .before .before .before .before .pre .1 .6 .1) (length (c .before .before .before .before .args .out .now)) ((c .before .before .before .before .pre .1 .6 .3) .alone-is) ((c .before .before .before .before .pre .1 .6 .3) .fills) (c .before .before .before .before .pre .1 .4), c .before .before .before .before .pre .1 .5)
 
 write-query-loop-holds : (t : ℕ) → write-query-lts.Need-loop-holds (write-query-calls t) (write-query-at t) write-query.Post write-query-Inv-loop write-query-μ-loop
-write-query-loop-holds t c = (omega arith, c .before .before .before .before .before .before .before .pre .1 .2, refl, λ st cs j W. going-start (c .before .before .before .before .before .before .before .args .alone) st (tokensOf (c .before .before .before .before .before .before .before .args .room .now) (c .before .before .before .before .before .before .before .args .n)) (nameFrom (c .before .before .before .before .before .before .before .args .room .now) (c .before .before .before .before .before .before .before .args .default .now) (c .before .before .before .before .before .before .before .args .from)) (c .before .before .before .before .before .before .before .args .depth) cs j (c .before .before .before .before .before .before .before .args .out .now) (c .before .before .put-query-front .last .0) (c .before .before .before .before .before .before .before .args .at) (c .before .before .put-query-front .result) (W .alone-is) (W .fills) (omega (arith, c .before .before .put-query-front .kept .0, c .before .before .before .before .before .before .before .pre .1 .4)) (c .before .before .put-query-front .kept .0) (c .before .before .put-query-front .ensures) (W .is))
+write-query-loop-holds t c = (omega arith, c .before .before .before .before .before .before .before .pre .1 .2, refl, λ st cs j W. going-start (c .before .before .before .before .before .before .before .args .alone) st (tokensOf (c .before .before .before .before .before .before .before .args .room .now) (c .before .before .before .before .before .before .before .args .p .n)) (nameFrom (c .before .before .before .before .before .before .before .args .room .now) (c .before .before .before .before .before .before .before .args .default .now) (c .before .before .before .before .before .before .before .args .p .from)) (c .before .before .before .before .before .before .before .args .p .depth) cs j (c .before .before .before .before .before .before .before .args .out .now) (c .before .before .put-query-front .last .0) (c .before .before .before .before .before .before .before .args .at) (c .before .before .put-query-front .result) (W .alone-is) (W .fills) (omega (arith, c .before .before .put-query-front .kept .0, c .before .before .before .before .before .before .before .pre .1 .4)) (c .before .before .put-query-front .kept .0) (c .before .before .put-query-front .ensures) (W .is))
 
 write-query-more-at-requires : (t : ℕ) → write-query-lts.Need-more-at-requires (write-query-calls t) (write-query-at t) write-query.Post write-query-Inv-loop write-query-μ-loop
 write-query-more-at-requires t c κs = (c .before .before .before .before .before .before .before .before .pre .1 .0 .few, c .before .before .before .before .before .before .before .before .pre .1 .0 .least)
@@ -250,34 +250,34 @@ write-query-body-start-requires : (t : ℕ) → write-query-lts.Need-body-start-
 write-query-body-start-requires t c κs = let G = c .before .before .before .before .before .before .before .before .before .before .loop .inv .3 (c .before .before .before .before .before .before .before .before .before .before .before .before .before .before .before .before .before .before .pre .1 .6 .0) (c .before .before .before .before .before .before .before .before .before .before .before .before .before .before .before .before .before .before .pre .1 .6 .1) (c .before .before .before .before .before .before .before .before .before .before .before .before .before .before .before .before .before .before .pre .1 .6 .2) (record { tuned = (c .before .before .before .before .before .before .before .before .before .before .before .before .before .before .before .before .before .before .pre .1 .6 .3) .tuned; is = (c .before .before .before .before .before .before .before .before .before .before .before .before .before .before .before .before .before .before .pre .1 .6 .3) .is; alone-is = (c .before .before .before .before .before .before .before .before .before .before .before .before .before .before .before .before .before .before .pre .1 .6 .3) .alone-is; fills = c .before .before .before .before .before .before .before .before .before .before .before .before .before .put-query-front .kept .0 ∙ (c .before .before .before .before .before .before .before .before .before .before .before .before .before .before .before .before .before .before .pre .1 .6 .3) .fills }) in omega (arith, going-wide (c .before .before .before .before .before .before .before .before .before .before .before .before .before .before .before .before .before .before .args .alone) G, c .before .before .before .before .before .before .before .before .before .before .before .before .before .put-query-front .kept .0, c .before .before .before .before .before .before .before .before .before .before .before .before .before .before .before .before .before .before .pre .1 .5)
 
 write-query-write-clause-requires : (t : ℕ) → write-query-lts.Need-write-clause-requires (write-query-calls t) (write-query-at t) write-query.Post write-query-Inv-loop write-query-μ-loop
-write-query-write-clause-requires t c κs = let L = led (c .before .before .before .before .before .before .before .before .before .conjunction-at .result) (c .before .before .before .before .before .before .before .modifier-at .result) (c .before .before .before .before .before .before .before .before .before .before .before .before .loop .i) (c .before .before .before .before .before .before .before .before .after .result) (c .before .before .before .before .before .before .after2 .result) (c .before .before .before .before .before .before .before .before .after .ensures .0) (c .before .before .before .before .before .before .after2 .ensures .1) in let T : Turned (c .before .before .before .before .before .before .before .before .before .before .before .before .before .before .before .before .before .before .before .before .pre .1 .6 .0) (tokensOf (c .before .before .before .before .before .before .before .before .before .before .before .before .before .before .before .before .before .before .before .before .args .room .now) (c .before .before .before .before .before .before .before .before .before .before .before .before .before .before .before .before .before .before .before .before .args .n)) (c .before .before .before .before .before .before .before .before .before .before .before .before .loop .i) (c .before .before .before .before .before .before .before .before .before .before .before .before .loop .w) (c .before .before .before .before .before .before .before .before .before .before .before .before .loop .last) (c .before .before .before .before .before .before .before .before .before .before .before .before .before .before .before .before .before .before .before .before .args .operator) (c .before .before .before .before .before .before .before .before .before .before .before .before .loop .out) (c .before .before .before .before .before .before .before .before .before .conjunction-at .result) (c .before .before .before .before .before .before .before .before .after .result) (c .before .before .before .before .before .before .before .modifier-at .result) (c .before .before .before .before .before .before .after2 .result) (c .before .before .before .before .touch-last .last .0) = record { joins = (c .before .before .before .before .before .before .before .before .before .before .before .before .before .before .before .before .before .before .before .before .pre .1 .6 .3) .tuned .joins; goes = not-true _ (sym (c .before .before .before .before .before .before .before .before .before .before .before .more-at .ensures) ∙ c .before .before .before .before .before .before .before .before .before .before .if1 .taken); lead = λ acc e. record { joins = c .before .before .before .before .before .before .before .before .before .conjunction-at .ensures acc e; first = c .before .before .before .before .before .before .before .before .after .ensures .0; modifies = c .before .before .before .before .before .before .before .modifier-at .ensures; second = c .before .before .before .before .before .before .after2 .ensures .1 }; touches = c .before .before .before .before .touch-last .ensures; same = c .before .before .before .before .touch-last .kept .0 } in let G = c .before .before .before .before .before .before .before .before .before .before .before .before .loop .inv .3 (c .before .before .before .before .before .before .before .before .before .before .before .before .before .before .before .before .before .before .before .before .pre .1 .6 .0) (c .before .before .before .before .before .before .before .before .before .before .before .before .before .before .before .before .before .before .before .before .pre .1 .6 .1) (c .before .before .before .before .before .before .before .before .before .before .before .before .before .before .before .before .before .before .before .before .pre .1 .6 .2) (record { tuned = (c .before .before .before .before .before .before .before .before .before .before .before .before .before .before .before .before .before .before .before .before .pre .1 .6 .3) .tuned; is = (c .before .before .before .before .before .before .before .before .before .before .before .before .before .before .before .before .before .before .before .before .pre .1 .6 .3) .is; alone-is = (c .before .before .before .before .before .before .before .before .before .before .before .before .before .before .before .before .before .before .before .before .pre .1 .6 .3) .alone-is; fills = c .before .before .before .before .before .before .before .before .before .before .before .before .before .before .before .put-query-front .kept .0 ∙ (c .before .before .before .before .before .before .before .before .before .before .before .before .before .before .before .before .before .before .before .before .pre .1 .6 .3) .fills }) in let z = going-clause T (c .before .before .before .before .before .before .before .before .before .before .before .before .before .before .before .before .before .before .before .before .args .alone) G in (omega (arith, L .one, L .two, c .before .before .before .before .before .before .before .before .before .before .before .before .loop .inv .0, c .before .before .before .before .before .before .before .before .before .before .before .before .before .before .before .before .before .before .before .before .pre .0), (c .before .before .before .before .before .before .before .before .before .before .before .before .before .before .before .before .before .before .before .before .pre .1 .0, c .before .before .before .before .before .before .before .before .before .before .before .before .before .before .before .before .before .before .before .before .pre .1 .1, omega (arith, L .one, L .two, c .before .before .before .before .before .before .before .before .before .before .before .before .loop .inv .1, c .before .before .before .before .before .before .before .before .before .before .before .before .before .before .before .before .before .before .before .before .pre .1 .0 .few), c .before .before .before .before .before .before .before .before .before .before .before .before .before .before .before .before .before .before .before .before .pre .1 .3, omega (arith, going-wide (c .before .before .before .before .before .before .before .before .before .before .before .before .before .before .before .before .before .before .before .before .args .alone) G, c .before .before .before .before .before .before .before .before .before .before .before .before .before .before .before .put-query-front .kept .0, c .before .before .before .before .before .before .before .before .before .before .before .before .before .before .before .before .before .before .before .before .pre .1 .5, body-near (c .before .before .before .before .before .before .before .before .before .before .before .before .before .before .before .before .before .before .before .before .args .alone) (c .before .before .before .before .before .before .before .before .before .before .before .before .loop .w), c .before .body-start .ensures), omega (arith, c .before .before .before .before .touch-last .kept .0, c .before .before .before .before .before .before .before .before .before .before .before .before .loop .inv .2, c .before .before .before .before .before .before .before .before .before .before .before .before .before .before .before .put-query-front .kept .0, c .before .before .before .before .before .before .before .before .before .before .before .before .before .before .before .before .before .before .before .before .pre .1 .5), ((c .before .before .before .before .before .before .before .before .before .before .before .before .before .before .before .before .before .before .before .before .pre .1 .6 .0), z .0, z .1, (record { tuned = (c .before .before .before .before .before .before .before .before .before .before .before .before .before .before .before .before .before .before .before .before .pre .1 .6 .3) .tuned; is = z .2; fits = (λ h. omega (arith, z .3 h, c .before .body-start .ensures, c .before .before .before .before .touch-last .kept .0, c .before .before .before .before .before .before .before .before .before .before .before .before .loop .inv .2)) }))))
+write-query-write-clause-requires t c κs = let L = led (c .before .before .before .before .before .before .before .before .before .conjunction-at .result) (c .before .before .before .before .before .before .before .modifier-at .result) (c .before .before .before .before .before .before .before .before .before .before .before .before .loop .i) (c .before .before .before .before .before .before .before .before .after .result) (c .before .before .before .before .before .before .after2 .result) (c .before .before .before .before .before .before .before .before .after .ensures .0) (c .before .before .before .before .before .before .after2 .ensures .1) in let T : Turned (c .before .before .before .before .before .before .before .before .before .before .before .before .before .before .before .before .before .before .before .before .pre .1 .6 .0) (tokensOf (c .before .before .before .before .before .before .before .before .before .before .before .before .before .before .before .before .before .before .before .before .args .room .now) (c .before .before .before .before .before .before .before .before .before .before .before .before .before .before .before .before .before .before .before .before .args .p .n)) (c .before .before .before .before .before .before .before .before .before .before .before .before .loop .i) (c .before .before .before .before .before .before .before .before .before .before .before .before .loop .w) (c .before .before .before .before .before .before .before .before .before .before .before .before .loop .last) (c .before .before .before .before .before .before .before .before .before .before .before .before .before .before .before .before .before .before .before .before .args .p .operator) (c .before .before .before .before .before .before .before .before .before .before .before .before .loop .out) (c .before .before .before .before .before .before .before .before .before .conjunction-at .result) (c .before .before .before .before .before .before .before .before .after .result) (c .before .before .before .before .before .before .before .modifier-at .result) (c .before .before .before .before .before .before .after2 .result) (c .before .before .before .before .touch-last .last .0) = record { joins = (c .before .before .before .before .before .before .before .before .before .before .before .before .before .before .before .before .before .before .before .before .pre .1 .6 .3) .tuned .joins; goes = not-true _ (sym (c .before .before .before .before .before .before .before .before .before .before .before .more-at .ensures) ∙ c .before .before .before .before .before .before .before .before .before .before .if1 .taken); lead = λ acc e. record { joins = c .before .before .before .before .before .before .before .before .before .conjunction-at .ensures acc e; first = c .before .before .before .before .before .before .before .before .after .ensures .0; modifies = c .before .before .before .before .before .before .before .modifier-at .ensures; second = c .before .before .before .before .before .before .after2 .ensures .1 }; touches = c .before .before .before .before .touch-last .ensures; same = c .before .before .before .before .touch-last .kept .0 } in let G = c .before .before .before .before .before .before .before .before .before .before .before .before .loop .inv .3 (c .before .before .before .before .before .before .before .before .before .before .before .before .before .before .before .before .before .before .before .before .pre .1 .6 .0) (c .before .before .before .before .before .before .before .before .before .before .before .before .before .before .before .before .before .before .before .before .pre .1 .6 .1) (c .before .before .before .before .before .before .before .before .before .before .before .before .before .before .before .before .before .before .before .before .pre .1 .6 .2) (record { tuned = (c .before .before .before .before .before .before .before .before .before .before .before .before .before .before .before .before .before .before .before .before .pre .1 .6 .3) .tuned; is = (c .before .before .before .before .before .before .before .before .before .before .before .before .before .before .before .before .before .before .before .before .pre .1 .6 .3) .is; alone-is = (c .before .before .before .before .before .before .before .before .before .before .before .before .before .before .before .before .before .before .before .before .pre .1 .6 .3) .alone-is; fills = c .before .before .before .before .before .before .before .before .before .before .before .before .before .before .before .put-query-front .kept .0 ∙ (c .before .before .before .before .before .before .before .before .before .before .before .before .before .before .before .before .before .before .before .before .pre .1 .6 .3) .fills }) in let z = going-clause T (c .before .before .before .before .before .before .before .before .before .before .before .before .before .before .before .before .before .before .before .before .args .alone) G in (omega (arith, L .one, L .two, c .before .before .before .before .before .before .before .before .before .before .before .before .loop .inv .0, c .before .before .before .before .before .before .before .before .before .before .before .before .before .before .before .before .before .before .before .before .pre .0), (c .before .before .before .before .before .before .before .before .before .before .before .before .before .before .before .before .before .before .before .before .pre .1 .0, c .before .before .before .before .before .before .before .before .before .before .before .before .before .before .before .before .before .before .before .before .pre .1 .1, omega (arith, L .one, L .two, c .before .before .before .before .before .before .before .before .before .before .before .before .loop .inv .1, c .before .before .before .before .before .before .before .before .before .before .before .before .before .before .before .before .before .before .before .before .pre .1 .0 .few), c .before .before .before .before .before .before .before .before .before .before .before .before .before .before .before .before .before .before .before .before .pre .1 .3, omega (arith, going-wide (c .before .before .before .before .before .before .before .before .before .before .before .before .before .before .before .before .before .before .before .before .args .alone) G, c .before .before .before .before .before .before .before .before .before .before .before .before .before .before .before .put-query-front .kept .0, c .before .before .before .before .before .before .before .before .before .before .before .before .before .before .before .before .before .before .before .before .pre .1 .5, body-near (c .before .before .before .before .before .before .before .before .before .before .before .before .before .before .before .before .before .before .before .before .args .alone) (c .before .before .before .before .before .before .before .before .before .before .before .before .loop .w), c .before .body-start .ensures), omega (arith, c .before .before .before .before .touch-last .kept .0, c .before .before .before .before .before .before .before .before .before .before .before .before .loop .inv .2, c .before .before .before .before .before .before .before .before .before .before .before .before .before .before .before .put-query-front .kept .0, c .before .before .before .before .before .before .before .before .before .before .before .before .before .before .before .before .before .before .before .before .pre .1 .5), ((c .before .before .before .before .before .before .before .before .before .before .before .before .before .before .before .before .before .before .before .before .pre .1 .6 .0), z .0, z .1, (record { tuned = (c .before .before .before .before .before .before .before .before .before .before .before .before .before .before .before .before .before .before .before .before .pre .1 .6 .3) .tuned; is = z .2; fits = (λ h. omega (arith, z .3 h, c .before .body-start .ensures, c .before .before .before .before .touch-last .kept .0, c .before .before .before .before .before .before .before .before .before .before .before .before .loop .inv .2)) }))))
 
 write-query-loop-less : (t : ℕ) → write-query-lts.Need-loop-less (write-query-calls t) (write-query-at t) write-query.Post write-query-Inv-loop write-query-μ-loop
-write-query-loop-less t c = let L = led (c .before .before .before .before .before .before .before .before .before .before .before .before .before .before .conjunction-at .result) (c .before .before .before .before .before .before .before .before .before .before .before .before .modifier-at .result) (c .before .before .before .before .before .before .before .before .before .before .before .before .before .before .before .before .before .loop .i) (c .before .before .before .before .before .before .before .before .before .before .before .before .before .after .result) (c .before .before .before .before .before .before .before .before .before .before .before .after2 .result) (c .before .before .before .before .before .before .before .before .before .before .before .before .before .after .ensures .0) (c .before .before .before .before .before .before .before .before .before .before .before .after2 .ensures .1) in omega (arith, L .one, L .two, c .before .before .before .before .write-clause .ensures .1, goes-in (c .before .before .before .before .before .before .before .before .before .before .before .before .before .before .before .before .before .before .before .before .before .before .before .before .before .args .room .now) (c .before .before .before .before .before .before .before .before .before .before .before .before .before .before .before .before .before .before .before .before .before .before .before .before .before .args .n) (c .before .before .before .before .before .before .before .before .before .before .before .before .before .before .before .before .before .loop .i) (not-true _ (sym (c .before .before .before .before .before .before .before .before .before .before .before .before .before .before .before .before .more-at .ensures) ∙ c .before .before .before .before .before .before .before .before .before .before .before .before .before .before .before .if1 .taken)))
+write-query-loop-less t c = let L = led (c .before .before .before .before .before .before .before .before .before .before .before .before .before .before .conjunction-at .result) (c .before .before .before .before .before .before .before .before .before .before .before .before .modifier-at .result) (c .before .before .before .before .before .before .before .before .before .before .before .before .before .before .before .before .before .loop .i) (c .before .before .before .before .before .before .before .before .before .before .before .before .before .after .result) (c .before .before .before .before .before .before .before .before .before .before .before .after2 .result) (c .before .before .before .before .before .before .before .before .before .before .before .before .before .after .ensures .0) (c .before .before .before .before .before .before .before .before .before .before .before .after2 .ensures .1) in omega (arith, L .one, L .two, c .before .before .before .before .write-clause .ensures .1, goes-in (c .before .before .before .before .before .before .before .before .before .before .before .before .before .before .before .before .before .before .before .before .before .before .before .before .before .args .room .now) (c .before .before .before .before .before .before .before .before .before .before .before .before .before .before .before .before .before .before .before .before .before .before .before .before .before .args .p .n) (c .before .before .before .before .before .before .before .before .before .before .before .before .before .before .before .before .before .loop .i) (not-true _ (sym (c .before .before .before .before .before .before .before .before .before .before .before .before .before .before .before .before .more-at .ensures) ∙ c .before .before .before .before .before .before .before .before .before .before .before .before .before .before .before .if1 .taken)))
 
 write-query-loop-again : (t : ℕ) → write-query-lts.Need-loop-again (write-query-calls t) (write-query-at t) write-query.Post write-query-Inv-loop write-query-μ-loop
-write-query-loop-again t c = let L = led (c .before .before .before .before .before .before .before .before .before .before .before .before .before .before .conjunction-at .result) (c .before .before .before .before .before .before .before .before .before .before .before .before .modifier-at .result) (c .before .before .before .before .before .before .before .before .before .before .before .before .before .before .before .before .before .loop .i) (c .before .before .before .before .before .before .before .before .before .before .before .before .before .after .result) (c .before .before .before .before .before .before .before .before .before .before .before .after2 .result) (c .before .before .before .before .before .before .before .before .before .before .before .before .before .after .ensures .0) (c .before .before .before .before .before .before .before .before .before .before .before .after2 .ensures .1) in (omega (arith, L .one, L .two, c .before .before .before .before .write-clause .ensures .1, c .before .before .before .before .before .before .before .before .before .before .before .before .before .before .before .before .before .loop .inv .0), c .before .before .before .before .write-clause .ensures .1 .1, c .before .before .before .before .write-clause .kept .1 .1 .1 .1 .1 .1 .1 .1 .0 ∙ c .before .before .before .before .before .before .before .before .before .touch-last .kept .0 ∙ c .before .before .before .before .before .before .before .before .before .before .before .before .before .before .before .before .before .loop .inv .2, λ st cs j W. let T : Turned st (tokensOf (c .before .before .before .before .before .before .before .before .before .before .before .before .before .before .before .before .before .before .before .before .before .before .before .before .before .args .room .now) (c .before .before .before .before .before .before .before .before .before .before .before .before .before .before .before .before .before .before .before .before .before .before .before .before .before .args .n)) (c .before .before .before .before .before .before .before .before .before .before .before .before .before .before .before .before .before .loop .i) (c .before .before .before .before .before .before .before .before .before .before .before .before .before .before .before .before .before .loop .w) (c .before .before .before .before .before .before .before .before .before .before .before .before .before .before .before .before .before .loop .last) (c .before .before .before .before .before .before .before .before .before .before .before .before .before .before .before .before .before .before .before .before .before .before .before .before .before .args .operator) (c .before .before .before .before .before .before .before .before .before .before .before .before .before .before .before .before .before .loop .out) (c .before .before .before .before .before .before .before .before .before .before .before .before .before .before .conjunction-at .result) (c .before .before .before .before .before .before .before .before .before .before .before .before .before .after .result) (c .before .before .before .before .before .before .before .before .before .before .before .before .modifier-at .result) (c .before .before .before .before .before .before .before .before .before .before .before .after2 .result) (c .before .before .before .before .before .before .before .before .before .touch-last .last .0) = record { joins = W .tuned .joins; goes = not-true _ (sym (c .before .before .before .before .before .before .before .before .before .before .before .before .before .before .before .before .more-at .ensures) ∙ c .before .before .before .before .before .before .before .before .before .before .before .before .before .before .before .if1 .taken); lead = λ acc e. record { joins = c .before .before .before .before .before .before .before .before .before .before .before .before .before .before .conjunction-at .ensures acc e; first = c .before .before .before .before .before .before .before .before .before .before .before .before .before .after .ensures .0; modifies = c .before .before .before .before .before .before .before .before .before .before .before .before .modifier-at .ensures; second = c .before .before .before .before .before .before .before .before .before .before .before .after2 .ensures .1 }; touches = c .before .before .before .before .before .before .before .before .before .touch-last .ensures; same = c .before .before .before .before .before .before .before .before .before .touch-last .kept .0 } in let G = c .before .before .before .before .before .before .before .before .before .before .before .before .before .before .before .before .before .loop .inv .3 st cs j W in let z = going-clause T (c .before .before .before .before .before .before .before .before .before .before .before .before .before .before .before .before .before .before .before .before .before .before .before .before .before .args .alone) G in let P = c .before .before .before .before .write-clause .ensures .0 st (z .0) (z .1) (record { tuned = W .tuned; is = z .2; fits = (λ h. omega (arith, z .3 h, c .before .before .before .before .before .before .body-start .ensures, c .before .before .before .before .before .before .before .before .before .touch-last .kept .0, c .before .before .before .before .before .before .before .before .before .before .before .before .before .before .before .before .before .loop .inv .2)) }) in going-nothing T (P .0) (c .before .before .before .before .before .before .before .before .before .before .before .before .before .before .before .before .before .before .before .before .before .before .before .before .before .args .alone) G (c .before .before .before .before .before .before .body-start .result) (c .before .before .before .before .before .before .body-start .ensures) (z .0) (z .2) (P .1) (c .if2 .taken))
+write-query-loop-again t c = let L = led (c .before .before .before .before .before .before .before .before .before .before .before .before .before .before .conjunction-at .result) (c .before .before .before .before .before .before .before .before .before .before .before .before .modifier-at .result) (c .before .before .before .before .before .before .before .before .before .before .before .before .before .before .before .before .before .loop .i) (c .before .before .before .before .before .before .before .before .before .before .before .before .before .after .result) (c .before .before .before .before .before .before .before .before .before .before .before .after2 .result) (c .before .before .before .before .before .before .before .before .before .before .before .before .before .after .ensures .0) (c .before .before .before .before .before .before .before .before .before .before .before .after2 .ensures .1) in (omega (arith, L .one, L .two, c .before .before .before .before .write-clause .ensures .1, c .before .before .before .before .before .before .before .before .before .before .before .before .before .before .before .before .before .loop .inv .0), c .before .before .before .before .write-clause .ensures .1 .1, c .before .before .before .before .write-clause .kept .1 .1 .1 .1 .0 ∙ c .before .before .before .before .before .before .before .before .before .touch-last .kept .0 ∙ c .before .before .before .before .before .before .before .before .before .before .before .before .before .before .before .before .before .loop .inv .2, λ st cs j W. let T : Turned st (tokensOf (c .before .before .before .before .before .before .before .before .before .before .before .before .before .before .before .before .before .before .before .before .before .before .before .before .before .args .room .now) (c .before .before .before .before .before .before .before .before .before .before .before .before .before .before .before .before .before .before .before .before .before .before .before .before .before .args .p .n)) (c .before .before .before .before .before .before .before .before .before .before .before .before .before .before .before .before .before .loop .i) (c .before .before .before .before .before .before .before .before .before .before .before .before .before .before .before .before .before .loop .w) (c .before .before .before .before .before .before .before .before .before .before .before .before .before .before .before .before .before .loop .last) (c .before .before .before .before .before .before .before .before .before .before .before .before .before .before .before .before .before .before .before .before .before .before .before .before .before .args .p .operator) (c .before .before .before .before .before .before .before .before .before .before .before .before .before .before .before .before .before .loop .out) (c .before .before .before .before .before .before .before .before .before .before .before .before .before .before .conjunction-at .result) (c .before .before .before .before .before .before .before .before .before .before .before .before .before .after .result) (c .before .before .before .before .before .before .before .before .before .before .before .before .modifier-at .result) (c .before .before .before .before .before .before .before .before .before .before .before .after2 .result) (c .before .before .before .before .before .before .before .before .before .touch-last .last .0) = record { joins = W .tuned .joins; goes = not-true _ (sym (c .before .before .before .before .before .before .before .before .before .before .before .before .before .before .before .before .more-at .ensures) ∙ c .before .before .before .before .before .before .before .before .before .before .before .before .before .before .before .if1 .taken); lead = λ acc e. record { joins = c .before .before .before .before .before .before .before .before .before .before .before .before .before .before .conjunction-at .ensures acc e; first = c .before .before .before .before .before .before .before .before .before .before .before .before .before .after .ensures .0; modifies = c .before .before .before .before .before .before .before .before .before .before .before .before .modifier-at .ensures; second = c .before .before .before .before .before .before .before .before .before .before .before .after2 .ensures .1 }; touches = c .before .before .before .before .before .before .before .before .before .touch-last .ensures; same = c .before .before .before .before .before .before .before .before .before .touch-last .kept .0 } in let G = c .before .before .before .before .before .before .before .before .before .before .before .before .before .before .before .before .before .loop .inv .3 st cs j W in let z = going-clause T (c .before .before .before .before .before .before .before .before .before .before .before .before .before .before .before .before .before .before .before .before .before .before .before .before .before .args .alone) G in let P = c .before .before .before .before .write-clause .ensures .0 st (z .0) (z .1) (record { tuned = W .tuned; is = z .2; fits = (λ h. omega (arith, z .3 h, c .before .before .before .before .before .before .body-start .ensures, c .before .before .before .before .before .before .before .before .before .touch-last .kept .0, c .before .before .before .before .before .before .before .before .before .before .before .before .before .before .before .before .before .loop .inv .2)) }) in going-nothing T (P .0) (c .before .before .before .before .before .before .before .before .before .before .before .before .before .before .before .before .before .before .before .before .before .before .before .before .before .args .alone) G (c .before .before .before .before .before .before .body-start .result) (c .before .before .before .before .before .before .body-start .ensures) (z .0) (z .2) (P .1) (c .if2 .taken))
 
 write-query-same-length : (t : ℕ) → write-query-lts.Need-same-length (write-query-calls t) (write-query-at t) write-query.Post write-query-Inv-loop write-query-μ-loop
-write-query-same-length t c = c .before .before .before .before .before .write-clause .kept .1 .1 .1 .1 .1 .1 .1 .1 .0 ∙ c .before .before .before .before .before .before .before .before .before .before .touch-last .kept .0 ∙ c .before .before .before .before .before .before .before .before .before .before .before .before .before .before .before .before .before .before .loop .inv .2 ∙ c .before .before .before .before .before .before .before .before .before .before .before .before .before .before .before .before .before .before .before .before .before .put-query-front .kept .0
+write-query-same-length t c = c .before .before .before .before .before .write-clause .kept .1 .1 .1 .1 .0 ∙ c .before .before .before .before .before .before .before .before .before .before .touch-last .kept .0 ∙ c .before .before .before .before .before .before .before .before .before .before .before .before .before .before .before .before .before .before .loop .inv .2 ∙ c .before .before .before .before .before .before .before .before .before .before .before .before .before .before .before .before .before .before .before .before .before .put-query-front .kept .0
 
 write-query-returns : (t : ℕ) → write-query-lts.Need-returns (write-query-calls t) (write-query-at t) write-query.Post write-query-Inv-loop write-query-μ-loop
-write-query-returns t c = λ st cs j W. let T : Turned st (tokensOf (c .before .before .before .before .before .before .before .before .before .before .before .before .before .before .before .before .before .before .before .before .before .before .before .before .before .before .args .room .now) (c .before .before .before .before .before .before .before .before .before .before .before .before .before .before .before .before .before .before .before .before .before .before .before .before .before .before .args .n)) (c .before .before .before .before .before .before .before .before .before .before .before .before .before .before .before .before .before .before .loop .i) (c .before .before .before .before .before .before .before .before .before .before .before .before .before .before .before .before .before .before .loop .w) (c .before .before .before .before .before .before .before .before .before .before .before .before .before .before .before .before .before .before .loop .last) (c .before .before .before .before .before .before .before .before .before .before .before .before .before .before .before .before .before .before .before .before .before .before .before .before .before .before .args .operator) (c .before .before .before .before .before .before .before .before .before .before .before .before .before .before .before .before .before .before .loop .out) (c .before .before .before .before .before .before .before .before .before .before .before .before .before .before .before .conjunction-at .result) (c .before .before .before .before .before .before .before .before .before .before .before .before .before .before .after .result) (c .before .before .before .before .before .before .before .before .before .before .before .before .before .modifier-at .result) (c .before .before .before .before .before .before .before .before .before .before .before .before .after2 .result) (c .before .before .before .before .before .before .before .before .before .before .touch-last .last .0) = record { joins = W .tuned .joins; goes = not-true _ (sym (c .before .before .before .before .before .before .before .before .before .before .before .before .before .before .before .before .before .more-at .ensures) ∙ c .before .before .before .before .before .before .before .before .before .before .before .before .before .before .before .before .if1 .taken); lead = λ acc e. record { joins = c .before .before .before .before .before .before .before .before .before .before .before .before .before .before .before .conjunction-at .ensures acc e; first = c .before .before .before .before .before .before .before .before .before .before .before .before .before .before .after .ensures .0; modifies = c .before .before .before .before .before .before .before .before .before .before .before .before .before .modifier-at .ensures; second = c .before .before .before .before .before .before .before .before .before .before .before .before .after2 .ensures .1 }; touches = c .before .before .before .before .before .before .before .before .before .before .touch-last .ensures; same = c .before .before .before .before .before .before .before .before .before .before .touch-last .kept .0 } in let G = c .before .before .before .before .before .before .before .before .before .before .before .before .before .before .before .before .before .before .loop .inv .3 st cs j (record { tuned = W .tuned; is = W .is; alone-is = W .alone-is; fills = c .before .before .before .before .before .before .before .before .before .before .before .before .before .before .before .before .before .before .before .before .before .put-query-front .kept .0 ∙ W .fills }) in let z = going-clause T (c .before .before .before .before .before .before .before .before .before .before .before .before .before .before .before .before .before .before .before .before .before .before .before .before .before .before .args .alone) G in let P = c .before .before .before .before .before .write-clause .ensures .0 st (z .0) (z .1) (record { tuned = W .tuned; is = z .2; fits = (λ h. omega (arith, z .3 h, c .before .before .before .before .before .before .before .body-start .ensures, c .before .before .before .before .before .before .before .before .before .before .touch-last .kept .0, c .before .before .before .before .before .before .before .before .before .before .before .before .before .before .before .before .before .before .loop .inv .2)) }) in going-alone T (P .0) (c .before .before .before .before .before .before .before .before .before .before .before .before .before .before .before .before .before .before .before .before .before .before .before .before .before .before .args .alone) G (c .if3 .taken) (c .before .before .before .before .before .before .before .body-start .result) (c .before .before .before .before .before .before .before .body-start .ensures) (z .0) (z .2) (P .1) (c .before .if2 .left)
+write-query-returns t c = λ st cs j W. let T : Turned st (tokensOf (c .before .before .before .before .before .before .before .before .before .before .before .before .before .before .before .before .before .before .before .before .before .before .before .before .before .before .args .room .now) (c .before .before .before .before .before .before .before .before .before .before .before .before .before .before .before .before .before .before .before .before .before .before .before .before .before .before .args .p .n)) (c .before .before .before .before .before .before .before .before .before .before .before .before .before .before .before .before .before .before .loop .i) (c .before .before .before .before .before .before .before .before .before .before .before .before .before .before .before .before .before .before .loop .w) (c .before .before .before .before .before .before .before .before .before .before .before .before .before .before .before .before .before .before .loop .last) (c .before .before .before .before .before .before .before .before .before .before .before .before .before .before .before .before .before .before .before .before .before .before .before .before .before .before .args .p .operator) (c .before .before .before .before .before .before .before .before .before .before .before .before .before .before .before .before .before .before .loop .out) (c .before .before .before .before .before .before .before .before .before .before .before .before .before .before .before .conjunction-at .result) (c .before .before .before .before .before .before .before .before .before .before .before .before .before .before .after .result) (c .before .before .before .before .before .before .before .before .before .before .before .before .before .modifier-at .result) (c .before .before .before .before .before .before .before .before .before .before .before .before .after2 .result) (c .before .before .before .before .before .before .before .before .before .before .touch-last .last .0) = record { joins = W .tuned .joins; goes = not-true _ (sym (c .before .before .before .before .before .before .before .before .before .before .before .before .before .before .before .before .before .more-at .ensures) ∙ c .before .before .before .before .before .before .before .before .before .before .before .before .before .before .before .before .if1 .taken); lead = λ acc e. record { joins = c .before .before .before .before .before .before .before .before .before .before .before .before .before .before .before .conjunction-at .ensures acc e; first = c .before .before .before .before .before .before .before .before .before .before .before .before .before .before .after .ensures .0; modifies = c .before .before .before .before .before .before .before .before .before .before .before .before .before .modifier-at .ensures; second = c .before .before .before .before .before .before .before .before .before .before .before .before .after2 .ensures .1 }; touches = c .before .before .before .before .before .before .before .before .before .before .touch-last .ensures; same = c .before .before .before .before .before .before .before .before .before .before .touch-last .kept .0 } in let G = c .before .before .before .before .before .before .before .before .before .before .before .before .before .before .before .before .before .before .loop .inv .3 st cs j (record { tuned = W .tuned; is = W .is; alone-is = W .alone-is; fills = c .before .before .before .before .before .before .before .before .before .before .before .before .before .before .before .before .before .before .before .before .before .put-query-front .kept .0 ∙ W .fills }) in let z = going-clause T (c .before .before .before .before .before .before .before .before .before .before .before .before .before .before .before .before .before .before .before .before .before .before .before .before .before .before .args .alone) G in let P = c .before .before .before .before .before .write-clause .ensures .0 st (z .0) (z .1) (record { tuned = W .tuned; is = z .2; fits = (λ h. omega (arith, z .3 h, c .before .before .before .before .before .before .before .body-start .ensures, c .before .before .before .before .before .before .before .before .before .before .touch-last .kept .0, c .before .before .before .before .before .before .before .before .before .before .before .before .before .before .before .before .before .before .loop .inv .2)) }) in going-alone T (P .0) (c .before .before .before .before .before .before .before .before .before .before .before .before .before .before .before .before .before .before .before .before .before .before .before .before .before .before .args .alone) G (c .if3 .taken) (c .before .before .before .before .before .before .before .body-start .result) (c .before .before .before .before .before .before .before .body-start .ensures) (z .0) (z .2) (P .1) (c .before .if2 .left)
 
 write-query-tag-after-requires : (t : ℕ) → write-query-lts.Need-tag-after-requires (write-query-calls t) (write-query-at t) write-query.Post write-query-Inv-loop write-query-μ-loop
 write-query-tag-after-requires t c κs = search needs
 
 write-query-sub-put-header : (t : ℕ) → write-query-lts.Need-sub-put-header (write-query-calls t) (write-query-at t) write-query.Post write-query-Inv-loop write-query-μ-loop
-write-query-sub-put-header t c = let T : Turned (c .before .before .before .before .before .before .before .before .before .before .before .before .before .before .before .before .before .before .before .before .before .before .before .before .before .before .before .before .before .pre .1 .6 .0) (tokensOf (c .before .before .before .before .before .before .before .before .before .before .before .before .before .before .before .before .before .before .before .before .before .before .before .before .before .before .before .before .before .args .room .now) (c .before .before .before .before .before .before .before .before .before .before .before .before .before .before .before .before .before .before .before .before .before .before .before .before .before .before .before .before .before .args .n)) (c .before .before .before .before .before .before .before .before .before .before .before .before .before .before .before .before .before .before .before .before .before .loop .i) (c .before .before .before .before .before .before .before .before .before .before .before .before .before .before .before .before .before .before .before .before .before .loop .w) (c .before .before .before .before .before .before .before .before .before .before .before .before .before .before .before .before .before .before .before .before .before .loop .last) (c .before .before .before .before .before .before .before .before .before .before .before .before .before .before .before .before .before .before .before .before .before .before .before .before .before .before .before .before .before .args .operator) (c .before .before .before .before .before .before .before .before .before .before .before .before .before .before .before .before .before .before .before .before .before .loop .out) (c .before .before .before .before .before .before .before .before .before .before .before .before .before .before .before .before .before .before .conjunction-at .result) (c .before .before .before .before .before .before .before .before .before .before .before .before .before .before .before .before .before .after .result) (c .before .before .before .before .before .before .before .before .before .before .before .before .before .before .before .before .modifier-at .result) (c .before .before .before .before .before .before .before .before .before .before .before .before .before .before .before .after2 .result) (c .before .before .before .before .before .before .before .before .before .before .before .before .before .touch-last .last .0) = record { joins = (c .before .before .before .before .before .before .before .before .before .before .before .before .before .before .before .before .before .before .before .before .before .before .before .before .before .before .before .before .before .pre .1 .6 .3) .tuned .joins; goes = not-true _ (sym (c .before .before .before .before .before .before .before .before .before .before .before .before .before .before .before .before .before .before .before .before .more-at .ensures) ∙ c .before .before .before .before .before .before .before .before .before .before .before .before .before .before .before .before .before .before .before .if1 .taken); lead = λ acc e. record { joins = c .before .before .before .before .before .before .before .before .before .before .before .before .before .before .before .before .before .before .conjunction-at .ensures acc e; first = c .before .before .before .before .before .before .before .before .before .before .before .before .before .before .before .before .before .after .ensures .0; modifies = c .before .before .before .before .before .before .before .before .before .before .before .before .before .before .before .before .modifier-at .ensures; second = c .before .before .before .before .before .before .before .before .before .before .before .before .before .before .before .after2 .ensures .1 }; touches = c .before .before .before .before .before .before .before .before .before .before .before .before .before .touch-last .ensures; same = c .before .before .before .before .before .before .before .before .before .before .before .before .before .touch-last .kept .0 } in let G = c .before .before .before .before .before .before .before .before .before .before .before .before .before .before .before .before .before .before .before .before .before .loop .inv .3 (c .before .before .before .before .before .before .before .before .before .before .before .before .before .before .before .before .before .before .before .before .before .before .before .before .before .before .before .before .before .pre .1 .6 .0) (c .before .before .before .before .before .before .before .before .before .before .before .before .before .before .before .before .before .before .before .before .before .before .before .before .before .before .before .before .before .pre .1 .6 .1) (c .before .before .before .before .before .before .before .before .before .before .before .before .before .before .before .before .before .before .before .before .before .before .before .before .before .before .before .before .before .pre .1 .6 .2) (record { tuned = (c .before .before .before .before .before .before .before .before .before .before .before .before .before .before .before .before .before .before .before .before .before .before .before .before .before .before .before .before .before .pre .1 .6 .3) .tuned; is = (c .before .before .before .before .before .before .before .before .before .before .before .before .before .before .before .before .before .before .before .before .before .before .before .before .before .before .before .before .before .pre .1 .6 .3) .is; alone-is = (c .before .before .before .before .before .before .before .before .before .before .before .before .before .before .before .before .before .before .before .before .before .before .before .before .before .before .before .before .before .pre .1 .6 .3) .alone-is; fills = c .before .before .before .before .before .before .before .before .before .before .before .before .before .before .before .before .before .before .before .before .before .before .before .before .put-query-front .kept .0 ∙ (c .before .before .before .before .before .before .before .before .before .before .before .before .before .before .before .before .before .before .before .before .before .before .before .before .before .before .before .before .before .pre .1 .6 .3) .fills }) in let z = going-clause T (c .before .before .before .before .before .before .before .before .before .before .before .before .before .before .before .before .before .before .before .before .before .before .before .before .before .before .before .before .before .args .alone) G in let P = c .before .before .before .before .before .before .before .before .write-clause .ensures .0 (c .before .before .before .before .before .before .before .before .before .before .before .before .before .before .before .before .before .before .before .before .before .before .before .before .before .before .before .before .before .pre .1 .6 .0) (z .0) (z .1) (record { tuned = (c .before .before .before .before .before .before .before .before .before .before .before .before .before .before .before .before .before .before .before .before .before .before .before .before .before .before .before .before .before .pre .1 .6 .3) .tuned; is = z .2; fits = (λ h. omega (arith, z .3 h, c .before .before .before .before .before .before .before .before .before .before .body-start .ensures, c .before .before .before .before .before .before .before .before .before .before .before .before .before .touch-last .kept .0, c .before .before .before .before .before .before .before .before .before .before .before .before .before .before .before .before .before .before .before .before .before .loop .inv .2)) }) in omega (arith, P .1 .place)
+write-query-sub-put-header t c = let T : Turned (c .before .before .before .before .before .before .before .before .before .before .before .before .before .before .before .before .before .before .before .before .before .before .before .before .before .before .before .before .before .pre .1 .6 .0) (tokensOf (c .before .before .before .before .before .before .before .before .before .before .before .before .before .before .before .before .before .before .before .before .before .before .before .before .before .before .before .before .before .args .room .now) (c .before .before .before .before .before .before .before .before .before .before .before .before .before .before .before .before .before .before .before .before .before .before .before .before .before .before .before .before .before .args .p .n)) (c .before .before .before .before .before .before .before .before .before .before .before .before .before .before .before .before .before .before .before .before .before .loop .i) (c .before .before .before .before .before .before .before .before .before .before .before .before .before .before .before .before .before .before .before .before .before .loop .w) (c .before .before .before .before .before .before .before .before .before .before .before .before .before .before .before .before .before .before .before .before .before .loop .last) (c .before .before .before .before .before .before .before .before .before .before .before .before .before .before .before .before .before .before .before .before .before .before .before .before .before .before .before .before .before .args .p .operator) (c .before .before .before .before .before .before .before .before .before .before .before .before .before .before .before .before .before .before .before .before .before .loop .out) (c .before .before .before .before .before .before .before .before .before .before .before .before .before .before .before .before .before .before .conjunction-at .result) (c .before .before .before .before .before .before .before .before .before .before .before .before .before .before .before .before .before .after .result) (c .before .before .before .before .before .before .before .before .before .before .before .before .before .before .before .before .modifier-at .result) (c .before .before .before .before .before .before .before .before .before .before .before .before .before .before .before .after2 .result) (c .before .before .before .before .before .before .before .before .before .before .before .before .before .touch-last .last .0) = record { joins = (c .before .before .before .before .before .before .before .before .before .before .before .before .before .before .before .before .before .before .before .before .before .before .before .before .before .before .before .before .before .pre .1 .6 .3) .tuned .joins; goes = not-true _ (sym (c .before .before .before .before .before .before .before .before .before .before .before .before .before .before .before .before .before .before .before .before .more-at .ensures) ∙ c .before .before .before .before .before .before .before .before .before .before .before .before .before .before .before .before .before .before .before .if1 .taken); lead = λ acc e. record { joins = c .before .before .before .before .before .before .before .before .before .before .before .before .before .before .before .before .before .before .conjunction-at .ensures acc e; first = c .before .before .before .before .before .before .before .before .before .before .before .before .before .before .before .before .before .after .ensures .0; modifies = c .before .before .before .before .before .before .before .before .before .before .before .before .before .before .before .before .modifier-at .ensures; second = c .before .before .before .before .before .before .before .before .before .before .before .before .before .before .before .after2 .ensures .1 }; touches = c .before .before .before .before .before .before .before .before .before .before .before .before .before .touch-last .ensures; same = c .before .before .before .before .before .before .before .before .before .before .before .before .before .touch-last .kept .0 } in let G = c .before .before .before .before .before .before .before .before .before .before .before .before .before .before .before .before .before .before .before .before .before .loop .inv .3 (c .before .before .before .before .before .before .before .before .before .before .before .before .before .before .before .before .before .before .before .before .before .before .before .before .before .before .before .before .before .pre .1 .6 .0) (c .before .before .before .before .before .before .before .before .before .before .before .before .before .before .before .before .before .before .before .before .before .before .before .before .before .before .before .before .before .pre .1 .6 .1) (c .before .before .before .before .before .before .before .before .before .before .before .before .before .before .before .before .before .before .before .before .before .before .before .before .before .before .before .before .before .pre .1 .6 .2) (record { tuned = (c .before .before .before .before .before .before .before .before .before .before .before .before .before .before .before .before .before .before .before .before .before .before .before .before .before .before .before .before .before .pre .1 .6 .3) .tuned; is = (c .before .before .before .before .before .before .before .before .before .before .before .before .before .before .before .before .before .before .before .before .before .before .before .before .before .before .before .before .before .pre .1 .6 .3) .is; alone-is = (c .before .before .before .before .before .before .before .before .before .before .before .before .before .before .before .before .before .before .before .before .before .before .before .before .before .before .before .before .before .pre .1 .6 .3) .alone-is; fills = c .before .before .before .before .before .before .before .before .before .before .before .before .before .before .before .before .before .before .before .before .before .before .before .before .put-query-front .kept .0 ∙ (c .before .before .before .before .before .before .before .before .before .before .before .before .before .before .before .before .before .before .before .before .before .before .before .before .before .before .before .before .before .pre .1 .6 .3) .fills }) in let z = going-clause T (c .before .before .before .before .before .before .before .before .before .before .before .before .before .before .before .before .before .before .before .before .before .before .before .before .before .before .before .before .before .args .alone) G in let P = c .before .before .before .before .before .before .before .before .write-clause .ensures .0 (c .before .before .before .before .before .before .before .before .before .before .before .before .before .before .before .before .before .before .before .before .before .before .before .before .before .before .before .before .before .pre .1 .6 .0) (z .0) (z .1) (record { tuned = (c .before .before .before .before .before .before .before .before .before .before .before .before .before .before .before .before .before .before .before .before .before .before .before .before .before .before .before .before .before .pre .1 .6 .3) .tuned; is = z .2; fits = (λ h. omega (arith, z .3 h, c .before .before .before .before .before .before .before .before .before .before .body-start .ensures, c .before .before .before .before .before .before .before .before .before .before .before .before .before .touch-last .kept .0, c .before .before .before .before .before .before .before .before .before .before .before .before .before .before .before .before .before .before .before .before .before .loop .inv .2)) }) in omega (arith, P .1 .place)
 
 write-query-put-header-requires : (t : ℕ) → write-query-lts.Need-put-header-requires (write-query-calls t) (write-query-at t) write-query.Post write-query-Inv-loop write-query-μ-loop
-write-query-put-header-requires t c κs = let T : Turned (c .before .before .before .before .before .before .before .before .before .before .before .before .before .before .before .before .before .before .before .before .before .before .before .before .before .before .before .before .before .pre .1 .6 .0) (tokensOf (c .before .before .before .before .before .before .before .before .before .before .before .before .before .before .before .before .before .before .before .before .before .before .before .before .before .before .before .before .before .args .room .now) (c .before .before .before .before .before .before .before .before .before .before .before .before .before .before .before .before .before .before .before .before .before .before .before .before .before .before .before .before .before .args .n)) (c .before .before .before .before .before .before .before .before .before .before .before .before .before .before .before .before .before .before .before .before .before .loop .i) (c .before .before .before .before .before .before .before .before .before .before .before .before .before .before .before .before .before .before .before .before .before .loop .w) (c .before .before .before .before .before .before .before .before .before .before .before .before .before .before .before .before .before .before .before .before .before .loop .last) (c .before .before .before .before .before .before .before .before .before .before .before .before .before .before .before .before .before .before .before .before .before .before .before .before .before .before .before .before .before .args .operator) (c .before .before .before .before .before .before .before .before .before .before .before .before .before .before .before .before .before .before .before .before .before .loop .out) (c .before .before .before .before .before .before .before .before .before .before .before .before .before .before .before .before .before .before .conjunction-at .result) (c .before .before .before .before .before .before .before .before .before .before .before .before .before .before .before .before .before .after .result) (c .before .before .before .before .before .before .before .before .before .before .before .before .before .before .before .before .modifier-at .result) (c .before .before .before .before .before .before .before .before .before .before .before .before .before .before .before .after2 .result) (c .before .before .before .before .before .before .before .before .before .before .before .before .before .touch-last .last .0) = record { joins = (c .before .before .before .before .before .before .before .before .before .before .before .before .before .before .before .before .before .before .before .before .before .before .before .before .before .before .before .before .before .pre .1 .6 .3) .tuned .joins; goes = not-true _ (sym (c .before .before .before .before .before .before .before .before .before .before .before .before .before .before .before .before .before .before .before .before .more-at .ensures) ∙ c .before .before .before .before .before .before .before .before .before .before .before .before .before .before .before .before .before .before .before .if1 .taken); lead = λ acc e. record { joins = c .before .before .before .before .before .before .before .before .before .before .before .before .before .before .before .before .before .before .conjunction-at .ensures acc e; first = c .before .before .before .before .before .before .before .before .before .before .before .before .before .before .before .before .before .after .ensures .0; modifies = c .before .before .before .before .before .before .before .before .before .before .before .before .before .before .before .before .modifier-at .ensures; second = c .before .before .before .before .before .before .before .before .before .before .before .before .before .before .before .after2 .ensures .1 }; touches = c .before .before .before .before .before .before .before .before .before .before .before .before .before .touch-last .ensures; same = c .before .before .before .before .before .before .before .before .before .before .before .before .before .touch-last .kept .0 } in let G = c .before .before .before .before .before .before .before .before .before .before .before .before .before .before .before .before .before .before .before .before .before .loop .inv .3 (c .before .before .before .before .before .before .before .before .before .before .before .before .before .before .before .before .before .before .before .before .before .before .before .before .before .before .before .before .before .pre .1 .6 .0) (c .before .before .before .before .before .before .before .before .before .before .before .before .before .before .before .before .before .before .before .before .before .before .before .before .before .before .before .before .before .pre .1 .6 .1) (c .before .before .before .before .before .before .before .before .before .before .before .before .before .before .before .before .before .before .before .before .before .before .before .before .before .before .before .before .before .pre .1 .6 .2) (record { tuned = (c .before .before .before .before .before .before .before .before .before .before .before .before .before .before .before .before .before .before .before .before .before .before .before .before .before .before .before .before .before .pre .1 .6 .3) .tuned; is = (c .before .before .before .before .before .before .before .before .before .before .before .before .before .before .before .before .before .before .before .before .before .before .before .before .before .before .before .before .before .pre .1 .6 .3) .is; alone-is = (c .before .before .before .before .before .before .before .before .before .before .before .before .before .before .before .before .before .before .before .before .before .before .before .before .before .before .before .before .before .pre .1 .6 .3) .alone-is; fills = c .before .before .before .before .before .before .before .before .before .before .before .before .before .before .before .before .before .before .before .before .before .before .before .before .put-query-front .kept .0 ∙ (c .before .before .before .before .before .before .before .before .before .before .before .before .before .before .before .before .before .before .before .before .before .before .before .before .before .before .before .before .before .pre .1 .6 .3) .fills }) in let z = going-clause T (c .before .before .before .before .before .before .before .before .before .before .before .before .before .before .before .before .before .before .before .before .before .before .before .before .before .before .before .before .before .args .alone) G in let P = c .before .before .before .before .before .before .before .before .write-clause .ensures .0 (c .before .before .before .before .before .before .before .before .before .before .before .before .before .before .before .before .before .before .before .before .before .before .before .before .before .before .before .before .before .pre .1 .6 .0) (z .0) (z .1) (record { tuned = (c .before .before .before .before .before .before .before .before .before .before .before .before .before .before .before .before .before .before .before .before .before .before .before .before .before .before .before .before .before .pre .1 .6 .3) .tuned; is = z .2; fits = (λ h. omega (arith, z .3 h, c .before .before .before .before .before .before .before .before .before .before .body-start .ensures, c .before .before .before .before .before .before .before .before .before .before .before .before .before .touch-last .kept .0, c .before .before .before .before .before .before .before .before .before .before .before .before .before .before .before .before .before .before .before .before .before .loop .inv .2)) }) in let h = z .3 (omega (arith, P .1 .place, c .before .before .before .before .if2 .left)) in let a = body-after (c .before .before .before .before .before .before .before .before .before .before .before .before .before .before .before .before .before .before .before .before .before .before .before .before .before .before .before .before .before .args .alone) (c .before .before .before .before .before .before .before .before .before .before .before .before .before .before .before .before .before .before .before .before .before .loop .w) (c .before .before .before .if3 .left) in (omega (arith, h, a, c .before .before .before .before .before .before .before .before .write-clause .kept .1 .1 .1 .1 .1 .1 .1 .1 .0, c .before .before .before .before .before .before .before .before .before .before .before .before .before .touch-last .kept .0, c .before .before .before .before .before .before .before .before .before .before .before .before .before .before .before .before .before .before .before .before .before .loop .inv .2), omega (arith, h, P .1 .place, c .before .before .before .before .before .before .before .before .before .before .body-start .ensures, c .before .before .before .before .before .before .before .before .before .before .before .before .before .before .before .before .before .before .before .before .before .before .before .before .put-query-front .kept .0, c .before .before .before .before .before .before .before .before .before .before .before .before .before .before .before .before .before .before .before .before .before .before .before .before .before .before .before .before .before .pre .1 .5))
+write-query-put-header-requires t c κs = let T : Turned (c .before .before .before .before .before .before .before .before .before .before .before .before .before .before .before .before .before .before .before .before .before .before .before .before .before .before .before .before .before .pre .1 .6 .0) (tokensOf (c .before .before .before .before .before .before .before .before .before .before .before .before .before .before .before .before .before .before .before .before .before .before .before .before .before .before .before .before .before .args .room .now) (c .before .before .before .before .before .before .before .before .before .before .before .before .before .before .before .before .before .before .before .before .before .before .before .before .before .before .before .before .before .args .p .n)) (c .before .before .before .before .before .before .before .before .before .before .before .before .before .before .before .before .before .before .before .before .before .loop .i) (c .before .before .before .before .before .before .before .before .before .before .before .before .before .before .before .before .before .before .before .before .before .loop .w) (c .before .before .before .before .before .before .before .before .before .before .before .before .before .before .before .before .before .before .before .before .before .loop .last) (c .before .before .before .before .before .before .before .before .before .before .before .before .before .before .before .before .before .before .before .before .before .before .before .before .before .before .before .before .before .args .p .operator) (c .before .before .before .before .before .before .before .before .before .before .before .before .before .before .before .before .before .before .before .before .before .loop .out) (c .before .before .before .before .before .before .before .before .before .before .before .before .before .before .before .before .before .before .conjunction-at .result) (c .before .before .before .before .before .before .before .before .before .before .before .before .before .before .before .before .before .after .result) (c .before .before .before .before .before .before .before .before .before .before .before .before .before .before .before .before .modifier-at .result) (c .before .before .before .before .before .before .before .before .before .before .before .before .before .before .before .after2 .result) (c .before .before .before .before .before .before .before .before .before .before .before .before .before .touch-last .last .0) = record { joins = (c .before .before .before .before .before .before .before .before .before .before .before .before .before .before .before .before .before .before .before .before .before .before .before .before .before .before .before .before .before .pre .1 .6 .3) .tuned .joins; goes = not-true _ (sym (c .before .before .before .before .before .before .before .before .before .before .before .before .before .before .before .before .before .before .before .before .more-at .ensures) ∙ c .before .before .before .before .before .before .before .before .before .before .before .before .before .before .before .before .before .before .before .if1 .taken); lead = λ acc e. record { joins = c .before .before .before .before .before .before .before .before .before .before .before .before .before .before .before .before .before .before .conjunction-at .ensures acc e; first = c .before .before .before .before .before .before .before .before .before .before .before .before .before .before .before .before .before .after .ensures .0; modifies = c .before .before .before .before .before .before .before .before .before .before .before .before .before .before .before .before .modifier-at .ensures; second = c .before .before .before .before .before .before .before .before .before .before .before .before .before .before .before .after2 .ensures .1 }; touches = c .before .before .before .before .before .before .before .before .before .before .before .before .before .touch-last .ensures; same = c .before .before .before .before .before .before .before .before .before .before .before .before .before .touch-last .kept .0 } in let G = c .before .before .before .before .before .before .before .before .before .before .before .before .before .before .before .before .before .before .before .before .before .loop .inv .3 (c .before .before .before .before .before .before .before .before .before .before .before .before .before .before .before .before .before .before .before .before .before .before .before .before .before .before .before .before .before .pre .1 .6 .0) (c .before .before .before .before .before .before .before .before .before .before .before .before .before .before .before .before .before .before .before .before .before .before .before .before .before .before .before .before .before .pre .1 .6 .1) (c .before .before .before .before .before .before .before .before .before .before .before .before .before .before .before .before .before .before .before .before .before .before .before .before .before .before .before .before .before .pre .1 .6 .2) (record { tuned = (c .before .before .before .before .before .before .before .before .before .before .before .before .before .before .before .before .before .before .before .before .before .before .before .before .before .before .before .before .before .pre .1 .6 .3) .tuned; is = (c .before .before .before .before .before .before .before .before .before .before .before .before .before .before .before .before .before .before .before .before .before .before .before .before .before .before .before .before .before .pre .1 .6 .3) .is; alone-is = (c .before .before .before .before .before .before .before .before .before .before .before .before .before .before .before .before .before .before .before .before .before .before .before .before .before .before .before .before .before .pre .1 .6 .3) .alone-is; fills = c .before .before .before .before .before .before .before .before .before .before .before .before .before .before .before .before .before .before .before .before .before .before .before .before .put-query-front .kept .0 ∙ (c .before .before .before .before .before .before .before .before .before .before .before .before .before .before .before .before .before .before .before .before .before .before .before .before .before .before .before .before .before .pre .1 .6 .3) .fills }) in let z = going-clause T (c .before .before .before .before .before .before .before .before .before .before .before .before .before .before .before .before .before .before .before .before .before .before .before .before .before .before .before .before .before .args .alone) G in let P = c .before .before .before .before .before .before .before .before .write-clause .ensures .0 (c .before .before .before .before .before .before .before .before .before .before .before .before .before .before .before .before .before .before .before .before .before .before .before .before .before .before .before .before .before .pre .1 .6 .0) (z .0) (z .1) (record { tuned = (c .before .before .before .before .before .before .before .before .before .before .before .before .before .before .before .before .before .before .before .before .before .before .before .before .before .before .before .before .before .pre .1 .6 .3) .tuned; is = z .2; fits = (λ h. omega (arith, z .3 h, c .before .before .before .before .before .before .before .before .before .before .body-start .ensures, c .before .before .before .before .before .before .before .before .before .before .before .before .before .touch-last .kept .0, c .before .before .before .before .before .before .before .before .before .before .before .before .before .before .before .before .before .before .before .before .before .loop .inv .2)) }) in let h = z .3 (omega (arith, P .1 .place, c .before .before .before .before .if2 .left)) in let a = body-after (c .before .before .before .before .before .before .before .before .before .before .before .before .before .before .before .before .before .before .before .before .before .before .before .before .before .before .before .before .before .args .alone) (c .before .before .before .before .before .before .before .before .before .before .before .before .before .before .before .before .before .before .before .before .before .loop .w) (c .before .before .before .if3 .left) in (omega (arith, h, a, c .before .before .before .before .before .before .before .before .write-clause .kept .1 .1 .1 .1 .0, c .before .before .before .before .before .before .before .before .before .before .before .before .before .touch-last .kept .0, c .before .before .before .before .before .before .before .before .before .before .before .before .before .before .before .before .before .before .before .before .before .loop .inv .2), omega (arith, h, P .1 .place, c .before .before .before .before .before .before .before .before .before .before .body-start .ensures, c .before .before .before .before .before .before .before .before .before .before .before .before .before .before .before .before .before .before .before .before .before .before .before .before .put-query-front .kept .0, c .before .before .before .before .before .before .before .before .before .before .before .before .before .before .before .before .before .before .before .before .before .before .before .before .before .before .before .before .before .pre .1 .5))
 
 write-query-loop-less-2 : (t : ℕ) → write-query-lts.Need-loop-less-2 (write-query-calls t) (write-query-at t) write-query.Post write-query-Inv-loop write-query-μ-loop
-write-query-loop-less-2 t c = let L = led (c .before .before .before .before .before .before .before .before .before .before .before .before .before .before .before .before .before .before .before .before .before .conjunction-at .result) (c .before .before .before .before .before .before .before .before .before .before .before .before .before .before .before .before .before .before .before .modifier-at .result) (c .before .before .before .before .before .before .before .before .before .before .before .before .before .before .before .before .before .before .before .before .before .before .before .before .loop .i) (c .before .before .before .before .before .before .before .before .before .before .before .before .before .before .before .before .before .before .before .before .after .result) (c .before .before .before .before .before .before .before .before .before .before .before .before .before .before .before .before .before .before .after2 .result) (c .before .before .before .before .before .before .before .before .before .before .before .before .before .before .before .before .before .before .before .before .after .ensures .0) (c .before .before .before .before .before .before .before .before .before .before .before .before .before .before .before .before .before .before .after2 .ensures .1) in omega (arith, L .one, L .two, c .before .before .before .before .before .before .before .before .before .before .before .write-clause .ensures .1, goes-in (c .before .before .before .before .before .before .before .before .before .before .before .before .before .before .before .before .before .before .before .before .before .before .before .before .before .before .before .before .before .before .before .before .args .room .now) (c .before .before .before .before .before .before .before .before .before .before .before .before .before .before .before .before .before .before .before .before .before .before .before .before .before .before .before .before .before .before .before .before .args .n) (c .before .before .before .before .before .before .before .before .before .before .before .before .before .before .before .before .before .before .before .before .before .before .before .before .loop .i) (not-true _ (sym (c .before .before .before .before .before .before .before .before .before .before .before .before .before .before .before .before .before .before .before .before .before .before .before .more-at .ensures) ∙ c .before .before .before .before .before .before .before .before .before .before .before .before .before .before .before .before .before .before .before .before .before .before .if1 .taken)))
+write-query-loop-less-2 t c = let L = led (c .before .before .before .before .before .before .before .before .before .before .before .before .before .before .before .before .before .before .before .before .before .conjunction-at .result) (c .before .before .before .before .before .before .before .before .before .before .before .before .before .before .before .before .before .before .before .modifier-at .result) (c .before .before .before .before .before .before .before .before .before .before .before .before .before .before .before .before .before .before .before .before .before .before .before .before .loop .i) (c .before .before .before .before .before .before .before .before .before .before .before .before .before .before .before .before .before .before .before .before .after .result) (c .before .before .before .before .before .before .before .before .before .before .before .before .before .before .before .before .before .before .after2 .result) (c .before .before .before .before .before .before .before .before .before .before .before .before .before .before .before .before .before .before .before .before .after .ensures .0) (c .before .before .before .before .before .before .before .before .before .before .before .before .before .before .before .before .before .before .after2 .ensures .1) in omega (arith, L .one, L .two, c .before .before .before .before .before .before .before .before .before .before .before .write-clause .ensures .1, goes-in (c .before .before .before .before .before .before .before .before .before .before .before .before .before .before .before .before .before .before .before .before .before .before .before .before .before .before .before .before .before .before .before .before .args .room .now) (c .before .before .before .before .before .before .before .before .before .before .before .before .before .before .before .before .before .before .before .before .before .before .before .before .before .before .before .before .before .before .before .before .args .p .n) (c .before .before .before .before .before .before .before .before .before .before .before .before .before .before .before .before .before .before .before .before .before .before .before .before .loop .i) (not-true _ (sym (c .before .before .before .before .before .before .before .before .before .before .before .before .before .before .before .before .before .before .before .before .before .before .before .more-at .ensures) ∙ c .before .before .before .before .before .before .before .before .before .before .before .before .before .before .before .before .before .before .before .before .before .before .if1 .taken)))
 
 write-query-loop-again-2 : (t : ℕ) → write-query-lts.Need-loop-again-2 (write-query-calls t) (write-query-at t) write-query.Post write-query-Inv-loop write-query-μ-loop
-write-query-loop-again-2 t c = let L = led (c .before .before .before .before .before .before .before .before .before .before .before .before .before .before .before .before .before .before .before .before .before .conjunction-at .result) (c .before .before .before .before .before .before .before .before .before .before .before .before .before .before .before .before .before .before .before .modifier-at .result) (c .before .before .before .before .before .before .before .before .before .before .before .before .before .before .before .before .before .before .before .before .before .before .before .before .loop .i) (c .before .before .before .before .before .before .before .before .before .before .before .before .before .before .before .before .before .before .before .before .after .result) (c .before .before .before .before .before .before .before .before .before .before .before .before .before .before .before .before .before .before .after2 .result) (c .before .before .before .before .before .before .before .before .before .before .before .before .before .before .before .before .before .before .before .before .after .ensures .0) (c .before .before .before .before .before .before .before .before .before .before .before .before .before .before .before .before .before .before .after2 .ensures .1) in (omega (arith, L .one, L .two, c .before .before .before .before .before .before .before .before .before .before .before .write-clause .ensures .1, c .before .before .before .before .before .before .before .before .before .before .before .before .before .before .before .before .before .before .before .before .before .before .before .before .loop .inv .0), c .before .before .before .before .before .before .before .before .before .before .before .write-clause .ensures .1 .1, c .before .before .put-header .kept .0 ∙ c .before .before .before .before .before .before .before .before .before .before .before .write-clause .kept .1 .1 .1 .1 .1 .1 .1 .1 .0 ∙ c .before .before .before .before .before .before .before .before .before .before .before .before .before .before .before .before .touch-last .kept .0 ∙ c .before .before .before .before .before .before .before .before .before .before .before .before .before .before .before .before .before .before .before .before .before .before .before .before .loop .inv .2, λ st cs j W. let T : Turned st (tokensOf (c .before .before .before .before .before .before .before .before .before .before .before .before .before .before .before .before .before .before .before .before .before .before .before .before .before .before .before .before .before .before .before .before .args .room .now) (c .before .before .before .before .before .before .before .before .before .before .before .before .before .before .before .before .before .before .before .before .before .before .before .before .before .before .before .before .before .before .before .before .args .n)) (c .before .before .before .before .before .before .before .before .before .before .before .before .before .before .before .before .before .before .before .before .before .before .before .before .loop .i) (c .before .before .before .before .before .before .before .before .before .before .before .before .before .before .before .before .before .before .before .before .before .before .before .before .loop .w) (c .before .before .before .before .before .before .before .before .before .before .before .before .before .before .before .before .before .before .before .before .before .before .before .before .loop .last) (c .before .before .before .before .before .before .before .before .before .before .before .before .before .before .before .before .before .before .before .before .before .before .before .before .before .before .before .before .before .before .before .before .args .operator) (c .before .before .before .before .before .before .before .before .before .before .before .before .before .before .before .before .before .before .before .before .before .before .before .before .loop .out) (c .before .before .before .before .before .before .before .before .before .before .before .before .before .before .before .before .before .before .before .before .before .conjunction-at .result) (c .before .before .before .before .before .before .before .before .before .before .before .before .before .before .before .before .before .before .before .before .after .result) (c .before .before .before .before .before .before .before .before .before .before .before .before .before .before .before .before .before .before .before .modifier-at .result) (c .before .before .before .before .before .before .before .before .before .before .before .before .before .before .before .before .before .before .after2 .result) (c .before .before .before .before .before .before .before .before .before .before .before .before .before .before .before .before .touch-last .last .0) = record { joins = W .tuned .joins; goes = not-true _ (sym (c .before .before .before .before .before .before .before .before .before .before .before .before .before .before .before .before .before .before .before .before .before .before .before .more-at .ensures) ∙ c .before .before .before .before .before .before .before .before .before .before .before .before .before .before .before .before .before .before .before .before .before .before .if1 .taken); lead = λ acc e. record { joins = c .before .before .before .before .before .before .before .before .before .before .before .before .before .before .before .before .before .before .before .before .before .conjunction-at .ensures acc e; first = c .before .before .before .before .before .before .before .before .before .before .before .before .before .before .before .before .before .before .before .before .after .ensures .0; modifies = c .before .before .before .before .before .before .before .before .before .before .before .before .before .before .before .before .before .before .before .modifier-at .ensures; second = c .before .before .before .before .before .before .before .before .before .before .before .before .before .before .before .before .before .before .after2 .ensures .1 }; touches = c .before .before .before .before .before .before .before .before .before .before .before .before .before .before .before .before .touch-last .ensures; same = c .before .before .before .before .before .before .before .before .before .before .before .before .before .before .before .before .touch-last .kept .0 } in let G = c .before .before .before .before .before .before .before .before .before .before .before .before .before .before .before .before .before .before .before .before .before .before .before .before .loop .inv .3 st cs j W in let z = going-clause T (c .before .before .before .before .before .before .before .before .before .before .before .before .before .before .before .before .before .before .before .before .before .before .before .before .before .before .before .before .before .before .before .before .args .alone) G in let P = c .before .before .before .before .before .before .before .before .before .before .before .write-clause .ensures .0 st (z .0) (z .1) (record { tuned = W .tuned; is = z .2; fits = (λ h. omega (arith, z .3 h, c .before .before .before .before .before .before .before .before .before .before .before .before .before .body-start .ensures, c .before .before .before .before .before .before .before .before .before .before .before .before .before .before .before .before .touch-last .kept .0, c .before .before .before .before .before .before .before .before .before .before .before .before .before .before .before .before .before .before .before .before .before .before .before .before .loop .inv .2)) }) in going-made T (P .0) (c .before .before .before .before .before .before .before .before .before .before .before .before .before .before .before .before .before .before .before .before .before .before .before .before .before .before .before .before .before .before .before .before .args .alone) G (c .before .before .before .before .before .before .if3 .left) (c .before .before .before .before .before .before .before .before .before .before .before .before .before .body-start .result) (c .before .before .before .before .before .before .before .before .before .before .before .before .before .body-start .ensures) (z .0) (z .2) (P .1) (c .before .before .before .before .before .before .before .if2 .left) (c .before .before .before .before .tag-after .result) (c .before .before .before .before .before .before .before .before .before .before .before .write-clause .result .end - c .before .before .before .before .before .before .before .before .before .before .before .before .before .body-start .result) (c .before .before .put-header .result) (c .before .before .put-header .last .0) (c .before .before .before .before .tag-after .ensures) (c .before .before .put-header .ensures) refl (c .before .before .put-header .kept .0 ∙ c .before .before .before .before .before .before .before .before .before .before .before .write-clause .kept .1 .1 .1 .1 .1 .1 .1 .1 .0))
+write-query-loop-again-2 t c = let L = led (c .before .before .before .before .before .before .before .before .before .before .before .before .before .before .before .before .before .before .before .before .before .conjunction-at .result) (c .before .before .before .before .before .before .before .before .before .before .before .before .before .before .before .before .before .before .before .modifier-at .result) (c .before .before .before .before .before .before .before .before .before .before .before .before .before .before .before .before .before .before .before .before .before .before .before .before .loop .i) (c .before .before .before .before .before .before .before .before .before .before .before .before .before .before .before .before .before .before .before .before .after .result) (c .before .before .before .before .before .before .before .before .before .before .before .before .before .before .before .before .before .before .after2 .result) (c .before .before .before .before .before .before .before .before .before .before .before .before .before .before .before .before .before .before .before .before .after .ensures .0) (c .before .before .before .before .before .before .before .before .before .before .before .before .before .before .before .before .before .before .after2 .ensures .1) in (omega (arith, L .one, L .two, c .before .before .before .before .before .before .before .before .before .before .before .write-clause .ensures .1, c .before .before .before .before .before .before .before .before .before .before .before .before .before .before .before .before .before .before .before .before .before .before .before .before .loop .inv .0), c .before .before .before .before .before .before .before .before .before .before .before .write-clause .ensures .1 .1, c .before .before .put-header .kept .0 ∙ c .before .before .before .before .before .before .before .before .before .before .before .write-clause .kept .1 .1 .1 .1 .0 ∙ c .before .before .before .before .before .before .before .before .before .before .before .before .before .before .before .before .touch-last .kept .0 ∙ c .before .before .before .before .before .before .before .before .before .before .before .before .before .before .before .before .before .before .before .before .before .before .before .before .loop .inv .2, λ st cs j W. let T : Turned st (tokensOf (c .before .before .before .before .before .before .before .before .before .before .before .before .before .before .before .before .before .before .before .before .before .before .before .before .before .before .before .before .before .before .before .before .args .room .now) (c .before .before .before .before .before .before .before .before .before .before .before .before .before .before .before .before .before .before .before .before .before .before .before .before .before .before .before .before .before .before .before .before .args .p .n)) (c .before .before .before .before .before .before .before .before .before .before .before .before .before .before .before .before .before .before .before .before .before .before .before .before .loop .i) (c .before .before .before .before .before .before .before .before .before .before .before .before .before .before .before .before .before .before .before .before .before .before .before .before .loop .w) (c .before .before .before .before .before .before .before .before .before .before .before .before .before .before .before .before .before .before .before .before .before .before .before .before .loop .last) (c .before .before .before .before .before .before .before .before .before .before .before .before .before .before .before .before .before .before .before .before .before .before .before .before .before .before .before .before .before .before .before .before .args .p .operator) (c .before .before .before .before .before .before .before .before .before .before .before .before .before .before .before .before .before .before .before .before .before .before .before .before .loop .out) (c .before .before .before .before .before .before .before .before .before .before .before .before .before .before .before .before .before .before .before .before .before .conjunction-at .result) (c .before .before .before .before .before .before .before .before .before .before .before .before .before .before .before .before .before .before .before .before .after .result) (c .before .before .before .before .before .before .before .before .before .before .before .before .before .before .before .before .before .before .before .modifier-at .result) (c .before .before .before .before .before .before .before .before .before .before .before .before .before .before .before .before .before .before .after2 .result) (c .before .before .before .before .before .before .before .before .before .before .before .before .before .before .before .before .touch-last .last .0) = record { joins = W .tuned .joins; goes = not-true _ (sym (c .before .before .before .before .before .before .before .before .before .before .before .before .before .before .before .before .before .before .before .before .before .before .before .more-at .ensures) ∙ c .before .before .before .before .before .before .before .before .before .before .before .before .before .before .before .before .before .before .before .before .before .before .if1 .taken); lead = λ acc e. record { joins = c .before .before .before .before .before .before .before .before .before .before .before .before .before .before .before .before .before .before .before .before .before .conjunction-at .ensures acc e; first = c .before .before .before .before .before .before .before .before .before .before .before .before .before .before .before .before .before .before .before .before .after .ensures .0; modifies = c .before .before .before .before .before .before .before .before .before .before .before .before .before .before .before .before .before .before .before .modifier-at .ensures; second = c .before .before .before .before .before .before .before .before .before .before .before .before .before .before .before .before .before .before .after2 .ensures .1 }; touches = c .before .before .before .before .before .before .before .before .before .before .before .before .before .before .before .before .touch-last .ensures; same = c .before .before .before .before .before .before .before .before .before .before .before .before .before .before .before .before .touch-last .kept .0 } in let G = c .before .before .before .before .before .before .before .before .before .before .before .before .before .before .before .before .before .before .before .before .before .before .before .before .loop .inv .3 st cs j W in let z = going-clause T (c .before .before .before .before .before .before .before .before .before .before .before .before .before .before .before .before .before .before .before .before .before .before .before .before .before .before .before .before .before .before .before .before .args .alone) G in let P = c .before .before .before .before .before .before .before .before .before .before .before .write-clause .ensures .0 st (z .0) (z .1) (record { tuned = W .tuned; is = z .2; fits = (λ h. omega (arith, z .3 h, c .before .before .before .before .before .before .before .before .before .before .before .before .before .body-start .ensures, c .before .before .before .before .before .before .before .before .before .before .before .before .before .before .before .before .touch-last .kept .0, c .before .before .before .before .before .before .before .before .before .before .before .before .before .before .before .before .before .before .before .before .before .before .before .before .loop .inv .2)) }) in going-made T (P .0) (c .before .before .before .before .before .before .before .before .before .before .before .before .before .before .before .before .before .before .before .before .before .before .before .before .before .before .before .before .before .before .before .before .args .alone) G (c .before .before .before .before .before .before .if3 .left) (c .before .before .before .before .before .before .before .before .before .before .before .before .before .body-start .result) (c .before .before .before .before .before .before .before .before .before .before .before .before .before .body-start .ensures) (z .0) (z .2) (P .1) (c .before .before .before .before .before .before .before .if2 .left) (c .before .before .before .before .tag-after .result) (c .before .before .before .before .before .before .before .before .before .before .before .write-clause .result .end - c .before .before .before .before .before .before .before .before .before .before .before .before .before .body-start .result) (c .before .before .put-header .result) (c .before .before .put-header .last .0) (c .before .before .before .before .tag-after .ensures) (c .before .before .put-header .ensures) refl (c .before .before .put-header .kept .0 ∙ c .before .before .before .before .before .before .before .before .before .before .before .write-clause .kept .1 .1 .1 .1 .0))
 
 write-query-same-length-2 : (t : ℕ) → write-query-lts.Need-same-length-2 (write-query-calls t) (write-query-at t) write-query.Post write-query-Inv-loop write-query-μ-loop
 write-query-same-length-2 t c = c .before .before .loop .inv .2 ∙ c .before .before .before .before .before .put-query-front .kept .0
@@ -318,12 +318,12 @@ pub +write-bracket+write-clause+write-query-spec : {M : Type 1} → statement M
     (write-clause-clause-start-requires t)
     (write-clause-enum-told t)
     (write-clause-enum-known-from t)
+    (write-clause-add-write-bracket t)
     (write-clause-is-at-requires t)
     (write-clause-is-at-requires-2 t)
     (write-clause-write-leaf-requires t)
     (write-clause-same-length t)
     (write-clause-returns t)
-    (write-clause-add-write-bracket t)
     (write-clause-add-write-bracket-2 t)
     (write-clause-write-bracket-requires t)
     (write-clause-returns-2 t)

@@ -32,13 +32,13 @@ part-write-query-end : tie.Need-part-write-query-end
 part-write-query-end c = omega (arith, c .if3 .left)
 
 write-query-requires : tie.Need-write-query-requires
-write-query-requires c κs = let r = first-length (c .before .before .before .before .before .before .args .out .now) (c .before .before .before .before .before .before .args .len) (c .before .if3 .left) in (c .before .before .before .before .before .before .pre .0, c .before .before .before .before .before .before .pre .1, omega arith, omega arith, omega (arith, r, c .before .before .if1 .left), omega (arith, r, c .before .before .before .before .before .before .pre .2), (c .before .before .before .before .before .before .pre .3 .0, c .before .before .before .before .before .before .pre .3 .1, c .before .before .before .before .before .before .pre .3 .2, record { tuned = c .before .before .before .before .before .before .pre .3 .3 .tuned; is = c .before .before .before .before .before .before .pre .3 .3 .is; alone-is = c .before .before .before .before .before .before .pre .3 .3 .alone-is; fills = r ∙ c .before .before .before .before .before .before .pre .3 .3 .fills }))
+write-query-requires c κs = let r = first-length (c .before .before .before .before .before .before .args .out .now) (c .before .before .before .before .before .before .args .len) (c .before .if3 .left) in (c .before .before .before .before .before .before .pre .0, c .before .before .before .before .before .before .pre .1, omega arith, c .before .before .before .before .before .before .pre .4, omega (arith, r, c .before .before .if1 .left), omega (arith, r, c .before .before .before .before .before .before .pre .2), (c .before .before .before .before .before .before .pre .3 .0, c .before .before .before .before .before .before .pre .3 .1, c .before .before .before .before .before .before .pre .3 .2, record { tuned = c .before .before .before .before .before .before .pre .3 .3 .tuned; is = c .before .before .before .before .before .before .pre .3 .3 .is; alone-is = c .before .before .before .before .before .before .pre .3 .3 .alone-is; fills = r ∙ c .before .before .before .before .before .before .pre .3 .3 .fills }))
 
 same-length-2 : tie.Need-same-length-2
-same-length-2 c = let r = first-length (c .before .before .before .before .before .before .before .before .before .args .out .now) (c .before .before .before .before .before .before .before .before .before .args .len) (c .before .before .before .before .if3 .left) in mid-length (c .before .before .before .before .before .before .before .before .before .args .out .now) (c .before .before .write-query .last .1 .1 .1 .1 .1 .1 .1 .1 .1 .0) 0 (c .before .before .before .before .before .before .before .before .before .args .len) (omega arith) (c .before .before .before .before .if3 .left) (c .before .before .write-query .kept .1 .1 .1 .1 .1 .1 .1 .1 .1 .0 ∙ r ∙ omega arith)
+same-length-2 c = let r = first-length (c .before .before .before .before .before .before .before .before .before .args .out .now) (c .before .before .before .before .before .before .before .before .before .args .len) (c .before .before .before .before .if3 .left) in mid-length (c .before .before .before .before .before .before .before .before .before .args .out .now) (c .before .before .write-query .last .1 .1 .1 .1 .1 .0) 0 (c .before .before .before .before .before .before .before .before .before .args .len) (omega arith) (c .before .before .before .before .if3 .left) (c .before .before .write-query .kept .1 .1 .1 .1 .1 .0 ∙ r ∙ omega arith)
 
 returns-4 : tie.Need-returns-4
-returns-4 c = let r = first-length (c .before .before .before .before .before .before .before .before .before .args .out .now) (c .before .before .before .before .before .before .before .before .before .args .len) (c .before .before .before .before .if3 .left) in λ st cs j W. some-fits cs (c .before .before .before .before .before .before .before .before .before .args .len) (W .fills) (c .before .before .before .before .before .before .before .before .before .args .out .now) (c .before .before .before .before .before .if1 .left) (c .before .before .before .before .if3 .left) (c .before .before .before .before .before .before .before .before .before .pre .2) (c .before .before .write-query .last .1 .1 .1 .1 .1 .1 .1 .1 .1 .0) (c .before .before .write-query .ensures st cs j (record { tuned = W .tuned; is = W .is; alone-is = W .alone-is; fills = r ∙ W .fills }))
+returns-4 c = let r = first-length (c .before .before .before .before .before .before .before .before .before .args .out .now) (c .before .before .before .before .before .before .before .before .before .args .len) (c .before .before .before .before .if3 .left) in λ st cs j W. some-fits cs (c .before .before .before .before .before .before .before .before .before .args .len) (W .fills) (c .before .before .before .before .before .before .before .before .before .args .out .now) (c .before .before .before .before .before .if1 .left) (c .before .before .before .before .if3 .left) (c .before .before .before .before .before .before .before .before .before .pre .2) (c .before .before .write-query .last .1 .1 .1 .1 .1 .0) (c .before .before .write-query .ensures st cs j (record { tuned = W .tuned; is = W .is; alone-is = W .alone-is; fills = r ∙ W .fills }))
 
 pub write-whole-spec : {M : Type 1} → statement M
 write-whole-spec =

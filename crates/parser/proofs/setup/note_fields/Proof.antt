@@ -50,17 +50,17 @@ loop-again-2 c = noting-skips (c .before .before .before .before .before .before
 text-at-requires : tie.Need-text-at-requires Inv-loop μ-loop
 text-at-requires c κs = (omega (arith, c .before .before .before .before .before .before .before .loop-test .taken, c .before .before .before .before .before .before .before .before .before .before .pre .0 .few), c .before .before .before .before .before .before .before .before .loop .inv .rowed .laid (c .before .before .before .before .before .before .before .before .loop .k - 1) (omega (arith, c .before .before .before .before .before .before .before .loop-test .taken)), c .before .before .before .before .before .before .before .before .loop .inv .rowed .least)
 
-analyzer-among-requires : tie.Need-analyzer-among-requires Inv-loop μ-loop
-analyzer-among-requires c κs = search needs
+analyzer-of-requires : tie.Need-analyzer-of-requires Inv-loop μ-loop
+analyzer-of-requires c κs = search needs
 
 put-note-requires : tie.Need-put-note-requires Inv-loop μ-loop
-put-note-requires c κs = (omega (arith, c .before .before .before .before .before .before .before .before .before .before .loop-test .taken, c .before .before .before .before .before .before .before .before .before .before .before .before .before .pre .0 .few), c .before .before .before .before .before .before .before .before .before .before .before .loop .inv .rowed .least, omega (arith, analyzer-small (c .before .analyzer-among .result) (ap isAnalyzer (c .before .analyzer-among .ensures) ∙ c .before .before .before .before .before .before .before .before .before .before .before .before .before .pre .1 (c .before .before .text-at .result .now))))
+put-note-requires c κs = (omega (arith, c .before .before .before .before .before .before .before .before .before .before .loop-test .taken, c .before .before .before .before .before .before .before .before .before .before .before .before .before .pre .0 .few), c .before .before .before .before .before .before .before .before .before .before .before .loop .inv .rowed .least, omega (arith, analyzer-small (c .before .analyzer-of .result) (ap isAnalyzer (c .before .analyzer-of .ensures) ∙ c .before .before .before .before .before .before .before .before .before .before .before .before .before .pre .1 (c .before .before .text-at .result .now))))
 
 loop-less-3 : tie.Need-loop-less-3 Inv-loop μ-loop
 loop-less-3 c = omega (arith, c .before .before .before .before .before .before .before .before .before .before .before .before .before .loop-test .taken)
 
 loop-again-3 : tie.Need-loop-again-3 Inv-loop μ-loop
-loop-again-3 c = noting-notes (c .before .before .before .before .before .before .before .before .before .before .before .before .before .before .loop .inv) (c .before .before .before .before .before .before .before .before .before .before .before .before .before .loop-test .taken) _ (c .before .before .put-note .ensures) (λ z. omega (arith, analyzer-small (c .before .before .before .before .analyzer-among .result) (ap isAnalyzer (c .before .before .before .before .analyzer-among .ensures) ∙ c .before .before .before .before .before .before .before .before .before .before .before .before .before .before .before .before .pre .1 (c .before .before .before .before .before .text-at .result .now)))) (c .before .before .before .before .analyzer-among .ensures ∙ ap (analyzerAmong (c .before .before .before .before .before .before .before .before .before .before .before .before .before .before .before .before .args .default) (arrayEntries (c .before .before .before .before .before .before .before .before .before .before .before .before .before .before .before .before .args .names .now) (c .before .before .before .before .before .before .before .before .before .before .before .before .before .before .before .before .args .lengths .now) (c .before .before .before .before .before .before .before .before .before .before .before .before .before .before .before .before .args .analyzers .now) (c .before .before .before .before .before .before .before .before .before .before .before .before .before .before .before .before .args .count))) (c .before .before .before .before .before .text-at .ensures))
+loop-again-3 c = noting-notes (c .before .before .before .before .before .before .before .before .before .before .before .before .before .before .loop .inv) (c .before .before .before .before .before .before .before .before .before .before .before .before .before .loop-test .taken) _ (c .before .before .put-note .ensures) (λ z. omega (arith, analyzer-small (c .before .before .before .before .analyzer-of .result) (ap isAnalyzer (c .before .before .before .before .analyzer-of .ensures) ∙ c .before .before .before .before .before .before .before .before .before .before .before .before .before .before .before .before .pre .1 (c .before .before .before .before .before .text-at .result .now)))) (c .before .before .before .before .analyzer-of .ensures ∙ ap (analyzerAmong (c .before .before .before .before .before .before .before .before .before .before .before .before .before .before .before .before .args .default) (arrayEntries (c .before .before .before .before .before .before .before .before .before .before .before .before .before .before .before .before .args .names .now) (c .before .before .before .before .before .before .before .before .before .before .before .before .before .before .before .before .args .lengths .now) (c .before .before .before .before .before .before .before .before .before .before .before .before .before .before .before .before .args .analyzers .now) (c .before .before .before .before .before .before .before .before .before .before .before .before .before .before .before .before .args .count))) (c .before .before .before .before .before .text-at .ensures))
 
 same-length : tie.Need-same-length Inv-loop μ-loop
 same-length c = c .before .loop .inv .long
@@ -85,7 +85,7 @@ note-fields-spec =
     loop-less-2
     loop-again-2
     text-at-requires
-    analyzer-among-requires
+    analyzer-of-requires
     put-note-requires
     loop-less-3
     loop-again-3
