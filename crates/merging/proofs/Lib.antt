@@ -3,4 +3,5 @@ pub mod Forms
 pub mod Laid
 pub mod Rows
 pub mod Eating
+pub mod Alike
 pub mod Merging

@@ -21,11 +21,13 @@ use Rattle.numbers.specs.Laid.{Put}
 use Rattle.numbers.proofs.Laying.{there-laid}
 use Rattle.places.specs.Within.{within, Stands}
 use Rattle.merging.specs.Merge.{First, Eatable, Ate, reboostedBytes, mergedSize, Way, Mergeable}
+use Rattle.merging.specs.Signatures.{signatureOf, having, Noted, Alone}
 use Rattle.places.proofs.Standing.{joined, second, within-same, within-length, behind-laid}
 use Rattle.merging.proofs.Forms.{are-same}
 use Rattle.merging.proofs.Placed.{ClauseAt, clause-at, no-clause-at, clause-end, clause-is, clause-further}
 use Rattle.merging.proofs.Laid.{put-long, put-below, held-end, merged-size, size-within, own-size, reboosted-bytes}
 use Rattle.merging.proofs.Rows.{encodes-snoc, join-snoc, length-snoc}
+use Rattle.merging.proofs.Alike.{having-first, having-fewer, stayed-having}
 
 valid-base : (q : Query) → Valid q → Valid (base q)
 unfolding Valid base
@@ -57,7 +59,7 @@ put-behind {room} {room₁} {w} {v} {s} P fits a t h e =
     sym (joined room₁ a w v h (omega (arith, P .place))) ∙ ap {B = List ℕ} (λ l. l ++ within w v room₁) (put-below P fits a w h (omega arith) ∙ e) ∙ ap {B = List ℕ} (λ l. t ++ l) new
 
 -- the clauses from t up to `last` are left, and what is kept of those before them stands in the first w bytes
-pub record Merging (end m : ℕ) (room₀ room : List ℕ) (t w last : ℕ) : Type 0 where
+pub record Merging (end m : ℕ) (table room₀ room : List ℕ) (t w last : ℕ) : Type 0 where
   pub all : Mergeable end room₀
   pub long : length room ≡ length room₀
   pub low : w ≤ t
@@ -70,10 +72,12 @@ pub record Merging (end m : ℕ) (room₀ room : List ℕ) (t w last : ℕ) : Ty
   pub whole : join done (mergedClauses m left) ≡ mergedClauses m (all .clauses)
   pub fits : last + clauseCounts left ≤ length room
   pub small : last + clauseCounts left < 65536
+  pub noted : Noted m table left
 
-pub merging-start : {end : ℕ} (m : ℕ) {room : List ℕ} → Mergeable end room → Merging end m room room 0 0 end
+pub merging-start : {end : ℕ} (m : ℕ) (table : List ℕ) {room : List ℕ} → Mergeable end room → ((cs : Clauses) → Are (within 0 end room) cs → Noted m table cs)
+    → Merging end m table room room 0 0 end
 unfolding encodes
-merging-start m M = record {
+merging-start m table M N = record {
   all = M;
   long = refl;
   low = omega arith;
@@ -86,9 +90,10 @@ merging-start m M = record {
   whole = refl;
   fits = M .fits;
   small = M .small;
+  noted = N (M .clauses) (M .are);
 }
 
-module _ {end m : ℕ} {room₀ room : List ℕ} {t w last : ℕ} (g : Merging end m room₀ room t w last) where
+module _ {end m : ℕ} {table room₀ room : List ℕ} {t w last : ℕ} (g : Merging end m table room₀ room t w last) where
   pub inside : last ≤ length room
   inside = omega (arith, g .fits)
 
@@ -148,6 +153,15 @@ module _ {end m : ℕ} {room₀ room : List ℕ} {t w last : ℕ} (g : Merging e
               fits = inside;
             }
 
+        pub others-alone : Alone m table b e last room
+        others-alone cs a one =
+            let sg = signatureOf (encode h) in
+            let z : signatureOf (within b e room) ≡ signatureOf (encode h) = ap signatureOf base-here in
+            let c = g .noted sg (ap (λ (i : ℕ). getD table i 0) (sym z) ∙ one) in
+            let l = ap (having m sg) (here .split) ∙ having-first m (here .kind) (here .query) (here .others) in
+            let o : having m (signatureOf (encode h)) (here .others) ≡ 0 = omega arith in
+            ap (λ (i : ℕ). having m i cs) z ∙ ap (having m sg) (are-same a others-are) ∙ o
+
         -- what is left of those behind it stands from f on, and its sum is s
         module _ {f : ℕ} {s : Float} {room₁ : List ℕ}
             (ates : (j : Kind) (q : Query) (cs : Clauses) → kindTag j ≡ k′ → Is (within b e room) q → Are (within e last room) cs → Ate m e last room j q cs x f s room₁)
@@ -206,7 +220,7 @@ module _ {end m : ℕ} {room₀ room : List ℕ} {t w last : ℕ} (g : Merging e
                   let z = within-length room₂ b e (l .1) (omega (arith, inside)) in
                   omega (arith, en, merged-size s (within b e room₂), ap (mergedSize s) z)
 
-              pub merge-next : Merging end m room₀ room₃ v u (last + (v - f))
+              pub merge-next : Merging end m table room₀ room₃ v u (last + (v - f))
               merge-next =
                   let nr = near in
                   let c = counted in
@@ -238,6 +252,13 @@ module _ {end m : ℕ} {room₀ room : List ℕ} {t w last : ℕ} (g : Merging e
                     whole = next-whole;
                     fits = omega (arith, g .fits, put-long P fits, stayed-count m (here .kind) h (here .others));
                     small = omega (arith, g .small, stayed-count m (here .kind) h (here .others));
+                    noted = λ i y. omega (
+                      arith,
+                      g .noted i y,
+                      stayed-having m (here .kind) h i (here .others),
+                      having-fewer m i (here .kind) (here .query) (here .others),
+                      ap (having m i) (here .split),
+                    );
                   }
                 where
                   next-whole : join (snoc (g .done) (here .kind) new) (mergedClauses m (stayed m (here .kind) h (here .others))) ≡ mergedClauses m (g .all .clauses)

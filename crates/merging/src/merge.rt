@@ -1,6 +1,10 @@
 // The merging of clauses, in their place: the first clause is kept and goes once over those behind it; what it stands for it takes up, boost by boost
 // in clause order, and what lies between is moved over what was taken up. Then the next of those that are left.
 // A merged clause travels as base, kind and its running float sum.
+use crate::signatures::SIGNATURES;
+use crate::signatures::is_alone;
+use crate::signatures::one_more;
+use crate::signatures::signature;
 use floats::sums::add;
 use floats::sums::as_sum;
 use floats::sums::is_one;
@@ -11,6 +15,8 @@ use names::MUST_TAG;
 use names::SHOULD_TAG;
 use numbers::big4;
 use numbers::put_big4;
+use parts::part::body;
+use parts::part::rest;
 use parts::write::put_header;
 use places::ends::end_of;
 use places::place::shift;
@@ -23,13 +29,17 @@ ghost use Rattle.rules.specs.Numbers.{boostTag};
 ghost use Rattle.rules.specs.Bytes.{big, part};
 ghost use Rattle.rules.specs.Query.{Kind, Query, Clauses};
 ghost use Rattle.rules.specs.Stored.{kindTag, encodes};
-ghost use Rattle.rules.specs.Checked.{Is, Are, Stored};
+ghost use Rattle.rules.specs.Checked.{Is, Are, Stored, StoredClauses};
 ghost use Rattle.rules.specs.Floats.{widened};
 ghost use Rattle.rules.specs.Rewriting.{summable, standsFor, base, boostOf};
 ghost use Rattle.rules.specs.Eating.{held, mergedClauses};
 ghost use Rattle.numbers.specs.Laid.{Put};
 ghost use Rattle.places.specs.Within.{within, Stands};
+ghost use Rattle.merging.specs.Signatures.{Noted, Alone};
 ghost use Rattle.merging.specs.Merge.{Eats, Fed, First, Eatable, Ate, reboostedBytes, mergedSize, Way, Mergeable};
+
+// The bytes below which clauses are so few that they are compared with no table.
+const FEW: usize = 160;
 
 // A merged clause: where its base stands, its kind, its running sum.
 pub struct Merged {
@@ -164,10 +174,29 @@ fn eat(room: &mut [u8], m: Merged, at: usize, end: usize, least: usize) -> Eaten
         }
         u = v;
     }
-    Eaten {
-        from,
-        sum,
+    Eaten { from, sum }
+}
+
+// The same, without a search where the table says that no clause equals m.
+fn eat_others(
+    room: &mut [u8],
+    m: Merged,
+    at: usize,
+    end: usize,
+    least: usize,
+    table: &[u8],
+) -> Eaten
+    requires { ⌜ Eatable (m .base) (m .kind) at end (now room) × Alone least (now table) (m .base) at end (now room) ⌝ }
+    ensures { λ r. ⌜ ((k : Kind) (h : Query) (cs : Clauses) → kindTag k ≡ m .kind → Is (within (m .base) at (now (room .entry))) h → Are (within at end (now (room .entry))) cs → Ate least at end (now (room .entry)) k h cs (m .sum) (r .from) (r .sum) (now (room .exit))) ⌝ }
+{
+    let b = m.base;
+    if is_alone(table, &room[b..at]) {
+        return Eaten {
+            from: at,
+            sum: m.sum,
+        };
     }
+    eat(room, m, at, end, least)
 }
 
 // Lays a clause at w: what stands from b up to e.
@@ -228,8 +257,8 @@ fn make_way(room: &mut [u8], need: usize, at: usize, end: usize) -> usize
 }
 
 // Merges the clauses that stand in the first `end` bytes, and lays what is kept at the front.
-pub fn merge_clauses(room: &mut [u8], end: usize, least: usize) -> usize
-    requires { ⌜ Mergeable end (now room) ⌝ }
+fn merge_all(room: &mut [u8], end: usize, least: usize, table: &[u8]) -> usize
+    requires { ⌜ Mergeable end (now room) × ((cs : Clauses) → Are (within 0 end (now room)) cs → Noted least (now table) cs) ⌝ }
     ensures { λ r. ⌜ ((cs : Clauses) → Are (within 0 end (now (room .entry))) cs → Stands 0 (now (room .entry)) r (encodes (mergedClauses least cs)) (now (room .exit))) ⌝ }
 {
     let mut t = 0;
@@ -240,18 +269,57 @@ pub fn merge_clauses(room: &mut [u8], end: usize, least: usize) -> usize
         let m = first_of(least, t + 3, room[t], &room[t + 3..e]);
         let b = m.base;
         let k = m.kind;
-        let a = eat(room, m, e, last, least);
+        let a = eat_others(room, m, e, last, least, table);
         let s = a.sum;
         let f = a.from;
         let g = make_way(room, w + merged_size(s, e - b), f, last);
-        let v = put_merged(room, w, Merged {
-            base: b,
-            kind: k,
-            sum: s,
-        }, e);
+        let v = put_merged(
+            room,
+            w,
+            Merged {
+                base: b,
+                kind: k,
+                sum: s,
+            },
+            e,
+        );
         last = last + (g - f);
         w = v;
         t = g;
     }
     w
+}
+
+// Notes the signature of each clause in the table.
+fn note_all(s: &[u8], least: usize, table: &mut [u8])
+    requires { ⌜ StoredClauses (now s) × (length (now table) ≡ 1021) ⌝ }
+    ensures { λ _. ⌜ ((cs : Clauses) → Are (now (s .entry)) cs → Noted least (now (table .exit)) cs) ⌝ }
+{
+    let mut t = s;
+    while t.len() > 0 {
+        let g = signature(held(least, t[0], body(t)));
+        table[g] = one_more(table[g]);
+        let u = rest(t);
+        t = u;
+    }
+}
+
+fn merge_many(room: &mut [u8], end: usize, least: usize) -> usize
+    requires { ⌜ Mergeable end (now room) ⌝ }
+    ensures { λ r. ⌜ ((cs : Clauses) → Are (within 0 end (now (room .entry))) cs → Stands 0 (now (room .entry)) r (encodes (mergedClauses least cs)) (now (room .exit))) ⌝ }
+{
+    let mut table = [0u8; SIGNATURES];
+    note_all(&room[0..end], least, &mut table);
+    merge_all(room, end, least, &table)
+}
+
+// Merges the clauses that stand in the first `end` bytes, and lays what is kept at the front. Few clauses are compared with no table.
+pub fn merge_clauses(room: &mut [u8], end: usize, least: usize) -> usize
+    requires { ⌜ Mergeable end (now room) ⌝ }
+    ensures { λ r. ⌜ ((cs : Clauses) → Are (within 0 end (now (room .entry))) cs → Stands 0 (now (room .entry)) r (encodes (mergedClauses least cs)) (now (room .exit))) ⌝ }
+{
+    if end < FEW {
+        return merge_all(room, end, least, b"");
+    }
+    merge_many(room, end, least)
 }
