@@ -239,30 +239,39 @@ module _ (s out room : List ℕ) where
             let f = sizes in
             record { query = query; is = is-there; fits = omega (arith, bulk-is query, ap length (is-query .form), room-for); small = f .2 }
 
-      module _ (n k : ℕ) (room₂ : List ℕ) (S : Settled (resultOf (rewrite query)) (countOf (rewrite query)) n k room₂) where
-        answer : rewriteReply s ≡ got (rewrittenReply (rewrite query))
-        unfolding rewriteReply query
-        answer = rw (read .1)
+        module _ {n k : ℕ} {room₂ : List ℕ}
+            (settled : (q : Query) → Is (drop (length room - length s) room₁) q → Settled (resultOf (rewrite q)) (countOf (rewrite q)) n k room₂) where
+          S : Settled (resultOf (rewrite query)) (countOf (rewrite query)) n k room₂
+          S = settled query is-there
 
-        n-is : n ≡ length (encode (resultOf (rewrite query)))
-        n-is = sym (sym (ap length (S .here)) ∙ within-length room₂ 0 n (omega arith) (S .low) ∙ minus)
-          where
-            minus : n - 0 ≡ n
-            minus = omega arith
+          pub settled-low : (n ≤ length room₂) × (length (within 0 n room₂) ≡ n)
+          settled-low =
+              let z : n - 0 ≡ n = omega arith in
+              (S .low, within-length room₂ 0 n (omega arith) (S .low) ∙ z)
 
-        pub long-left : length out < n → left 18 0 0 out (zeros room) ≡ rewriteLeft s out room
-        unfolding rewriteLeft call
-        long-left l = rw (le-leb rewriteRoom (length room) h, answer) (go (rewrite query) (sym n-is))
-          where
-            go : (w : Rewritten) → length (encode (resultOf w)) ≡ n → left 18 0 0 out (zeros room) ≡ leave (fitting (length out) (rewrittenReply w)) out room
-            go (rewritten q j) e = rw (lt-leb (length (encode q)) (length out) (omega arith))
+          answer : rewriteReply s ≡ got (rewrittenReply (rewrite query))
+          unfolding rewriteReply query
+          answer = rw (read .1)
 
-        pub got-left : n ≤ length out → (p : ℕ) (out′ : List ℕ) → Put out 0 (within 0 n room₂) p out′ → left 0 n k out′ (zeros room) ≡ rewriteLeft s out room
-        unfolding rewriteLeft call
-        got-left l p out′ P = rw (le-leb rewriteRoom (length room) h, answer) (go (rewrite query) (S .here) (S .rounds) (sym n-is))
-          where
-            go : (w : Rewritten) → within 0 n room₂ ≡ encode (resultOf w) → k ≡ countOf w → length (encode (resultOf w)) ≡ n
-                → left 0 n k out′ (zeros room) ≡ leave (fitting (length out) (rewrittenReply w)) out room
-            go (rewritten q j) e c f =
-                let o : out′ ≡ encode q ++ drop (length (encode q)) out = P .bytes ∙ ap (laid out 0) e ∙ laid-front out (encode q) in
-                rw (le-leb (length (encode q)) (length out) (omega arith), o, c, f)
+          n-is : n ≡ length (encode (resultOf (rewrite query)))
+          n-is = sym (sym (ap length (S .here)) ∙ within-length room₂ 0 n (omega arith) (S .low) ∙ minus)
+            where
+              minus : n - 0 ≡ n
+              minus = omega arith
+
+          pub long-left : length out < n → left 18 0 0 out (zeros room) ≡ rewriteLeft s out room
+          unfolding rewriteLeft call
+          long-left l = rw (le-leb rewriteRoom (length room) h, answer) (go (rewrite query) (sym n-is))
+            where
+              go : (w : Rewritten) → length (encode (resultOf w)) ≡ n → left 18 0 0 out (zeros room) ≡ leave (fitting (length out) (rewrittenReply w)) out room
+              go (rewritten q j) e = rw (lt-leb (length (encode q)) (length out) (omega arith))
+
+          pub got-left : n ≤ length out → (p : ℕ) (out′ : List ℕ) → Put out 0 (within 0 n room₂) p out′ → left 0 n k out′ (zeros room) ≡ rewriteLeft s out room
+          unfolding rewriteLeft call
+          got-left l p out′ P = rw (le-leb rewriteRoom (length room) h, answer) (go (rewrite query) (S .here) (S .rounds) (sym n-is))
+            where
+              go : (w : Rewritten) → within 0 n room₂ ≡ encode (resultOf w) → k ≡ countOf w → length (encode (resultOf w)) ≡ n
+                  → left 0 n k out′ (zeros room) ≡ leave (fitting (length out) (rewrittenReply w)) out room
+              go (rewritten q j) e c f =
+                  let o : out′ ≡ encode q ++ drop (length (encode q)) out = P .bytes ∙ ap (laid out 0) e ∙ laid-front out (encode q) in
+                  rw (le-leb (length (encode q)) (length out) (omega arith), o, c, f)

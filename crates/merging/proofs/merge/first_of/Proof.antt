@@ -1,48 +1,34 @@
-use Rattle.merging.proofs.Laid as laid
-use Rattle.rules.specs.Floats.{one}
-use denote.Ref.{now}
-use lib.ListN.{length}
+-- `merging::merge::first_of` meets its contract.
 use mathlib.Core.Path.{refl, ap, _∙_}
 use native.Mathlib.Omega.{arith}
+use lib.ListN.{length}
 use borrow.Author.Needs.{needs}
+use Rattle.rules.specs.Floats.{one}
+use Rattle.merging.proofs.Laid as laid
 use Rattle.merging.proofs.merge.first_of.Statement.{statement}
 use Rattle.merging.proofs.merge.first_of.Tie as tie
-use Rattle.merging.proofs.merge.first_of.Reads as reads
-use Rattle.merging.proofs.merge.first_of.Lts as lts
-use Rattle.floats.proofs.sums.as_sum.Reads as as-sum-reads
-use Rattle.merging.proofs.merge.base.Reads as base-reads
-use Rattle.merging.proofs.merge.boost_of.Reads as boost-of-reads
-use Rattle.merging.proofs.merge.summable.Reads as summable-reads
 
--- src/merge.rt:124:8
 summable-requires : tie.Need-summable-requires
 summable-requires c κs = search needs
 
--- src/merge.rt:125:13
 base-requires : tie.Need-base-requires
 base-requires c κs = c .before .before .before .pre .0
 
--- src/merge.rt:127:25
 sub-t9 : tie.Need-sub-t9
 sub-t9 c = omega (arith, ap length (c .base .ensures (c .before .before .before .before .pre .0 .query) (c .before .before .before .before .pre .0 .is) .form), ap length (c .before .before .before .before .pre .0 .is .form), laid.base-end (c .before .before .before .before .pre .0 .query) .1)
 
--- src/merge.rt:127:19
 add-t10 : tie.Need-add-t10
 add-t10 c = omega (arith, c .before .before .before .before .pre .1)
 
--- src/merge.rt:129:25
 boost-of-requires : tie.Need-boost-of-requires
 boost-of-requires c κs = c .before .before .before .before .pre .0
 
--- src/merge.rt:129:18
 as-sum-requires : tie.Need-as-sum-requires
 as-sum-requires c κs = search needs
 
--- src/merge.rt:126:9
 returns : tie.Need-returns
 returns c = λ j x ej ix. laid.first-summed _ _ _ _ j x ej ix _ (c .before .before .before .before .summable .ensures j ej) (c .before .before .before .if1 .taken) _ (c .before .before .base .ensures x ix) _ (c .as-sum .ensures ∙ c .before .boost-of .ensures x ix)
 
--- src/merge.rt:120:1
 returns-2 : tie.Need-returns-2
 unfolding one
 returns-2 c = λ j x ej ix. laid.first-plain _ _ _ _ j x ej ix _ (c .before .summable .ensures j ej) (c .if1 .left) _ refl

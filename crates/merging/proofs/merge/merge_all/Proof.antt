@@ -1,19 +1,12 @@
-use Rattle.merging.proofs.Placed as placed
-use Rattle.merging.proofs.Merging as merging
-use Prim.Native.Nat.{_-_}
+-- `merging::merge::merge_all` meets its contract.
 use mathlib.Core.Path.{refl}
+use Prim.Native.Nat.{_-_}
 use native.Mathlib.Omega.{arith}
 use borrow.Author.Needs.{needs}
+use Rattle.merging.proofs.Placed as placed
+use Rattle.merging.proofs.Merging as merging
 use Rattle.merging.proofs.merge.merge_all.Statement.{statement}
 use Rattle.merging.proofs.merge.merge_all.Tie as tie
-use Rattle.merging.proofs.merge.merge_all.Reads as reads
-use Rattle.merging.proofs.merge.merge_all.Lts as lts
-use Rattle.merging.proofs.merge.eat_others.Reads as eat-others-reads
-use Rattle.merging.proofs.merge.first_of.Reads as first-of-reads
-use Rattle.merging.proofs.merge.make_way.Reads as make-way-reads
-use Rattle.merging.proofs.merge.merged_size.Reads as merged-size-reads
-use Rattle.merging.proofs.merge.put_merged.Reads as put-merged-reads
-use Rattle.places.proofs.ends.end_of.Reads as end-of-reads
 
 abbrev Inv-loop : tie.InvT-loop
 Inv-loop room₀ end least table t₀ w₀ last₀ room t w last = merging.Merging end least table room₀ room t w last
@@ -21,87 +14,98 @@ Inv-loop room₀ end least table t₀ w₀ last₀ room t w last = merging.Mergi
 abbrev μ-loop : tie.MeasureT-loop
 μ-loop room₀ end least table t₀ w₀ last₀ room t w last = last - t
 
--- src/merge.rt:263:5
 loop-holds : tie.Need-loop-holds Inv-loop μ-loop
 loop-holds c = merging.merging-start _ _ (c .before .before .pre .0) (c .before .before .pre .1)
 
--- src/merge.rt:264:13
 end-of-requires : tie.Need-end-of-requires Inv-loop μ-loop
 end-of-requires c κs = (let l = merging.inside (c .before .before .loop .inv) in omega arith, merging.here (c .before .before .loop .inv) (c .before .loop-test .taken) .part .whole)
 
--- src/merge.rt:265:33
 add-first-of : tie.Need-add-first-of Inv-loop μ-loop
 add-first-of c = search needs
 
--- src/merge.rt:265:40
 slice-read-first-of : tie.Need-slice-read-first-of Inv-loop μ-loop
 slice-read-first-of c = search needs
 
--- src/merge.rt:265:55
 add-first-of-2 : tie.Need-add-first-of-2 Inv-loop μ-loop
 add-first-of-2 c = search needs
 
--- src/merge.rt:265:49
 sub-first-of : tie.Need-sub-first-of Inv-loop μ-loop
 sub-first-of c = search needs
 
--- src/merge.rt:265:49
 part-first-of-start : tie.Need-part-first-of-start Inv-loop μ-loop
 part-first-of-start c = search needs
 
--- src/merge.rt:265:49
 part-first-of-end : tie.Need-part-first-of-end Inv-loop μ-loop
 part-first-of-end c = search needs
 
--- src/merge.rt:265:13
 first-of-requires : tie.Need-first-of-requires Inv-loop μ-loop
 first-of-requires c κs = (record { query = merging.here (c .before .before .before .before .before .before .loop .inv) (c .before .before .before .before .before .loop-test .taken) .query; is = placed.clause-is (merging.here (c .before .before .before .before .before .before .loop .inv) (c .before .before .before .before .before .loop-test .taken)) _ (c .before .before .before .end-of .ensures .0) }, omega arith)
 
--- src/merge.rt:268:13
 eat-others-requires : tie.Need-eat-others-requires Inv-loop μ-loop
 eat-others-requires c κs = (merging.eatable (c .before .before .before .before .before .before .before .before .loop .inv) (c .before .before .before .before .before .before .before .loop-test .taken) _ (c .before .before .before .before .before .end-of .ensures .0) _ refl _ _ _ (c .before .first-of .ensures), merging.others-alone (c .before .before .before .before .before .before .before .before .loop .inv) (c .before .before .before .before .before .before .before .loop-test .taken) _ (c .before .before .before .before .before .end-of .ensures .0) _ refl _ _ _ (c .before .first-of .ensures))
 
--- src/merge.rt:271:51
 sub-merged-size : tie.Need-sub-merged-size Inv-loop μ-loop
 sub-merged-size c = omega (arith, merging.eatable (c .before .before .before .before .before .before .before .before .before .before .before .before .loop .inv) (c .before .before .before .before .before .before .before .before .before .before .before .loop-test .taken) _ (c .before .before .before .before .before .before .before .before .before .end-of .ensures .0) _ refl _ _ _ (c .before .before .before .before .before .first-of .ensures) .low)
 
--- src/merge.rt:271:36
 merged-size-requires : tie.Need-merged-size-requires Inv-loop μ-loop
 merged-size-requires c κs = search needs
 
--- src/merge.rt:271:32
 add-make-way : tie.Need-add-make-way Inv-loop μ-loop
-add-make-way c = omega (arith, merging.near (c .before .before .before .before .before .before .before .before .before .before .before .before .before .loop .inv) (c .before .before .before .before .before .before .before .before .before .before .before .before .loop-test .taken) _ (c .before .before .before .before .before .before .before .before .before .before .end-of .ensures .0) _ refl _ _ _ (c .before .before .before .before .before .before .first-of .ensures) (c .before .before .before .before .eat-others .ensures) (omega (arith, c .before .before .before .before .eat-others .kept .0)) _ (c .merged-size .ensures), merging.way-room (c .before .before .before .before .before .before .before .before .before .before .before .before .before .loop .inv) (c .before .before .before .before .before .before .before .before .before .before .before .before .loop-test .taken) _ (c .before .before .before .before .before .before .before .before .before .before .end-of .ensures .0) _ refl _ _ _ (c .before .before .before .before .before .before .first-of .ensures) (c .before .before .before .before .eat-others .ensures) (omega (arith, c .before .before .before .before .eat-others .kept .0)) _ (c .merged-size .ensures) .0, c .before .before .before .before .before .before .before .before .before .before .before .before .before .loop .inv .small)
+add-make-way c =
+    omega (
+      arith,
+      merging.near (c .before .before .before .before .before .before .before .before .before .before .before .before .before .loop .inv) (c .before .before .before .before .before .before .before .before .before .before .before .before .loop-test .taken) _
+          (c .before .before .before .before .before .before .before .before .before .before .end-of .ensures .0) _ refl _ _ _ (c .before .before .before .before .before .before .first-of .ensures) (c .before .before .before .before .eat-others .ensures) (omega (arith, c .before .before .before .before .eat-others .kept .0)) _
+          (c .merged-size .ensures),
+      merging.way-room (c .before .before .before .before .before .before .before .before .before .before .before .before .before .loop .inv) (c .before .before .before .before .before .before .before .before .before .before .before .before .loop-test .taken) _
+          (c .before .before .before .before .before .before .before .before .before .before .end-of .ensures .0) _ refl _ _ _ (c .before .before .before .before .before .before .first-of .ensures) (c .before .before .before .before .eat-others .ensures) (omega (arith, c .before .before .before .before .eat-others .kept .0)) _
+          (c .merged-size .ensures) .0,
+      c .before .before .before .before .before .before .before .before .before .before .before .before .before .loop .inv .small,
+    )
 
--- src/merge.rt:271:13
 make-way-requires : tie.Need-make-way-requires Inv-loop μ-loop
 make-way-requires c κs = merging.way-room (c .before .before .before .before .before .before .before .before .before .before .before .before .before .loop .inv) (c .before .before .before .before .before .before .before .before .before .before .before .before .loop-test .taken) _ (c .before .before .before .before .before .before .before .before .before .before .end-of .ensures .0) _ refl _ _ _ (c .before .before .before .before .before .before .first-of .ensures) (c .before .before .before .before .eat-others .ensures) (omega (arith, c .before .before .before .before .eat-others .kept .0)) _ (c .merged-size .ensures)
 
--- src/merge.rt:272:13
 put-merged-requires : tie.Need-put-merged-requires Inv-loop μ-loop
-put-merged-requires c κs = merging.put-room (c .before .before .before .before .before .before .before .before .before .before .before .before .before .before .before .before .before .loop .inv) (c .before .before .before .before .before .before .before .before .before .before .before .before .before .before .before .before .loop-test .taken) _ (c .before .before .before .before .before .before .before .before .before .before .before .before .before .before .end-of .ensures .0) _ refl _ _ _ (c .before .before .before .before .before .before .before .before .before .before .first-of .ensures) (c .before .before .before .before .before .before .before .before .eat-others .ensures) (omega (arith, c .before .before .before .before .before .before .before .before .eat-others .kept .0)) _ (c .before .before .before .before .merged-size .ensures) (c .before .before .before .make-way .ensures) (omega (arith, c .before .before .before .make-way .kept .0))
+put-merged-requires c κs =
+    merging.put-room (c .before .before .before .before .before .before .before .before .before .before .before .before .before .before .before .before .before .loop .inv) (c .before .before .before .before .before .before .before .before .before .before .before .before .before .before .before .before .loop-test .taken) _
+    (c .before .before .before .before .before .before .before .before .before .before .before .before .before .before .end-of .ensures .0) _ refl _ _ _ (c .before .before .before .before .before .before .before .before .before .before .first-of .ensures)
+    (c .before .before .before .before .before .before .before .before .eat-others .ensures) (omega (arith, c .before .before .before .before .before .before .before .before .eat-others .kept .0)) _ (c .before .before .before .before .merged-size .ensures)
+    (c .before .before .before .make-way .ensures) (omega (arith, c .before .before .before .make-way .kept .0))
 
--- src/merge.rt:282:24
 sub-last : tie.Need-sub-last Inv-loop μ-loop
 sub-last c = search needs
 
--- src/merge.rt:282:16
 add-last : tie.Need-add-last Inv-loop μ-loop
-add-last c = omega (arith, merging.further (c .before .before .before .before .before .before .before .before .before .before .before .before .before .before .before .before .before .before .before .before .loop .inv) (c .before .before .before .before .before .before .before .before .before .before .before .before .before .before .before .before .before .before .before .loop-test .taken) _ (c .before .before .before .before .before .before .before .before .before .before .before .before .before .before .before .before .before .end-of .ensures .0) _ refl _ _ _ (c .before .before .before .before .before .before .before .before .before .before .before .before .before .first-of .ensures) (c .before .before .before .before .before .before .before .before .before .before .before .eat-others .ensures) (omega (arith, c .before .before .before .before .before .before .before .before .before .before .before .eat-others .kept .0)) _ (c .before .before .before .before .before .before .before .merged-size .ensures) (c .before .before .before .before .before .before .make-way .ensures) (omega (arith, c .before .before .before .before .before .before .make-way .kept .0)))
+add-last c =
+    omega (
+      arith,
+      merging.further (c .before .before .before .before .before .before .before .before .before .before .before .before .before .before .before .before .before .before .before .before .loop .inv) (c .before .before .before .before .before .before .before .before .before .before .before .before .before .before .before .before .before .before .before .loop-test .taken) _
+          (c .before .before .before .before .before .before .before .before .before .before .before .before .before .before .before .before .before .end-of .ensures .0) _ refl _ _ _ (c .before .before .before .before .before .before .before .before .before .before .before .before .before .first-of .ensures)
+          (c .before .before .before .before .before .before .before .before .before .before .before .eat-others .ensures) (omega (arith, c .before .before .before .before .before .before .before .before .before .before .before .eat-others .kept .0)) _ (c .before .before .before .before .before .before .before .merged-size .ensures)
+          (c .before .before .before .before .before .before .make-way .ensures) (omega (arith, c .before .before .before .before .before .before .make-way .kept .0)),
+    )
 
--- src/merge.rt:263:5
 loop-less : tie.Need-loop-less Inv-loop μ-loop
-loop-less c = omega (arith, merging.further (c .before .before .before .before .before .before .before .before .before .before .before .before .before .before .before .before .before .before .before .before .loop .inv) (c .before .before .before .before .before .before .before .before .before .before .before .before .before .before .before .before .before .before .before .loop-test .taken) _ (c .before .before .before .before .before .before .before .before .before .before .before .before .before .before .before .before .before .end-of .ensures .0) _ refl _ _ _ (c .before .before .before .before .before .before .before .before .before .before .before .before .before .first-of .ensures) (c .before .before .before .before .before .before .before .before .before .before .before .eat-others .ensures) (omega (arith, c .before .before .before .before .before .before .before .before .before .before .before .eat-others .kept .0)) _ (c .before .before .before .before .before .before .before .merged-size .ensures) (c .before .before .before .before .before .before .make-way .ensures) (omega (arith, c .before .before .before .before .before .before .make-way .kept .0)))
+loop-less c =
+    omega (
+      arith,
+      merging.further (c .before .before .before .before .before .before .before .before .before .before .before .before .before .before .before .before .before .before .before .before .loop .inv) (c .before .before .before .before .before .before .before .before .before .before .before .before .before .before .before .before .before .before .before .loop-test .taken) _
+          (c .before .before .before .before .before .before .before .before .before .before .before .before .before .before .before .before .before .end-of .ensures .0) _ refl _ _ _ (c .before .before .before .before .before .before .before .before .before .before .before .before .before .first-of .ensures)
+          (c .before .before .before .before .before .before .before .before .before .before .before .eat-others .ensures) (omega (arith, c .before .before .before .before .before .before .before .before .before .before .before .eat-others .kept .0)) _ (c .before .before .before .before .before .before .before .merged-size .ensures)
+          (c .before .before .before .before .before .before .make-way .ensures) (omega (arith, c .before .before .before .before .before .before .make-way .kept .0)),
+    )
 
--- src/merge.rt:263:5
 loop-again : tie.Need-loop-again Inv-loop μ-loop
-loop-again c = merging.merge-next (c .before .before .before .before .before .before .before .before .before .before .before .before .before .before .before .before .before .before .before .before .loop .inv) (c .before .before .before .before .before .before .before .before .before .before .before .before .before .before .before .before .before .before .before .loop-test .taken) _ (c .before .before .before .before .before .before .before .before .before .before .before .before .before .before .before .before .before .end-of .ensures .0) _ refl _ _ _ (c .before .before .before .before .before .before .before .before .before .before .before .before .before .first-of .ensures) (c .before .before .before .before .before .before .before .before .before .before .before .eat-others .ensures) (omega (arith, c .before .before .before .before .before .before .before .before .before .before .before .eat-others .kept .0)) _ (c .before .before .before .before .before .before .before .merged-size .ensures) (c .before .before .before .before .before .before .make-way .ensures) (omega (arith, c .before .before .before .before .before .before .make-way .kept .0)) (c .before .before .put-merged .ensures)
+loop-again c =
+    merging.merge-next (c .before .before .before .before .before .before .before .before .before .before .before .before .before .before .before .before .before .before .before .before .loop .inv) (c .before .before .before .before .before .before .before .before .before .before .before .before .before .before .before .before .before .before .before .loop-test .taken) _
+    (c .before .before .before .before .before .before .before .before .before .before .before .before .before .before .before .before .before .end-of .ensures .0) _ refl _ _ _ (c .before .before .before .before .before .before .before .before .before .before .before .before .before .first-of .ensures)
+    (c .before .before .before .before .before .before .before .before .before .before .before .eat-others .ensures) (omega (arith, c .before .before .before .before .before .before .before .before .before .before .before .eat-others .kept .0)) _ (c .before .before .before .before .before .before .before .merged-size .ensures)
+    (c .before .before .before .before .before .before .make-way .ensures) (omega (arith, c .before .before .before .before .before .before .make-way .kept .0)) (c .before .before .put-merged .ensures)
 
--- src/merge.rt:256:1
 same-length : tie.Need-same-length Inv-loop μ-loop
 same-length c = c .before .loop .inv .long
 
--- src/merge.rt:256:1
 returns : tie.Need-returns Inv-loop μ-loop
 returns c = merging.merging-end (c .before .loop .inv) (c .loop-test .left)
 

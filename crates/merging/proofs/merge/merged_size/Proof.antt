@@ -1,30 +1,22 @@
-use Rattle.merging.proofs.Laid as laid
+-- `merging::merge::merged_size` meets its contract.
 use mathlib.Core.Path.{sym, _∙_}
-use native.Mathlib.Omega.{arith}
 use borrow.Author.Needs.{needs}
+use Rattle.merging.proofs.Laid as laid
 use Rattle.merging.proofs.merge.merged_size.Statement.{statement}
 use Rattle.merging.proofs.merge.merged_size.Tie as tie
-use Rattle.merging.proofs.merge.merged_size.Reads as reads
-use Rattle.merging.proofs.merge.merged_size.Lts as lts
-use Rattle.floats.proofs.sums.is_one.Reads as is-one-reads
 
--- src/merge.rt:215:8
 is-one-requires : tie.Need-is-one-requires
 is-one-requires c κs = search needs
 
--- src/merge.rt:215:22
 add-result : tie.Need-add-result
 add-result c = search needs
 
--- src/merge.rt:215:37
 add-result-2 : tie.Need-add-result-2
 add-result-2 c = search needs
 
--- src/merge.rt:211:1
 returns : tie.Need-returns
 returns c = sym (laid.size-plain _ _ (sym (c .before .is-one .ensures) ∙ c .if1 .taken))
 
--- src/merge.rt:211:1
 returns-2 : tie.Need-returns-2
 returns-2 c = sym (laid.size-boost _ _ (sym (c .before .is-one .ensures) ∙ c .if1 .left))
 

@@ -1,19 +1,13 @@
-use Rattle.merging.proofs.Alike as alike
-use Rattle.merging.proofs.Forms as forms
-use Rattle.rules.proofs.stored.Parts as parts
-use lib.ListN.{length}
+-- `merging::merge::note_all` meets its contract.
 use mathlib.Core.Path.{ap}
 use native.Mathlib.Omega.{arith}
+use lib.ListN.{length}
 use borrow.Author.Needs.{needs}
+use Rattle.rules.proofs.stored.Parts as parts
+use Rattle.merging.proofs.Alike as alike
+use Rattle.merging.proofs.Forms as forms
 use Rattle.merging.proofs.merge.note_all.Statement.{statement}
 use Rattle.merging.proofs.merge.note_all.Tie as tie
-use Rattle.merging.proofs.merge.note_all.Reads as reads
-use Rattle.merging.proofs.merge.note_all.Lts as lts
-use Rattle.merging.proofs.merge.held.Reads as held-reads
-use Rattle.merging.proofs.signatures.one_more.Reads as one-more-reads
-use Rattle.merging.proofs.signatures.signature.Reads as signature-reads
-use Rattle.parts.proofs.part.body.Reads as body-reads
-use Rattle.parts.proofs.part.rest.Reads as rest-reads
 
 abbrev Inv-loop : tie.InvT-loop
 Inv-loop s least table₀ t₀ table t = alike.Noting least s t table
@@ -21,55 +15,42 @@ Inv-loop s least table₀ t₀ table t = alike.Noting least s t table
 abbrev μ-loop : tie.MeasureT-loop
 μ-loop s least table₀ t₀ table t = length t
 
--- src/merge.rt:295:5
 loop-holds : tie.Need-loop-holds Inv-loop μ-loop
 loop-holds c = alike.noting-start _ (c .before .before .pre .0) (c .before .before .pre .1)
 
--- src/merge.rt:296:39
 shared-slice-read-held : tie.Need-shared-slice-read-held Inv-loop μ-loop
 shared-slice-read-held c = search needs
 
--- src/merge.rt:296:45
 body-requires : tie.Need-body-requires Inv-loop μ-loop
 body-requires c κs = alike.noting-front (c .before .before .loop .inv) (c .before .loop-test .taken) .whole
 
--- src/merge.rt:296:27
 held-requires : tie.Need-held-requires Inv-loop μ-loop
 held-requires c κs = record { query = alike.noting-front (c .before .before .before .loop .inv) (c .before .before .loop-test .taken) .query; is = rw (c .body .ensures) (forms.front-is (alike.noting-front (c .before .before .before .loop .inv) (c .before .before .loop-test .taken))) }
 
--- src/merge.rt:296:13
 signature-requires : tie.Need-signature-requires Inv-loop μ-loop
 signature-requires c κs = search needs
 
--- src/merge.rt:297:29
 slice-read-one-more : tie.Need-slice-read-one-more Inv-loop μ-loop
 slice-read-one-more c = search needs
 
--- src/merge.rt:297:20
 one-more-requires : tie.Need-one-more-requires Inv-loop μ-loop
 one-more-requires c κs = search needs
 
--- src/merge.rt:297:9
 slice-write-table : tie.Need-slice-write-table Inv-loop μ-loop
 slice-write-table c = search needs
 
--- src/merge.rt:298:13
 rest-requires : tie.Need-rest-requires Inv-loop μ-loop
 rest-requires c κs = alike.noting-front (c .before .before .before .before .before .before .before .loop .inv) (c .before .before .before .before .before .before .loop-test .taken) .whole
 
--- src/merge.rt:295:5
 loop-less : tie.Need-loop-less Inv-loop μ-loop
 loop-less c = let l = ap length (c .rest .ensures) in omega (arith, parts.rest-shorter (c .before .before .before .before .before .before .before .before .loop .t .now) (c .before .before .before .before .before .before .before .loop-test .taken))
 
--- src/merge.rt:295:5
 loop-again : tie.Need-loop-again Inv-loop μ-loop
 loop-again c = alike.noting-next (c .before .before .before .before .before .before .before .before .loop .inv) (c .before .before .before .before .before .before .before .loop-test .taken) _ (rw (c .before .before .before .before .before .body .ensures) at (c .before .before .before .before .held .ensures)) _ (c .before .before .before .signature .ensures .0) (c .before .before .before .signature .ensures .1) _ (c .rest .ensures) _ (c .before .one-more .ensures)
 
--- src/merge.rt:290:1
 same-length : tie.Need-same-length Inv-loop μ-loop
 same-length c = omega (arith, c .before .loop .inv .long, c .before .before .before .before .pre .1)
 
--- src/merge.rt:290:1
 returns : tie.Need-returns Inv-loop μ-loop
 returns c = alike.noting-end (c .before .loop .inv) (c .loop-test .left)
 

@@ -1,60 +1,42 @@
-use Rattle.merging.proofs.Laid as laid
-use mathlib.Core.Path.{refl}
-use native.Mathlib.Omega.{arith}
+-- `merging::merge::put_boosted` meets its contract.
 use borrow.Author.Needs.{needs}
+use Rattle.merging.proofs.Laid as laid
 use Rattle.merging.proofs.merge.put_boosted.Statement.{statement}
 use Rattle.merging.proofs.merge.put_boosted.Tie as tie
-use Rattle.merging.proofs.merge.put_boosted.Reads as reads
-use Rattle.merging.proofs.merge.put_boosted.Lts as lts
-use Rattle.numbers.proofs.put_big4.Reads as put-big4-reads
-use Rattle.parts.proofs.write.put_header.Reads as put-header-reads
-use Rattle.places.proofs.place.shift.Reads as shift-reads
 
--- src/merge.rt:189:13
 sub-n : tie.Need-sub-n
 sub-n c = search needs
 
--- src/merge.rt:190:25
 add-shift : tie.Need-add-shift
 add-shift c = search needs
 
--- src/merge.rt:190:9
 shift-requires : tie.Need-shift-requires
 shift-requires c κs = search needs
 
--- src/merge.rt:191:20
 add-put-big4 : tie.Need-add-put-big4
 add-put-big4 c = search needs
 
--- src/merge.rt:191:5
 put-big4-requires : tie.Need-put-big4-requires
 put-big4-requires c κs = search needs
 
--- src/merge.rt:192:22
 add-put-header : tie.Need-add-put-header
 add-put-header c = search needs
 
--- src/merge.rt:192:40
 add-put-header-2 : tie.Need-add-put-header-2
 add-put-header-2 c = search needs
 
--- src/merge.rt:192:5
 put-header-requires : tie.Need-put-header-requires
 put-header-requires c κs = search needs
 
--- src/merge.rt:193:31
 add-put-header-3 : tie.Need-add-put-header-3
 add-put-header-3 c = search needs
 
--- src/merge.rt:193:5
 put-header-requires-2 : tie.Need-put-header-requires-2
 put-header-requires-2 c κs = search needs
 
--- src/merge.rt:185:1
 same-length : tie.Need-same-length
 same-length c = search needs
 
--- src/merge.rt:185:1
 returns : tie.Need-returns
 returns c = laid.boosted-put _ _ _ (c .before .before .before .before .before .before .before .before .before .before .before .before .before .before .before .before .before .pre .0) (c .before .before .before .before .before .before .before .before .before .before .before .before .before .before .before .before .before .pre .1) _ (c .before .before .before .before .before .before .before .before .before .before .before .before .before .before .before .before .before .pre .2) (c .before .before .before .before .before .before .before .before .before .before .before .before .before .before .shift .ensures) (c .before .before .before .before .before .before .before .before .before .before .put-big4 .ensures) (c .before .before .before .before .before .before .put-header .ensures) (c .before .before .put-header2 .ensures)
 

@@ -1,51 +1,38 @@
-use denote.Ref.{now}
-use Rattle.merging.proofs.Alike as alike
+-- `merging::signatures::signature` meets its contract.
 use native.Mathlib.Omega.{arith}
+use denote.Ref.{now}
 use borrow.Author.Needs.{needs}
+use Rattle.merging.proofs.Alike as alike
 use Rattle.merging.proofs.signatures.signature.Statement.{statement}
 use Rattle.merging.proofs.signatures.signature.Tie as tie
-use Rattle.merging.proofs.signatures.signature.Reads as reads
-use Rattle.merging.proofs.signatures.signature.Lts as lts
-use Rattle.merging.proofs.signatures.upper.Reads as upper-reads
-use Rattle.numbers.proofs.big4.Reads as big4-reads
 
--- src/signatures.rt:23:9
 returns : tie.Need-returns
 returns c = (alike.signature-short (now (c .before .before .args .s)) (omega arith), omega arith)
 
--- src/signatures.rt:25:13
 sub-e : tie.Need-sub-e
 sub-e c = search needs
 
--- src/signatures.rt:26:17
 sub-big4 : tie.Need-sub-big4
 sub-big4 c = search needs
 
--- src/signatures.rt:26:17
 part-big4-start : tie.Need-part-big4-start
 part-big4-start c = search needs
 
--- src/signatures.rt:26:17
 part-big4-end : tie.Need-part-big4-end
 part-big4-end c = search needs
 
--- src/signatures.rt:26:12
 big4-requires : tie.Need-big4-requires
 big4-requires c κs = search needs
 
--- src/signatures.rt:26:6
 upper-requires : tie.Need-upper-requires
 upper-requires c κs = search needs
 
--- src/signatures.rt:26:29
 mul-result : tie.Need-mul-result
 mul-result c = search needs
 
--- src/signatures.rt:26:6
 add-result : tie.Need-add-result
 add-result c = search needs
 
--- src/signatures.rt:19:1
 returns-2 : tie.Need-returns-2
 returns-2 c = (alike.signature-long (now (c .before .before .before .before .before .args .s)) (omega arith) _ _ (c .before .big4 .ensures) (c .upper .ensures .0), omega arith)
 

@@ -1,15 +1,14 @@
-use Rattle.places.proofs.Standing as standing
-use Rattle.numbers.specs.Laid.{laid}
-use denote.Ref.{now}
-use lib.ListN.{length, take, drop, length-set}
+-- `places::place::shift_up` meets its contract.
 use mathlib.Core.Path.{_≡_, refl}
-use Prim.Native.Nat.{_+_, _-_, _≤_}
+use Prim.Native.Nat.{_+_, _≤_}
 use native.Mathlib.Omega.{arith}
+use lib.ListN.{length, take, drop, length-set}
+use denote.Ref.{now}
 use borrow.Author.Needs.{needs}
+use Rattle.numbers.specs.Laid.{laid}
+use Rattle.places.proofs.Standing as standing
 use Rattle.places.proofs.place.shift_up.Statement.{statement}
 use Rattle.places.proofs.place.shift_up.Tie as tie
-use Rattle.places.proofs.place.shift_up.Reads as reads
-use Rattle.places.proofs.place.shift_up.Lts as lts
 
 abbrev Inv-loop : tie.InvT-loop
 Inv-loop room₀ to from n k₀ room k = (k ≤ n) × (length room ≡ length room₀) × (room ≡ laid room₀ (to + k) (drop k (take n (drop from room₀))))
@@ -17,47 +16,36 @@ Inv-loop room₀ to from n k₀ room k = (k ≤ n) × (length room ≡ length ro
 abbrev μ-loop : tie.MeasureT-loop
 μ-loop room₀ to from n k₀ room k = k
 
--- src/place.rt:36:5
 loop-holds : tie.Need-loop-holds Inv-loop μ-loop
 loop-holds c = (omega arith, refl, standing.up-start (now (c .args .room)) (c .args .to) (c .args .from) (c .args .n) (c .pre .0) (c .pre .1))
 
--- src/place.rt:37:9
 sub-k : tie.Need-sub-k Inv-loop μ-loop
 sub-k c = search needs
 
--- src/place.rt:38:29
 add-room : tie.Need-add-room Inv-loop μ-loop
 add-room c = omega (arith, c .before .before .pre .0, c .before .loop .inv .1, c .before .loop .inv .0)
 
--- src/place.rt:38:24
 slice-read-room : tie.Need-slice-read-room Inv-loop μ-loop
 slice-read-room c = omega (arith, c .before .before .before .pre .0, c .before .before .loop .inv .1, c .before .before .loop .inv .0)
 
--- src/place.rt:38:14
 add-room-2 : tie.Need-add-room-2 Inv-loop μ-loop
 add-room-2 c = omega (arith, c .before .before .before .pre .1, c .before .before .loop .inv .1, c .before .before .loop .inv .0)
 
--- src/place.rt:38:9
 slice-write-room : tie.Need-slice-write-room Inv-loop μ-loop
 slice-write-room c = omega (arith, c .before .before .before .pre .1, c .before .before .loop .inv .1, c .before .before .loop .inv .0)
 
--- src/place.rt:36:5
 loop-less : tie.Need-loop-less Inv-loop μ-loop
 loop-less c = search needs
 
--- src/place.rt:36:5
 loop-again : tie.Need-loop-again Inv-loop μ-loop
 loop-again c = (omega (arith, c .before .before .loop .inv .0), simp length-set (c .before .before .loop .inv .1), standing.up-turn (now (c .before .before .before .args .room)) (c .before .before .before .args .to) (c .before .before .before .args .from) (c .before .before .before .args .n) (c .before .before .before .pre .0) (c .before .before .before .pre .1) (c .before .before .loop .room) (c .before .before .loop .k) _ (omega arith) (c .before .before .loop .inv .0) (c .before .before .loop .inv .2) (c .before .before .before .pre .2))
 
--- src/place.rt:40:5
 add-result : tie.Need-add-result Inv-loop μ-loop
 add-result c = search needs
 
--- src/place.rt:31:1
 same-length : tie.Need-same-length Inv-loop μ-loop
 same-length c = c .before .loop .inv .1
 
--- src/place.rt:31:1
 returns : tie.Need-returns Inv-loop μ-loop
 returns c = standing.up-end (now (c .before .before .args .room)) (c .before .before .args .to) (c .before .before .args .from) (c .before .before .args .n) (c .before .before .pre .0) (c .before .before .pre .1) (c .before .loop .room) (c .before .loop .k) (omega arith) (c .before .loop .inv .2)
 

@@ -1,100 +1,99 @@
-use Rattle.rewriter.proofs.Settling as settling
-use Rattle.places.proofs.Standing as standing
-use denote.Ref.{now}
+-- `rewriter::rounds::rewrite` meets its contract.
 use native.Mathlib.Omega.{arith}
+use denote.Ref.{now}
 use borrow.Author.Needs.{needs}
+use Rattle.rewriter.proofs.Settling as settling
 use Rattle.rewriter.proofs.rounds.rewrite.Statement.{statement}
 use Rattle.rewriter.proofs.rounds.rewrite.Tie as tie
-use Rattle.rewriter.proofs.rounds.rewrite.Reads as reads
-use Rattle.rewriter.proofs.rounds.rewrite.Lts as lts
-use Rattle.rewriter.proofs.rounds.rewrite_all.Reads as rewrite-all-reads
-use Rattle.stored.proofs.read.for_rewriting.Reads as for-rewriting-reads
-use Rattle.stretches.proofs.clear.Reads as clear-reads
-use Rattle.stretches.proofs.copy.Reads as copy-reads
 
--- src/rounds.rt:60:9
 clear-requires : tie.Need-clear-requires
 clear-requires c κs = search needs
 
--- src/rounds.rt:61:9
 same-length : tie.Need-same-length
 same-length c = search needs
 
--- src/rounds.rt:61:9
 returns : tie.Need-returns
 returns c = rw (c .before .before .clear .ensures) (settling.short-room (now (c .before .before .before .before .before .before .before .before .args .query)) (now (c .before .before .before .before .before .before .before .before .args .out)) (now (c .before .before .before .before .before .before .before .before .args .room)) (c .before .before .before .before .if1 .taken))
 
--- src/rounds.rt:67:9
 for-rewriting-requires : tie.Need-for-rewriting-requires
 for-rewriting-requires c κs = search needs
 
--- src/rounds.rt:69:9
 clear-requires-2 : tie.Need-clear-requires-2
 clear-requires-2 c κs = search needs
 
--- src/rounds.rt:70:9
 same-length-2 : tie.Need-same-length-2
 same-length-2 c = search needs
 
--- src/rounds.rt:70:9
 returns-2 : tie.Need-returns-2
 returns-2 c = rw (c .before .before .clear2 .ensures) (settling.refused-left (now (c .before .before .before .before .before .before .before .before .before .before .args .query)) (now (c .before .before .before .before .before .before .before .before .before .before .args .out)) (now (c .before .before .before .before .before .before .before .before .before .before .args .room)) (c .before .before .before .before .before .before .if1 .left) _ (c .before .before .before .before .before .for-rewriting .ensures) (c .before .before .before .before .if2 .taken))
 
--- src/rounds.rt:76:14
 sub-at : tie.Need-sub-at
 sub-at c = settling.room-for (now (c .before .before .before .before .before .before .args .query)) (now (c .before .before .before .before .before .before .args .out)) (now (c .before .before .before .before .before .before .args .room)) (c .before .before .if1 .left) (λ i. omega (arith, c .before .before .before .before .before .shared-slice-known .given i)) _ (c .before .for-rewriting .ensures) (c .if2 .left) .0
 
--- src/rounds.rt:77:5
 copy-requires : tie.Need-copy-requires
 copy-requires c κs = settling.room-for (now (c .before .before .before .before .before .before .before .args .query)) (now (c .before .before .before .before .before .before .before .args .out)) (now (c .before .before .before .before .before .before .before .args .room)) (c .before .before .before .if1 .left) (λ i. omega (arith, c .before .before .before .before .before .before .shared-slice-known .given i)) _ (c .before .before .for-rewriting .ensures) (c .before .if2 .left) .1
 
--- src/rounds.rt:78:9
 rewrite-all-requires : tie.Need-rewrite-all-requires
 rewrite-all-requires c κs = settling.ready (now (c .before .before .before .before .before .before .before .before .before .before .before .args .query)) (now (c .before .before .before .before .before .before .before .before .before .before .before .args .out)) (now (c .before .before .before .before .before .before .before .before .before .before .before .args .room)) (c .before .before .before .before .before .before .before .if1 .left) (λ i. omega (arith, c .before .before .before .before .before .before .before .before .before .before .shared-slice-known .given i)) _ (c .before .before .before .before .before .before .for-rewriting .ensures) (c .before .before .before .before .before .if2 .left) (c .before .before .before .copy .ensures)
 
--- src/rounds.rt:81:9
 clear-requires-3 : tie.Need-clear-requires-3
 clear-requires-3 c κs = search needs
 
--- src/rounds.rt:82:9
 same-length-3 : tie.Need-same-length-3
 same-length-3 c = search needs
 
--- src/rounds.rt:82:9
 returns-3 : tie.Need-returns-3
-returns-3 c = rw (settling.zeroed (now (c .before .before .before .before .before .before .before .before .before .before .before .before .before .before .before .before .before .before .before .args .room)) (c .before .before .before .before .before .before .before .rewrite-all .last .0) (c .before .before .clear3 .last .0) (c .before .before .clear3 .ensures) (omega (arith, c .before .before .before .before .before .before .before .before .before .before .before .copy .kept .0, c .before .before .before .before .before .before .before .rewrite-all .kept .0))) (settling.long-left (now (c .before .before .before .before .before .before .before .before .before .before .before .before .before .before .before .before .before .before .before .args .query)) (now (c .before .before .before .before .before .before .before .before .before .before .before .before .before .before .before .before .before .before .before .args .out)) (now (c .before .before .before .before .before .before .before .before .before .before .before .before .before .before .before .before .before .before .before .args .room)) (c .before .before .before .before .before .before .before .before .before .before .before .before .before .before .before .if1 .left) (λ i. omega (arith, c .before .before .before .before .before .before .before .before .before .before .before .before .before .before .before .before .before .before .shared-slice-known .given i)) _ (c .before .before .before .before .before .before .before .before .before .before .before .before .before .before .for-rewriting .ensures) (c .before .before .before .before .before .before .before .before .before .before .before .before .before .if2 .left) _ _ _ (c .before .before .before .before .before .before .before .rewrite-all .ensures _ (settling.is-there (now (c .before .before .before .before .before .before .before .before .before .before .before .before .before .before .before .before .before .before .before .args .query)) (now (c .before .before .before .before .before .before .before .before .before .before .before .before .before .before .before .before .before .before .before .args .out)) (now (c .before .before .before .before .before .before .before .before .before .before .before .before .before .before .before .before .before .before .before .args .room)) (c .before .before .before .before .before .before .before .before .before .before .before .before .before .before .before .if1 .left) (λ i. omega (arith, c .before .before .before .before .before .before .before .before .before .before .before .before .before .before .before .before .before .before .shared-slice-known .given i)) _ (c .before .before .before .before .before .before .before .before .before .before .before .before .before .before .for-rewriting .ensures) (c .before .before .before .before .before .before .before .before .before .before .before .before .before .if2 .left) (c .before .before .before .before .before .before .before .before .before .before .before .copy .ensures))) (c .before .before .before .before .if3 .taken))
+returns-3 c =
+    rw (settling.zeroed (now (c .before .before .before .before .before .before .before .before .before .before .before .before .before .before .before .before .before .before .before .args .room)) (c .before .before .before .before .before .before .before .rewrite-all .last .0)
+    (c .before .before .clear3 .last .0) (c .before .before .clear3 .ensures) (omega (arith, c .before .before .before .before .before .before .before .before .before .before .before .copy .kept .0, c .before .before .before .before .before .before .before .rewrite-all .kept .0)))
+    (settling.long-left (now (c .before .before .before .before .before .before .before .before .before .before .before .before .before .before .before .before .before .before .before .args .query)) (now (c .before .before .before .before .before .before .before .before .before .before .before .before .before .before .before .before .before .before .before .args .out))
+    (now (c .before .before .before .before .before .before .before .before .before .before .before .before .before .before .before .before .before .before .before .args .room)) (c .before .before .before .before .before .before .before .before .before .before .before .before .before .before .before .if1 .left)
+    (λ i. omega (arith, c .before .before .before .before .before .before .before .before .before .before .before .before .before .before .before .before .before .before .shared-slice-known .given i)) _ (c .before .before .before .before .before .before .before .before .before .before .before .before .before .before .for-rewriting .ensures)
+    (c .before .before .before .before .before .before .before .before .before .before .before .before .before .if2 .left) (c .before .before .before .before .before .before .before .before .before .before .before .copy .ensures) (c .before .before .before .before .before .before .before .rewrite-all .ensures)
+    (c .before .before .before .before .if3 .taken))
 
--- src/rounds.rt:88:18
 sub-copy : tie.Need-sub-copy
 sub-copy c = search needs
 
--- src/rounds.rt:88:18
 part-copy-start : tie.Need-part-copy-start
 part-copy-start c = search needs
 
--- src/rounds.rt:88:18
 part-copy-end : tie.Need-part-copy-end
-part-copy-end c = (c .before .before .before .before .before .rewrite-all .ensures _ (settling.is-there (now (c .before .before .before .before .before .before .before .before .before .before .before .before .before .before .before .before .before .args .query)) (now (c .before .before .before .before .before .before .before .before .before .before .before .before .before .before .before .before .before .args .out)) (now (c .before .before .before .before .before .before .before .before .before .before .before .before .before .before .before .before .before .args .room)) (c .before .before .before .before .before .before .before .before .before .before .before .before .before .if1 .left) (λ i. omega (arith, c .before .before .before .before .before .before .before .before .before .before .before .before .before .before .before .before .shared-slice-known .given i)) _ (c .before .before .before .before .before .before .before .before .before .before .before .before .for-rewriting .ensures) (c .before .before .before .before .before .before .before .before .before .before .before .if2 .left) (c .before .before .before .before .before .before .before .before .before .copy .ensures))) .low
+part-copy-end c =
+    settling.settled-low (now (c .before .before .before .before .before .before .before .before .before .before .before .before .before .before .before .before .before .args .query)) (now (c .before .before .before .before .before .before .before .before .before .before .before .before .before .before .before .before .before .args .out))
+    (now (c .before .before .before .before .before .before .before .before .before .before .before .before .before .before .before .before .before .args .room)) (c .before .before .before .before .before .before .before .before .before .before .before .before .before .if1 .left)
+    (λ i. omega (arith, c .before .before .before .before .before .before .before .before .before .before .before .before .before .before .before .before .shared-slice-known .given i)) _ (c .before .before .before .before .before .before .before .before .before .before .before .before .for-rewriting .ensures)
+    (c .before .before .before .before .before .before .before .before .before .before .before .if2 .left) (c .before .before .before .before .before .before .before .before .before .copy .ensures) (c .before .before .before .before .before .rewrite-all .ensures) .0
 
--- src/rounds.rt:88:5
 copy-requires-2 : tie.Need-copy-requires-2
-copy-requires-2 c κs = omega (arith, standing.within-length (c .before .before .before .before .before .before .rewrite-all .last .0) 0 (c .before .before .before .before .before .before .rewrite-all .result .len) (omega arith) ((c .before .before .before .before .before .before .rewrite-all .ensures _ (settling.is-there (now (c .before .before .before .before .before .before .before .before .before .before .before .before .before .before .before .before .before .before .args .query)) (now (c .before .before .before .before .before .before .before .before .before .before .before .before .before .before .before .before .before .before .args .out)) (now (c .before .before .before .before .before .before .before .before .before .before .before .before .before .before .before .before .before .before .args .room)) (c .before .before .before .before .before .before .before .before .before .before .before .before .before .before .if1 .left) (λ i. omega (arith, c .before .before .before .before .before .before .before .before .before .before .before .before .before .before .before .before .before .shared-slice-known .given i)) _ (c .before .before .before .before .before .before .before .before .before .before .before .before .before .for-rewriting .ensures) (c .before .before .before .before .before .before .before .before .before .before .before .before .if2 .left) (c .before .before .before .before .before .before .before .before .before .before .copy .ensures))) .low), c .before .before .before .if3 .left)
+copy-requires-2 c κs =
+    omega (
+      arith,
+      settling.settled-low (now (c .before .before .before .before .before .before .before .before .before .before .before .before .before .before .before .before .before .before .args .query)) (now (c .before .before .before .before .before .before .before .before .before .before .before .before .before .before .before .before .before .before .args .out))
+          (now (c .before .before .before .before .before .before .before .before .before .before .before .before .before .before .before .before .before .before .args .room)) (c .before .before .before .before .before .before .before .before .before .before .before .before .before .before .if1 .left)
+          (λ i. omega (arith, c .before .before .before .before .before .before .before .before .before .before .before .before .before .before .before .before .before .shared-slice-known .given i)) _ (c .before .before .before .before .before .before .before .before .before .before .before .before .before .for-rewriting .ensures)
+          (c .before .before .before .before .before .before .before .before .before .before .before .before .if2 .left) (c .before .before .before .before .before .before .before .before .before .before .copy .ensures) (c .before .before .before .before .before .before .rewrite-all .ensures) .1,
+      c .before .before .before .if3 .left,
+    )
 
--- src/rounds.rt:89:5
 clear-requires-4 : tie.Need-clear-requires-4
 clear-requires-4 c κs = search needs
 
--- src/rounds.rt:56:1
 same-length-4 : tie.Need-same-length-4
 same-length-4 c = search needs
 
--- src/rounds.rt:56:1
 same-length-5 : tie.Need-same-length-5
 same-length-5 c = search needs
 
--- src/rounds.rt:56:1
 returns-4 : tie.Need-returns-4
-returns-4 c = rw (settling.zeroed (now (c .before .before .before .before .before .before .before .before .before .before .before .before .before .before .before .before .before .before .before .before .before .before .before .before .before .args .room)) (c .before .before .before .before .before .before .before .before .before .before .before .before .before .rewrite-all .last .0) (c .before .before .clear4 .last .0) (c .before .before .clear4 .ensures) (omega (arith, c .before .before .before .before .before .before .before .before .before .before .before .before .before .before .before .before .before .copy .kept .0, c .before .before .before .before .before .before .before .before .before .before .before .before .before .rewrite-all .kept .0))) (settling.got-left (now (c .before .before .before .before .before .before .before .before .before .before .before .before .before .before .before .before .before .before .before .before .before .before .before .before .before .args .query)) (now (c .before .before .before .before .before .before .before .before .before .before .before .before .before .before .before .before .before .before .before .before .before .before .before .before .before .args .out)) (now (c .before .before .before .before .before .before .before .before .before .before .before .before .before .before .before .before .before .before .before .before .before .before .before .before .before .args .room)) (c .before .before .before .before .before .before .before .before .before .before .before .before .before .before .before .before .before .before .before .before .before .if1 .left) (λ i. omega (arith, c .before .before .before .before .before .before .before .before .before .before .before .before .before .before .before .before .before .before .before .before .before .before .before .before .shared-slice-known .given i)) _ (c .before .before .before .before .before .before .before .before .before .before .before .before .before .before .before .before .before .before .before .before .for-rewriting .ensures) (c .before .before .before .before .before .before .before .before .before .before .before .before .before .before .before .before .before .before .before .if2 .left) _ _ _ (c .before .before .before .before .before .before .before .before .before .before .before .before .before .rewrite-all .ensures _ (settling.is-there (now (c .before .before .before .before .before .before .before .before .before .before .before .before .before .before .before .before .before .before .before .before .before .before .before .before .before .args .query)) (now (c .before .before .before .before .before .before .before .before .before .before .before .before .before .before .before .before .before .before .before .before .before .before .before .before .before .args .out)) (now (c .before .before .before .before .before .before .before .before .before .before .before .before .before .before .before .before .before .before .before .before .before .before .before .before .before .args .room)) (c .before .before .before .before .before .before .before .before .before .before .before .before .before .before .before .before .before .before .before .before .before .if1 .left) (λ i. omega (arith, c .before .before .before .before .before .before .before .before .before .before .before .before .before .before .before .before .before .before .before .before .before .before .before .before .shared-slice-known .given i)) _ (c .before .before .before .before .before .before .before .before .before .before .before .before .before .before .before .before .before .before .before .before .for-rewriting .ensures) (c .before .before .before .before .before .before .before .before .before .before .before .before .before .before .before .before .before .before .before .if2 .left) (c .before .before .before .before .before .before .before .before .before .before .before .before .before .before .before .before .before .copy .ensures))) (c .before .before .before .before .before .before .before .before .before .before .if3 .left) _ _ (c .before .before .before .before .before .before .copy2 .ensures))
+returns-4 c =
+    rw (settling.zeroed (now (c .before .before .before .before .before .before .before .before .before .before .before .before .before .before .before .before .before .before .before .before .before .before .before .before .before .args .room)) (c .before .before .before .before .before .before .before .before .before .before .before .before .before .rewrite-all .last .0)
+    (c .before .before .clear4 .last .0) (c .before .before .clear4 .ensures) (omega (arith, c .before .before .before .before .before .before .before .before .before .before .before .before .before .before .before .before .before .copy .kept .0, c .before .before .before .before .before .before .before .before .before .before .before .before .before .rewrite-all .kept .0)))
+    (settling.got-left (now (c .before .before .before .before .before .before .before .before .before .before .before .before .before .before .before .before .before .before .before .before .before .before .before .before .before .args .query)) (now (c .before .before .before .before .before .before .before .before .before .before .before .before .before .before .before .before .before .before .before .before .before .before .before .before .before .args .out))
+    (now (c .before .before .before .before .before .before .before .before .before .before .before .before .before .before .before .before .before .before .before .before .before .before .before .before .before .args .room)) (c .before .before .before .before .before .before .before .before .before .before .before .before .before .before .before .before .before .before .before .before .before .if1 .left)
+    (λ i. omega (arith, c .before .before .before .before .before .before .before .before .before .before .before .before .before .before .before .before .before .before .before .before .before .before .before .before .shared-slice-known .given i)) _ (c .before .before .before .before .before .before .before .before .before .before .before .before .before .before .before .before .before .before .before .before .for-rewriting .ensures)
+    (c .before .before .before .before .before .before .before .before .before .before .before .before .before .before .before .before .before .before .before .if2 .left) (c .before .before .before .before .before .before .before .before .before .before .before .before .before .before .before .before .before .copy .ensures)
+    (c .before .before .before .before .before .before .before .before .before .before .before .before .before .rewrite-all .ensures) (c .before .before .before .before .before .before .before .before .before .before .if3 .left) _ _ (c .before .before .before .before .before .before .copy2 .ensures))
 
 pub rewrite-spec : {M : Type 1} → statement M
 rewrite-spec =

@@ -1,99 +1,76 @@
-use Rattle.round.proofs.Finishing as finishing
-use Rattle.rules.specs.Bytes.{ofBig}
-use Rattle.rules.proofs.stored.Parts as parts
-use denote.Ref.{now}
-use lib.ListN.{take, length-drop}
-use Prim.Native.Nat.{_+_}
+-- `round::over::boost_over` meets its contract.
 use mathlib.Core.Path.{sym, ap, _∙_}
 use mathlib.Core.List.{List}
 use native.Mathlib.Omega.{arith}
+use lib.ListN.{take, length-drop}
+use denote.Ref.{now}
 use borrow.Author.Needs.{needs}
+use Rattle.rules.specs.Bytes.{ofBig}
+use Rattle.rules.proofs.stored.Parts as parts
+use Rattle.round.proofs.Finishing as finishing
 use Rattle.round.proofs.over.boost_over.Statement.{statement}
 use Rattle.round.proofs.over.boost_over.Tie as tie
-use Rattle.round.proofs.over.boost_over.Reads as reads
-use Rattle.round.proofs.over.boost_over.Lts as lts
-use Rattle.floats.proofs.sums.product.Reads as product-reads
-use Rattle.numbers.proofs.big4.Reads as big4-reads
-use Rattle.numbers.proofs.put_big4.Reads as put-big4-reads
-use Rattle.parts.proofs.write.put_header.Reads as put-header-reads
-use Rattle.places.proofs.place.shift.Reads as shift-reads
-use Rattle.round.proofs.over.put_none.Reads as put-none-reads
 
--- src/over.rt:48:15
 slice-read-tag : tie.Need-slice-read-tag
 slice-read-tag c = omega (arith, c .before .before .pre .fits, finishing.inner-long (c .before .before .pre))
 
--- src/over.rt:50:9
 put-none-requires : tie.Need-put-none-requires
 put-none-requires c κs = search needs
 
--- src/over.rt:50:9
 same-length : tie.Need-same-length
 same-length c = search needs
 
--- src/over.rt:50:9
 returns : tie.Need-returns
 returns c = λ q i. rw (finishing.boosted-none (c .before .before .before .before .before .before .before .args .b) q (sym (finishing.tag-of (now (c .before .before .before .before .before .before .before .args .room)) 7 (c .before .before .before .before .before .before .before .args .n) q i) ∙ c .before .before .before .before .if1 .taken)) (c .before .before .put-none .ensures)
 
--- src/over.rt:53:22
 sub-big4 : tie.Need-sub-big4
 sub-big4 c = omega (arith, c .before .before .before .before .pre .fits, finishing.boost-long (c .before .before .before .before .pre) (c .if2 .taken))
 
--- src/over.rt:53:22
 part-big4-start : tie.Need-part-big4-start
 part-big4-start c = omega (arith, c .before .before .before .before .before .pre .fits, finishing.boost-long (c .before .before .before .before .before .pre) (c .before .if2 .taken))
 
--- src/over.rt:53:22
 part-big4-end : tie.Need-part-big4-end
 part-big4-end c = search needs
 
--- src/over.rt:53:13
 big4-requires : tie.Need-big4-requires
 big4-requires c κs = rw (parts.cut-from 10 (now (c .before .before .before .before .before .before .args .room)), length-drop) (omega (arith, c .before .before .before .before .before .before .pre .fits, finishing.boost-long (c .before .before .before .before .before .before .pre) (c .before .before .if2 .taken)))
 
--- src/over.rt:54:9
 shift-requires : tie.Need-shift-requires
 shift-requires c κs = search needs
 
--- src/over.rt:55:27
 product-requires : tie.Need-product-requires
 product-requires c κs = search needs
 
--- src/over.rt:55:9
 put-big4-requires : tie.Need-put-big4-requires
 put-big4-requires c κs = search needs
 
--- src/over.rt:56:9
 same-length-2 : tie.Need-same-length-2
 same-length-2 c = search needs
 
--- src/over.rt:56:9
 returns-2 : tie.Need-returns-2
 returns-2 c = λ q i. finishing.boost-over-boost _ q _ i (c .before .before .before .before .before .before .before .before .before .before .before .before .if2 .taken) (c .before .before .before .before .before .before .before .before .before .before .before .before .before .before .before .before .pre .fits) _ (c .before .before .before .before .before .before .before .before .before .big4 .ensures ∙ ap (λ (l : List _). ofBig (take 4 l)) (parts.cut-from 10 (now (c .before .before .before .before .before .before .before .before .before .before .before .before .before .before .before .before .args .room)))) _ (c .before .before .before .product .ensures) (c .before .before .before .before .before .before .before .shift .ensures) (c .before .before .put-big4 .ensures)
 
--- src/over.rt:58:44
 add-put-header : tie.Need-add-put-header
 add-put-header c = search needs
 
--- src/over.rt:58:9
 put-header-requires : tie.Need-put-header-requires
 put-header-requires c κs = search needs
 
--- src/over.rt:59:5
 put-big4-requires-2 : tie.Need-put-big4-requires-2
 put-big4-requires-2 c κs = search needs
 
--- src/over.rt:60:5
 add-result : tie.Need-add-result
 add-result c = search needs
 
--- src/over.rt:44:1
 same-length-3 : tie.Need-same-length-3
 same-length-3 c = search needs
 
--- src/over.rt:44:1
 returns-3 : tie.Need-returns-3
-returns-3 c = λ q i. rw (finishing.boosted-plain (c .before .before .before .before .before .before .before .before .before .before .before .before .args .b) q (λ z. c .before .before .before .before .before .before .before .before .before .if1 .left (finishing.tag-of (now (c .before .before .before .before .before .before .before .before .before .before .before .before .args .room)) 7 (c .before .before .before .before .before .before .before .before .before .before .before .before .args .n) q i ∙ z)) (λ z. c .before .before .before .before .before .before .before .before .if2 .left (finishing.tag-of (now (c .before .before .before .before .before .before .before .before .before .before .before .before .args .room)) 7 (c .before .before .before .before .before .before .before .before .before .before .before .before .args .n) q i ∙ z))) (finishing.boost-laid (c .before .before .before .before .before .before .before .before .before .before .before .before .args .n) (c .before .before .before .before .before .before .before .before .before .before .before .before .args .b) q i (c .before .before .before .before .before .before .before .before .before .before .before .before .pre .fits) (c .before .before .before .before .before .before .put-header .ensures) (c .before .before .put-big42 .ensures))
+returns-3 c =
+    λ q i. rw (finishing.boosted-plain (c .before .before .before .before .before .before .before .before .before .before .before .before .args .b) q (λ z. c .before .before .before .before .before .before .before .before .before .if1 .left (finishing.tag-of (now (c .before .before .before .before .before .before .before .before .before .before .before .before .args .room)) 7 (c .before .before .before .before .before .before .before .before .before .before .before .before .args .n) q i ∙ z))
+    (λ z. c .before .before .before .before .before .before .before .before .if2 .left (finishing.tag-of (now (c .before .before .before .before .before .before .before .before .before .before .before .before .args .room)) 7 (c .before .before .before .before .before .before .before .before .before .before .before .before .args .n) q i ∙ z)))
+    (finishing.boost-laid (c .before .before .before .before .before .before .before .before .before .before .before .before .args .n) (c .before .before .before .before .before .before .before .before .before .before .before .before .args .b) q i (c .before .before .before .before .before .before .before .before .before .before .before .before .pre .fits)
+    (c .before .before .before .before .before .before .put-header .ensures) (c .before .before .put-big42 .ensures))
 
 pub boost-over-spec : {M : Type 1} → statement M
 boost-over-spec =

@@ -1,80 +1,63 @@
+-- `round::over::put_lone` meets its contract.
+use mathlib.Core.Path.{sym, _∙_}
+use Prim.Native.Nat.{_-_}
+use native.Mathlib.Omega.{arith}
 use denote.Ref.{now}
+use borrow.Author.Needs.{needs}
 use Rattle.round.proofs.Booleans as booleans
 use Rattle.round.proofs.Finishing as finishing
-use Prim.Native.Nat.{_+_, _-_}
-use mathlib.Core.Path.{sym, _∙_}
-use native.Mathlib.Omega.{arith}
-use borrow.Author.Needs.{needs}
 use Rattle.round.proofs.over.put_lone.Statement.{statement}
 use Rattle.round.proofs.over.put_lone.Tie as tie
-use Rattle.round.proofs.over.put_lone.Reads as reads
-use Rattle.round.proofs.over.put_lone.Lts as lts
-use Rattle.numbers.proofs.put_big4.Reads as put-big4-reads
-use Rattle.parts.proofs.write.put_header.Reads as put-header-reads
-use Rattle.places.proofs.place.shift.Reads as shift-reads
-use Rattle.round.proofs.over.put_none.Reads as put-none-reads
 
--- src/over.rt:122:13
 slice-read-k : tie.Need-slice-read-k
 slice-read-k c = let l = booleans.lone-at (now (c .before .before .args .room)) _ _ _ (c .before .before .pre .are) (c .before .before .pre .low) (c .before .before .pre .fits) .long in omega (arith, c .before .before .pre .fits)
 
--- src/over.rt:123:13
 sub-n : tie.Need-sub-n
 sub-n c = let l = booleans.lone-at (now (c .before .before .args .room)) _ _ _ (c .before .before .pre .are) (c .before .before .pre .low) (c .before .before .pre .fits) .long in omega arith
 
--- src/over.rt:125:9
 put-none-requires : tie.Need-put-none-requires
 put-none-requires c κs = search needs
 
--- src/over.rt:125:9
 same-length : tie.Need-same-length
 same-length c = search needs
 
--- src/over.rt:125:9
 returns : tie.Need-returns
 returns c = λ k q a. rw (finishing.lone-none k q (sym (booleans.lone-at (now (c .before .before .before .before .before .before .before .args .room)) _ k q a (c .before .before .before .before .before .before .before .pre .low) (c .before .before .before .before .before .before .before .pre .fits) .tag) ∙ c .before .before .before .before .if1 .taken)) (c .before .before .put-none .ensures)
 
--- src/over.rt:128:9
 shift-requires : tie.Need-shift-requires
 shift-requires c κs = let l = booleans.lone-at (now (c .before .before .before .before .before .args .room)) _ _ _ (c .before .before .before .before .before .pre .are) (c .before .before .before .before .before .pre .low) (c .before .before .before .before .before .pre .fits) .long in let f = c .before .before .before .before .before .pre .fits in (omega arith, omega arith)
 
--- src/over.rt:129:9
 put-header-requires : tie.Need-put-header-requires
 put-header-requires c κs = let l = booleans.lone-at (now (c .before .before .before .before .before .before .before .before .before .args .room)) _ _ _ (c .before .before .before .before .before .before .before .before .before .pre .are) (c .before .before .before .before .before .before .before .before .before .pre .low) (c .before .before .before .before .before .before .before .before .before .pre .fits) .long in omega (arith, c .before .before .before .before .before .before .before .before .before .pre .fits, c .before .before .before .before .before .before .before .before .before .pre .small, c .before .before .before .shift .kept .0)
 
--- src/over.rt:130:9
 put-big4-requires : tie.Need-put-big4-requires
 put-big4-requires c κs = search needs
 
--- src/over.rt:131:40
 add-put-header : tie.Need-add-put-header
 add-put-header c = search needs
 
--- src/over.rt:131:9
 put-header-requires-2 : tie.Need-put-header-requires-2
 put-header-requires-2 c κs = search needs
 
--- src/over.rt:132:16
 add-result : tie.Need-add-result
 add-result c = search needs
 
--- src/over.rt:132:9
 same-length-2 : tie.Need-same-length-2
 same-length-2 c = search needs
 
--- src/over.rt:132:9
 returns-2 : tie.Need-returns-2
-returns-2 c = λ k q a. let A = booleans.lone-at (now (c .before .before .before .before .before .before .before .before .before .before .before .before .before .before .before .before .before .before .before .before .args .room)) _ k q a (c .before .before .before .before .before .before .before .before .before .before .before .before .before .before .before .before .before .before .before .before .pre .low) (c .before .before .before .before .before .before .before .before .before .before .before .before .before .before .before .before .before .before .before .before .pre .fits) in let l = A .long in let f = c .before .before .before .before .before .before .before .before .before .before .before .before .before .before .before .before .before .before .before .before .pre .fits in rw (finishing.lone-filter k q (sym (A .tag) ∙ c .before .before .before .before .before .before .before .before .before .before .before .before .before .before .before .before .if2 .taken)) (finishing.filter-laid q (finishing.moved 11 (c .before .before .before .before .before .before .before .before .before .before .before .before .before .before .before .before .before .before .before .before .args .end - 11) (c .before .before .before .before .before .before .before .before .before .before .before .before .before .before .shift .ensures) (A .here) (omega arith) (omega arith)) (omega arith) (c .before .before .before .before .before .before .before .before .before .before .put-header .ensures) (c .before .before .before .before .before .before .put-big4 .ensures) (c .before .before .put-header2 .ensures))
+returns-2 c =
+    λ k q a. let A = booleans.lone-at (now (c .before .before .before .before .before .before .before .before .before .before .before .before .before .before .before .before .before .before .before .before .args .room)) _ k q a (c .before .before .before .before .before .before .before .before .before .before .before .before .before .before .before .before .before .before .before .before .pre .low)
+    (c .before .before .before .before .before .before .before .before .before .before .before .before .before .before .before .before .before .before .before .before .pre .fits) in let l = A .long in let f = c .before .before .before .before .before .before .before .before .before .before .before .before .before .before .before .before .before .before .before .before .pre .fits in rw
+    (finishing.lone-filter k q (sym (A .tag) ∙ c .before .before .before .before .before .before .before .before .before .before .before .before .before .before .before .before .if2 .taken)) (finishing.filter-laid q (finishing.moved 11 (c .before .before .before .before .before .before .before .before .before .before .before .before .before .before .before .before .before .before .before .before .args .end - 11) (c .before .before .before .before .before .before .before .before .before .before .before .before .before .before .shift .ensures) (A .here) (omega arith) (omega arith))
+    (omega arith) (c .before .before .before .before .before .before .before .before .before .before .put-header .ensures) (c .before .before .before .before .before .before .put-big4 .ensures) (c .before .before .put-header2 .ensures))
 
--- src/over.rt:134:5
 shift-requires-2 : tie.Need-shift-requires-2
 shift-requires-2 c κs = let l = booleans.lone-at (now (c .before .before .before .before .before .args .room)) _ _ _ (c .before .before .before .before .before .pre .are) (c .before .before .before .before .before .pre .low) (c .before .before .before .before .before .pre .fits) .long in let f = c .before .before .before .before .before .pre .fits in (omega arith, omega arith)
 
--- src/over.rt:118:1
 same-length-3 : tie.Need-same-length-3
 same-length-3 c = search needs
 
--- src/over.rt:118:1
 returns-3 : tie.Need-returns-3
 returns-3 c = λ k q a. let A = booleans.lone-at (now (c .before .before .before .before .before .before .before .before .args .room)) _ k q a (c .before .before .before .before .before .before .before .before .pre .low) (c .before .before .before .before .before .before .before .before .pre .fits) in let l = A .long in let f = c .before .before .before .before .before .before .before .before .pre .fits in rw (finishing.lone-plain k q (λ z. c .before .before .before .before .before .if1 .left (A .tag ∙ z)) (λ z. c .before .before .before .before .if2 .left (A .tag ∙ z))) (finishing.moved 11 (c .before .before .before .before .before .before .before .before .args .end - 11) (c .before .before .shift2 .ensures) (A .here) (omega arith) (omega arith))
 

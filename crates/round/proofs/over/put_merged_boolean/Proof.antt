@@ -1,60 +1,47 @@
+-- `round::over::put_merged_boolean` meets its contract.
+use native.Mathlib.Omega.{arith}
 use denote.Ref.{now}
-use mathlib.Core.Path.{refl}
+use borrow.Author.Needs.{needs}
 use Rattle.round.proofs.Nested as nested
 use Rattle.round.proofs.Booleans as booleans
-use native.Mathlib.Omega.{arith}
-use borrow.Author.Needs.{needs}
 use Rattle.round.proofs.over.put_merged_boolean.Statement.{statement}
 use Rattle.round.proofs.over.put_merged_boolean.Tie as tie
-use Rattle.round.proofs.over.put_merged_boolean.Reads as reads
-use Rattle.round.proofs.over.put_merged_boolean.Lts as lts
-use Rattle.merging.proofs.merge.merge_clauses.Reads as merge-clauses-reads
-use Rattle.parts.proofs.write.put_header.Reads as put-header-reads
-use Rattle.parts.proofs.write.put_minimum.Reads as put-minimum-reads
 
--- src/over.rt:142:27
 sub-merge-clauses : tie.Need-sub-merge-clauses
 sub-merge-clauses c = search needs
 
--- src/over.rt:142:27
 part-merge-clauses-start : tie.Need-part-merge-clauses-start
 part-merge-clauses-start c = search needs
 
--- src/over.rt:142:27
 part-merge-clauses-end : tie.Need-part-merge-clauses-end
 part-merge-clauses-end c = search needs
 
--- src/over.rt:142:43
 sub-merge-clauses-2 : tie.Need-sub-merge-clauses-2
 sub-merge-clauses-2 c = search needs
 
--- src/over.rt:142:9
 merge-clauses-requires : tie.Need-merge-clauses-requires
 merge-clauses-requires c κs = booleans.mergeable (c .before .before .pre)
 
--- src/over.rt:143:5
 put-minimum-requires : tie.Need-put-minimum-requires
 put-minimum-requires c κs = search needs
 
--- src/over.rt:144:38
 add-put-header : tie.Need-add-put-header
 add-put-header c = omega (arith, c .before .before .before .before .before .before .before .merge-clauses .ensures (c .before .before .before .before .before .before .before .before .before .before .pre .clauses) (booleans.lent-are (c .before .before .before .before .before .before .before .before .before .before .pre) _ (c .before .before .before .before .before .before .before .before .before .before .pre .are)) .size, booleans.merged-small (c .before .before .before .before .before .before .before .before .before .before .pre))
 
--- src/over.rt:144:5
 put-header-requires : tie.Need-put-header-requires
 put-header-requires c κs = omega (arith, c .before .before .before .before .before .before .before .merge-clauses .ensures (c .before .before .before .before .before .before .before .before .before .before .pre .clauses) (booleans.lent-are (c .before .before .before .before .before .before .before .before .before .before .pre) _ (c .before .before .before .before .before .before .before .before .before .before .pre .are)) .size, booleans.merged-small (c .before .before .before .before .before .before .before .before .before .before .pre))
 
--- src/over.rt:145:5
 add-result : tie.Need-add-result
 add-result c = omega (arith, c .before .before .before .before .before .before .before .before .before .before .merge-clauses .ensures (c .before .before .before .before .before .before .before .before .before .before .before .before .before .pre .clauses) (booleans.lent-are (c .before .before .before .before .before .before .before .before .before .before .before .before .before .pre) _ (c .before .before .before .before .before .before .before .before .before .before .before .before .before .pre .are)) .size, booleans.merged-small (c .before .before .before .before .before .before .before .before .before .before .before .before .before .pre))
 
--- src/over.rt:138:1
 same-length : tie.Need-same-length
 same-length c = search needs
 
--- src/over.rt:138:1
 returns : tie.Need-returns
-returns c = λ cs a. booleans.boolean-laid _ _ (nested.returned-stands (now (c .before .before .before .before .before .before .before .before .before .before .before .before .before .args .room)) _ 8 (omega (arith, c .before .before .before .before .before .before .before .before .before .before .before .before .before .pre .low, c .before .before .before .before .before .before .before .before .before .before .before .before .before .pre .high)) (c .before .before .before .before .before .before .before .before .before .before .merge-clauses .ensures cs (booleans.lent-are (c .before .before .before .before .before .before .before .before .before .before .before .before .before .pre) cs a))) (c .before .before .before .before .before .before .put-minimum .ensures) (c .before .before .put-header .ensures) (omega (arith, c .before .before .before .before .before .before .before .before .before .before .merge-clauses .ensures (c .before .before .before .before .before .before .before .before .before .before .before .before .before .pre .clauses) (booleans.lent-are (c .before .before .before .before .before .before .before .before .before .before .before .before .before .pre) _ (c .before .before .before .before .before .before .before .before .before .before .before .before .before .pre .are)) .size, booleans.merged-small (c .before .before .before .before .before .before .before .before .before .before .before .before .before .pre)))
+returns c =
+    λ cs a. booleans.boolean-laid _ _ (nested.returned-stands (now (c .before .before .before .before .before .before .before .before .before .before .before .before .before .args .room)) _ 8 (omega (arith, c .before .before .before .before .before .before .before .before .before .before .before .before .before .pre .low, c .before .before .before .before .before .before .before .before .before .before .before .before .before .pre .high))
+    (c .before .before .before .before .before .before .before .before .before .before .merge-clauses .ensures cs (booleans.lent-are (c .before .before .before .before .before .before .before .before .before .before .before .before .before .pre) cs a))) (c .before .before .before .before .before .before .put-minimum .ensures)
+    (c .before .before .put-header .ensures) (omega (arith, c .before .before .before .before .before .before .before .before .before .before .merge-clauses .ensures (c .before .before .before .before .before .before .before .before .before .before .before .before .before .pre .clauses) (booleans.lent-are (c .before .before .before .before .before .before .before .before .before .before .before .before .before .pre) _ (c .before .before .before .before .before .before .before .before .before .before .before .before .before .pre .are)) .size, booleans.merged-small (c .before .before .before .before .before .before .before .before .before .before .before .before .before .pre)))
 
 pub put-merged-boolean-spec : {M : Type 1} → statement M
 put-merged-boolean-spec =
