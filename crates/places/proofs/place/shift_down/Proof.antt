@@ -1,4 +1,4 @@
--- `places::place::shift` meets its contract.
+-- `places::place::shift_down` meets its contract.
 use mathlib.Core.Path.{_≡_, refl}
 use Prim.Native.Nat.{_-_, _≤_}
 use native.Mathlib.Omega.{arith}
@@ -7,8 +7,8 @@ use lib.Seq.{paste, paste-zero}
 use denote.Ref.{now}
 use borrow.Author.Needs.{needs}
 use Rattle.places.proofs.Standing as standing
-use Rattle.places.proofs.place.shift.Statement.{statement}
-use Rattle.places.proofs.place.shift.Tie as tie
+use Rattle.places.proofs.place.shift_down.Statement.{statement}
+use Rattle.places.proofs.place.shift_down.Tie as tie
 
 abbrev Inv-loop : tie.InvT-loop
 Inv-loop room₀ to from n k₀ room k = (k ≤ n) × (length room ≡ length room₀) × (room ≡ paste room₀ to (take n (drop from room₀)) k)
@@ -38,7 +38,7 @@ loop-less : tie.Need-loop-less Inv-loop μ-loop
 loop-less c = search needs
 
 loop-again : tie.Need-loop-again Inv-loop μ-loop
-loop-again c = (omega arith, simp length-set (c .before .before .loop .inv .1), standing.shift-turn (now (c .before .before .before .args .room)) (c .before .before .before .args .to) (c .before .before .before .args .from) (c .before .before .before .args .n) (c .before .before .before .pre .0) (c .before .before .before .pre .1) (c .before .before .loop .room) (c .before .before .loop .k) (c .before .loop-test .taken) (c .before .before .loop .inv .2) (c .before .before .before .pre .2))
+loop-again c = (omega arith, simp length-set (c .before .before .loop .inv .1), standing.down-turn (now (c .before .before .before .args .room)) (c .before .before .before .args .to) (c .before .before .before .args .from) (c .before .before .before .args .n) (c .before .before .before .pre .0) (c .before .before .before .pre .1) (c .before .before .loop .room) (c .before .before .loop .k) (c .before .loop-test .taken) (c .before .before .loop .inv .2) (c .before .before .before .pre .2))
 
 add-result : tie.Need-add-result Inv-loop μ-loop
 add-result c = search needs
@@ -47,10 +47,10 @@ same-length : tie.Need-same-length Inv-loop μ-loop
 same-length c = c .before .loop .inv .1
 
 returns : tie.Need-returns Inv-loop μ-loop
-returns c = standing.shift-end (now (c .before .before .args .room)) (c .before .before .args .to) (c .before .before .args .from) (c .before .before .args .n) (c .before .before .pre .0) (c .before .before .pre .1) (c .before .loop .room) (c .before .loop .k) (c .before .loop .inv .0) (c .loop-test .left) (c .before .loop .inv .2)
+returns c = standing.down-end (now (c .before .before .args .room)) (c .before .before .args .to) (c .before .before .args .from) (c .before .before .args .n) (c .before .before .pre .0) (c .before .before .pre .1) (c .before .loop .room) (c .before .loop .k) (c .before .loop .inv .0) (c .loop-test .left) (c .before .loop .inv .2)
 
-pub shift-spec : {M : Type 1} → statement M
-shift-spec =
+pub shift-down-spec : {M : Type 1} → statement M
+shift-down-spec =
     tie.close
     (tie.spec
     Inv-loop
