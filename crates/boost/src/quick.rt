@@ -2,6 +2,8 @@
 // once, is the nearest pattern.
 ghost use mathlib.Core.Path.{_≡_};
 ghost use Prim.Native.Nat.{_*_, _^_, _<_};
+ghost use lib.IntN.{pos};
+ghost use lib.Ieee.{binary32, ofInt};
 ghost use Rattle.rules.specs.Numerals.{nearest};
 ghost use Rattle.boost.specs.Digits.{shortMost};
 
@@ -10,12 +12,13 @@ pub const POWERS: u32 = 8;
 
 const TENS: [u32; 8] = [1, 10, 100, 1000, 10000, 100000, 1000000, 10000000];
 
-fn ten(n: u32) -> u32
+// 10^n, which is a float exactly.
+fn ten(n: u32) -> f32
     requires { ⌜ n < 8 ⌝ }
-    ensures { λ r. ⌜ r ≡ 10 ^ n ⌝ }
+    ensures { λ r. ⌜ r ≡ ofInt binary32 (pos (10 ^ n)) ⌝ }
 {
     let k = n as usize;
-    TENS[k]
+    TENS[k] as f32
 }
 
 // The pattern nearest to d / 10^n.
@@ -24,8 +27,7 @@ pub fn quotient(d: u32, n: u32) -> u32
     requires { ⌜ n < 8 ⌝ }
     ensures { λ r. ⌜ r ≡ nearest d (10 ^ n) ⌝ }
 {
-    let t = ten(n);
-    let q = (d as f32) / (t as f32);
+    let q = (d as f32) / ten(n);
     f32::to_bits(q)
 }
 
@@ -35,7 +37,6 @@ pub fn multiple(d: u32, n: u32) -> u32
     requires { ⌜ n < 8 ⌝ }
     ensures { λ r. ⌜ r ≡ nearest (d * 10 ^ n) 1 ⌝ }
 {
-    let t = ten(n);
-    let p = (d as f32) * (t as f32);
+    let p = (d as f32) * ten(n);
     f32::to_bits(p)
 }
