@@ -86,6 +86,7 @@ fn selectors() -> Vec<(&'static str, Query)> {
                 (Kind::Should, Query::ConstantScore(Box::new(large()))),
             ]),
         ),
+        ("seventy names", boolean((0..70).map(|i| (Kind::Should, term("name", &format!("file{}", 37 * i)))).collect())),
         ("seventy clauses", boolean((0..70).map(|i| seventieth(i, &term)).collect())),
         ("everything", Query::MatchAll),
     ]

@@ -1,3 +1,4 @@
+-- `lists::is_lean` meets its contract.
 use Rattle.lists.proofs.Lister as lister
 use Rattle.rules.proofs.stored.Parts as parts
 use Rattle.rules.proofs.Bools as bools
@@ -7,83 +8,69 @@ use native.Mathlib.Omega.{arith}
 use borrow.Author.Needs.{needs}
 use Rattle.lists.proofs.is_lean.Statement.{statement}
 use Rattle.lists.proofs.is_lean.Tie as tie
-use Rattle.lists.proofs.is_lean.Reads as reads
-use Rattle.lists.proofs.is_lean.Lts as lts
-use Rattle.parts.proofs.part.size_of.Reads as size-of-reads
-use Rattle.parts.proofs.part.tag_of.Reads as tag-of-reads
-use Rattle.stretches.proofs.is_middle_text.Reads as is-middle-text-reads
 
--- src/lib.rt:68:9
 returns : tie.Need-returns
 returns c = λ z. bools.clash z refl
 
--- src/lib.rt:71:9
 returns-2 : tie.Need-returns-2
 returns-2 c = λ z. bools.clash z refl
 
--- src/lib.rt:73:9
 size-of-requires : tie.Need-size-of-requires
 size-of-requires c κs = search needs
 
--- src/lib.rt:75:9
 returns-3 : tie.Need-returns-3
 returns-3 c = λ z. bools.clash z refl
 
--- src/lib.rt:77:14
 add-at : tie.Need-add-at
 add-at c = search needs
 
--- src/lib.rt:78:13
 sub-t : tie.Need-sub-t
 sub-t c = search needs
 
--- src/lib.rt:78:13
 part-t-start : tie.Need-part-t-start
 part-t-start c = search needs
 
--- src/lib.rt:78:13
 part-t-end : tie.Need-part-t-end
 part-t-end c = search needs
 
--- src/lib.rt:79:8
 size-of-requires-2 : tie.Need-size-of-requires-2
 size-of-requires-2 c κs = search needs
 
--- src/lib.rt:79:22
 sub-if4 : tie.Need-sub-if4
 sub-if4 c = search needs
 
--- src/lib.rt:79:22
 sub-if4-2 : tie.Need-sub-if4-2
 sub-if4-2 c = search needs
 
--- src/lib.rt:80:9
 returns-4 : tie.Need-returns-4
 returns-4 c = λ z. bools.clash z refl
 
--- src/lib.rt:82:8
 tag-of-requires : tie.Need-tag-of-requires
 tag-of-requires c κs = search needs
 
--- src/lib.rt:83:9
 returns-5 : tie.Need-returns-5
 returns-5 c = λ z. bools.clash z refl
 
--- src/lib.rt:85:8
 tag-of-requires-2 : tie.Need-tag-of-requires-2
 tag-of-requires-2 c κs = search needs
 
--- src/lib.rt:86:9
 returns-6 : tie.Need-returns-6
 returns-6 c = λ z. bools.clash z refl
 
--- src/lib.rt:88:5
 is-middle-text-requires : tie.Need-is-middle-text-requires
 is-middle-text-requires c κs = search needs
 
--- src/lib.rt:63:1
 returns-7 : tie.Need-returns-7
-returns-7 c = λ z. lister.lean-plain (now (c .before .before .before .before .before .before .before .before .before .before .before .before .before .args .b)) (c .before .before .before .before .before .before .before .before .before .size-of .ensures .0) (parts.cut-rest (now (c .before .before .before .before .before .before .before .before .before .before .before .before .before .args .b)) (c .before .before .before .before .before .before .before .before .before .size-of .result) (c .before .before .before .before .before .before .before .before .before .size-of .ensures .0)) (omega (arith, c .before .before .before .before .before .before .before .before .before .before .before .if1 .left)) (omega (arith, c .before .before .before .before .before .before .before .before .before .before .if2 .left)) (omega (arith, c .before .before .before .before .before .before .before .before .if3 .left)) (sym (c .before .before .before .before .before .before .size-of2 .ensures .0) ∙ c .before .before .before .before .before .if4 .left) (sym (c .before .before .before .before .tag-of .ensures) ∙ c .before .before .before .if5 .left) (sym (c .before .before .tag-of2 .ensures) ∙ c .before .if6 .left) (sym (c .is-middle-text .ensures) ∙ z)
+returns-7 c = λ z. lister.lean-plain (now (c .before .before .before .before .before .before .before .before .before .before .before .before .before .args .b))
+    (c .before .before .before .before .before .before .before .before .before .size-of .ensures .0) (parts.cut-rest (now
+    (c .before .before .before .before .before .before .before .before .before .before .before .before .before .args .b))
+    (c .before .before .before .before .before .before .before .before .before .size-of .result) (c .before .before .before .before .before .before .before .before .before .size-of .ensures .0))
+    (omega (arith, c .before .before .before .before .before .before .before .before .before .before .before .if1 .left)) (omega (
+      arith,
+      c .before .before .before .before .before .before .before .before .before .before .if2 .left,
+    )) (omega (arith, c .before .before .before .before .before .before .before .before .if3 .left)) (sym
+    (c .before .before .before .before .before .before .size-of2 .ensures .0) ∙ c .before .before .before .before .before .if4 .left) (sym (c .before .before .before .before .tag-of .ensures)
+    ∙ c .before .before .before .if5 .left) (sym (c .before .before .tag-of2 .ensures) ∙ c .before .if6 .left) (sym (c .is-middle-text .ensures) ∙ z)
 
 pub is-lean-spec : {M : Type 1} → statement M
 is-lean-spec =

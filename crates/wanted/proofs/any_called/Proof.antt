@@ -1,3 +1,4 @@
+-- `wanted::any_called` meets its contract.
 use Rattle.wanted.specs.Marks.{isMarked}
 use Rattle.wanted.specs.Wanted.{callsBy}
 use Rattle.entries.proofs.Searches as searches
@@ -7,18 +8,9 @@ use Rattle.rules.proofs.stored.Parts as parts
 use Rattle.rules.specs.Lists.{entryOf, isEntry}
 use lib.ListN.{length}
 use mathlib.Core.Bool.{true}
-use mathlib.Core.Path.{refl, sym, ap, _∙_}
-use Rattle.rules.proofs.Bools as bools
-use Rattle.wanted.proofs.Marking as marking
-use denote.Ref.{now}
-use native.Mathlib.Omega.{arith}
-use borrow.Author.Needs.{needs}
+use mathlib.Core.Path.{sym, _∙_}
 use Rattle.wanted.proofs.any_called.Statement.{statement}
 use Rattle.wanted.proofs.any_called.Tie as tie
-use Rattle.wanted.proofs.any_called.Reads as reads
-use Rattle.wanted.proofs.any_called.Lts as lts
-use Rattle.parts.proofs.part.rest.Reads as rest-reads
-use Rattle.wanted.proofs.is_called.Reads as is-called-reads
 
 abbrev Inv-loop : tie.InvT-loop
 Inv-loop wanted ranges rec e₀ e = searches.Left isEntry entryOf true (callsBy hashOf (isMarked wanted) (λ f. ranges)) rec e
@@ -26,31 +18,25 @@ Inv-loop wanted ranges rec e₀ e = searches.Left isEntry entryOf true (callsBy 
 abbrev μ-loop : tie.MeasureT-loop
 μ-loop wanted ranges rec e₀ e = length e
 
--- src/lib.rt:132:5
 loop-holds : tie.Need-loop-holds Inv-loop μ-loop
 loop-holds c = searches.left-all (c .before .before .pre .1)
 
--- src/lib.rt:133:12
 is-called-requires : tie.Need-is-called-requires Inv-loop μ-loop
 is-called-requires c κs = (c .before .before .before .before .pre .0, searches.left-first (c .before .loop .inv) (c .loop-test .taken))
 
--- src/lib.rt:134:13
 returns : tie.Need-returns Inv-loop μ-loop
 returns c = searches.left-stop (c .before .before .before .loop .inv) (c .before .before .loop-test .taken) (sym (c .before .is-called .ensures) ∙ c .if1 .taken)
 
--- src/lib.rt:136:13
 rest-requires : tie.Need-rest-requires Inv-loop μ-loop
 rest-requires c κs = entries.entry-whole _ (searches.left-first (c .before .before .before .loop .inv) (c .before .before .loop-test .taken))
 
--- src/lib.rt:132:5
 loop-less : tie.Need-loop-less Inv-loop μ-loop
 loop-less c = rw (c .rest .ensures) (parts.rest-shorter _ (c .before .before .before .loop-test .taken))
 
--- src/lib.rt:132:5
 loop-again : tie.Need-loop-again Inv-loop μ-loop
-loop-again c = searches.left-next (c .before .before .before .before .loop .inv) (c .before .before .before .loop-test .taken) (sym (c .before .before .is-called .ensures) ∙ c .before .if1 .left) (c .rest .ensures)
+loop-again c = searches.left-next (c .before .before .before .before .loop .inv) (c .before .before .before .loop-test .taken) (sym (c .before .before .is-called .ensures) ∙ c .before .if1 .left)
+    (c .rest .ensures)
 
--- src/lib.rt:127:1
 returns-2 : tie.Need-returns-2 Inv-loop μ-loop
 returns-2 c = searches.left-none (c .before .loop .inv) (c .loop-test .left)
 

@@ -1,48 +1,37 @@
-use Rattle.entries.proofs.Entries as entries
+-- `wanted::is_called` meets its contract.
 use Rattle.rules.specs.Lists.{entryOf}
-use mathlib.Core.Path.{refl, sym, ap, _∙_}
+use mathlib.Core.Path.{_∙_}
 use Rattle.rules.proofs.Bools as bools
 use Rattle.wanted.proofs.Marking as marking
 use denote.Ref.{now}
-use native.Mathlib.Omega.{arith}
 use borrow.Author.Needs.{needs}
 use Rattle.wanted.proofs.is_called.Statement.{statement}
 use Rattle.wanted.proofs.is_called.Tie as tie
-use Rattle.wanted.proofs.is_called.Reads as reads
-use Rattle.wanted.proofs.is_called.Lts as lts
-use Rattle.entries.proofs.entry.field.Reads as field-reads
-use Rattle.entries.proofs.entry.is_place.Reads as is-place-reads
-use Rattle.entries.proofs.entry.text.Reads as text-reads
-use Rattle.entries.proofs.slots.hash.Reads as hash-reads
-use Rattle.wanted.proofs.is_marked.Reads as is-marked-reads
 
--- src/lib.rt:120:9
 is-place-requires : tie.Need-is-place-requires
 is-place-requires c κs = c .before .before .pre .1
 
--- src/lib.rt:121:9
 returns : tie.Need-returns
-returns c = marking.calls-number (now (c .before .before .before .before .args .wanted)) (c .before .before .before .before .args .ranges) (entryOf (now (c .before .before .before .before .args .e))) (bools.told-no (c .before .is-place .ensures) (c .if1 .taken))
+returns c = marking.calls-number (now (c .before .before .before .before .args .wanted)) (c .before .before .before .before .args .ranges) (entryOf (now
+    (c .before .before .before .before .args .e))) (bools.told-no (c .before .is-place .ensures) (c .if1 .taken))
 
--- src/lib.rt:123:28
 field-requires : tie.Need-field-requires
 field-requires c κs = c .before .before .before .before .pre .1
 
--- src/lib.rt:123:38
 text-requires : tie.Need-text-requires
 text-requires c κs = (c .before .before .before .before .before .pre .1, bools.told-yes (c .before .before .is-place .ensures) (c .before .if1 .left))
 
--- src/lib.rt:123:23
 hash-requires : tie.Need-hash-requires
 hash-requires c κs = search needs
 
--- src/lib.rt:123:5
 is-marked-requires : tie.Need-is-marked-requires
 is-marked-requires c κs = (c .before .before .before .before .before .before .before .pre .0, c .hash .ensures .1)
 
--- src/lib.rt:116:1
 returns-2 : tie.Need-returns-2
-returns-2 c = c .is-marked .ensures ∙ marking.calls-text (now (c .before .before .before .before .before .before .before .before .args .wanted)) (c .before .before .before .before .before .before .before .before .args .ranges) (entryOf (now (c .before .before .before .before .before .before .before .before .args .e))) (bools.told-yes (c .before .before .before .before .before .is-place .ensures) (c .before .before .before .before .if1 .left)) (c .before .before .before .field .ensures) (c .before .before .text .ensures) (c .before .hash .ensures .0)
+returns-2 c = c .is-marked .ensures ∙ marking.calls-text (now (c .before .before .before .before .before .before .before .before .args .wanted))
+    (c .before .before .before .before .before .before .before .before .args .ranges) (entryOf (now (c .before .before .before .before .before .before .before .before .args .e))) (bools.told-yes
+    (c .before .before .before .before .before .is-place .ensures) (c .before .before .before .before .if1 .left)) (c .before .before .before .field .ensures) (c .before .before .text .ensures)
+    (c .before .hash .ensures .0)
 
 pub is-called-spec : {M : Type 1} → statement M
 is-called-spec =

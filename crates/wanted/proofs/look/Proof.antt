@@ -1,45 +1,30 @@
+-- `wanted::look` meets its contract.
 use Rattle.rules.specs.Numbers.{fieldTag}
 use Rattle.rules.proofs.stored.Parts as parts
-use mathlib.Core.Path.{refl, sym, ap, _∙_}
 use Rattle.rules.proofs.Bools as bools
 use Rattle.wanted.proofs.Marking as marking
-use denote.Ref.{now}
-use native.Mathlib.Omega.{arith}
 use borrow.Author.Needs.{needs}
 use Rattle.wanted.proofs.look.Statement.{statement}
 use Rattle.wanted.proofs.look.Tie as tie
-use Rattle.wanted.proofs.look.Reads as reads
-use Rattle.wanted.proofs.look.Lts as lts
-use Rattle.parts.proofs.part.body.Reads as body-reads
-use Rattle.parts.proofs.part.is_part.Reads as is-part-reads
-use Rattle.parts.proofs.part.rest.Reads as rest-reads
-use Rattle.wanted.proofs.look_behind.Reads as look-behind-reads
 
--- src/lib.rt:87:9
 is-part-requires : tie.Need-is-part-requires
 is-part-requires c κs = search needs
 
--- src/lib.rt:88:9
 returns : tie.Need-returns
 returns c = marking.looked-not (c .before .before .before .before .pre) (bools.told-no (c .before .is-part .ensures) (c .if1 .taken))
 
--- src/lib.rt:90:25
 body-requires : tie.Need-body-requires
 body-requires c κs = parts.part-is fieldTag _ (bools.told-yes (c .before .before .is-part .ensures) (c .before .if1 .left)) .0
 
--- src/lib.rt:90:34
 rest-requires : tie.Need-rest-requires
 rest-requires c κs = parts.part-is fieldTag _ (bools.told-yes (c .before .before .before .is-part .ensures) (c .before .before .if1 .left)) .0
 
--- src/lib.rt:90:5
 look-behind-requires : tie.Need-look-behind-requires
 look-behind-requires c κs = c .before .before .before .before .before .before .before .pre
 
--- src/lib.rt:83:1
 same-length : tie.Need-same-length
 same-length c = search needs
 
--- src/lib.rt:83:1
 returns-2 : tie.Need-returns-2
 returns-2 c = marking.looked-behind (c .before .before .before .before .body .ensures) (c .before .before .before .rest .ensures) (c .before .before .look-behind .ensures)
 

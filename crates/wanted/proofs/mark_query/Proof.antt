@@ -1,17 +1,12 @@
+-- `wanted::mark_query` meets its contract.
 use Rattle.rules.proofs.stored.Parts as parts
 use lib.ListN.{length}
-use mathlib.Core.Path.{refl, sym, ap, _∙_}
-use Rattle.rules.proofs.Bools as bools
+use mathlib.Core.Path.{sym, _∙_}
 use Rattle.wanted.proofs.Marking as marking
 use denote.Ref.{now}
-use native.Mathlib.Omega.{arith}
 use borrow.Author.Needs.{needs}
 use Rattle.wanted.proofs.mark_query.Statement.{statement}
 use Rattle.wanted.proofs.mark_query.Tie as tie
-use Rattle.wanted.proofs.mark_query.Reads as reads
-use Rattle.wanted.proofs.mark_query.Lts as lts
-use Rattle.wanted.proofs.either.Reads as either-reads
-use Rattle.wanted.proofs.look.Reads as look-reads
 
 abbrev Inv-loop : tie.InvT-loop
 Inv-loop query wanted₀ ranges₀ t₀ wanted ranges t = marking.Going query wanted t ranges
@@ -19,43 +14,34 @@ Inv-loop query wanted₀ ranges₀ t₀ wanted ranges t = marking.Going query wa
 abbrev μ-loop : tie.MeasureT-loop
 μ-loop query wanted₀ ranges₀ t₀ wanted ranges t = length t
 
--- src/lib.rt:106:5
 loop-holds : tie.Need-loop-holds Inv-loop μ-loop
 loop-holds c = marking.going-start (c .before .before .pre)
 
--- src/lib.rt:107:25
 look-requires : tie.Need-look-requires Inv-loop μ-loop
 look-requires c κs = c .before .before .loop .inv .many
 
--- src/lib.rt:107:9
 either-requires : tie.Need-either-requires Inv-loop μ-loop
 either-requires c κs = search needs
 
--- src/lib.rt:108:17
 sub-u : tie.Need-sub-u Inv-loop μ-loop
 sub-u c = search needs
 
--- src/lib.rt:108:17
 part-u-start : tie.Need-part-u-start Inv-loop μ-loop
 part-u-start c = search needs
 
--- src/lib.rt:108:17
 part-u-end : tie.Need-part-u-end Inv-loop μ-loop
 part-u-end c = search needs
 
--- src/lib.rt:106:5
 loop-less : tie.Need-loop-less Inv-loop μ-loop
 loop-less c = search needs
 
--- src/lib.rt:106:5
 loop-again : tie.Need-loop-again Inv-loop μ-loop
-loop-again c = marking.going-next (c .before .before .before .before .before .before .before .loop .inv) (c .before .before .before .before .look .ensures) (c .before .either .ensures) (parts.cut-from 1 (now (c .before .before .before .before .before .before .before .loop .t)))
+loop-again c = marking.going-next (c .before .before .before .before .before .before .before .loop .inv) (c .before .before .before .before .look .ensures) (c .before .either .ensures)
+    (parts.cut-from 1 (now (c .before .before .before .before .before .before .before .loop .t)))
 
--- src/lib.rt:100:1
 same-length : tie.Need-same-length Inv-loop μ-loop
 same-length c = c .before .loop .inv .many ∙ sym (c .before .before .before .before .pre)
 
--- src/lib.rt:100:1
 returns : tie.Need-returns Inv-loop μ-loop
 returns c = marking.going-end (c .before .loop .inv) (c .loop-test .left)
 

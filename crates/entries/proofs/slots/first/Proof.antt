@@ -1,27 +1,20 @@
+-- `entries::slots::first` meets its contract.
 use mathlib.Core.Path.{sym}
 use Rattle.entries.proofs.Noting as noting
 use denote.Ref.{now}
-use native.Mathlib.Omega.{arith}
 use borrow.Author.Needs.{needs}
 use Rattle.entries.proofs.slots.first.Statement.{statement}
 use Rattle.entries.proofs.slots.first.Tie as tie
-use Rattle.entries.proofs.slots.first.Reads as reads
-use Rattle.entries.proofs.slots.first.Lts as lts
-use Rattle.numbers.proofs.wide.Reads as wide-reads
 
--- src/slots.rt:45:9
 returns : tie.Need-returns
 returns c = (sym (noting.none-there (now (c .before .before .args .f)) (c .if1 .taken) 0), search needs)
 
--- src/slots.rt:47:10
 shared-slice-read-wide : tie.Need-shared-slice-read-wide
 shared-slice-read-wide c = search needs
 
--- src/slots.rt:47:5
 wide-requires : tie.Need-wide-requires
 wide-requires c κs = search needs
 
--- src/slots.rt:41:1
 returns-2 : tie.Need-returns-2
 returns-2 c = search needs
 

@@ -1,17 +1,12 @@
+-- `entries::slots::note` meets its contract.
 use Rattle.entries.proofs.Entries as entries
 use Rattle.rules.proofs.stored.Parts as parts
 use lib.ListN.{length}
 use mathlib.Core.Path.{sym, _∙_}
 use Rattle.entries.proofs.Noting as noting
-use denote.Ref.{now}
 use native.Mathlib.Omega.{arith}
-use borrow.Author.Needs.{needs}
 use Rattle.entries.proofs.slots.note.Statement.{statement}
 use Rattle.entries.proofs.slots.note.Tie as tie
-use Rattle.entries.proofs.slots.note.Reads as reads
-use Rattle.entries.proofs.slots.note.Lts as lts
-use Rattle.entries.proofs.slots.note_entry.Reads as note-entry-reads
-use Rattle.parts.proofs.part.rest.Reads as rest-reads
 
 abbrev Inv-loop : tie.InvT-loop
 Inv-loop rec from slots₀ e₀ slots e = noting.Upto rec from e slots
@@ -19,39 +14,39 @@ Inv-loop rec from slots₀ e₀ slots e = noting.Upto rec from e slots
 abbrev μ-loop : tie.MeasureT-loop
 μ-loop rec from slots₀ e₀ slots e = length e
 
--- src/slots.rt:89:5
 loop-holds : tie.Need-loop-holds Inv-loop μ-loop
 loop-holds c = noting.noting-start (c .before .before .pre .0) (c .before .before .pre .1)
 
--- src/slots.rt:90:31
 sub-note-entry : tie.Need-sub-note-entry Inv-loop μ-loop
 sub-note-entry c = omega (arith, c .before .loop .inv .fits)
 
--- src/slots.rt:90:23
 add-note-entry : tie.Need-add-note-entry Inv-loop μ-loop
 add-note-entry c = omega (arith, c .before .before .before .before .pre .2, c .before .loop .inv .fits)
 
--- src/slots.rt:90:9
 note-entry-requires : tie.Need-note-entry-requires Inv-loop μ-loop
-note-entry-requires c κs = (noting.noting-first (c .before .before .loop .inv) (c .before .loop-test .taken), (let g = c .before .loop-test .taken in omega (arith, c .before .before .before .before .before .pre .2, c .before .before .loop .inv .fits)), c .before .before .loop .inv .many)
+note-entry-requires c κs = (
+  noting.noting-first (c .before .before .loop .inv) (c .before .loop-test .taken),
+  (let g = c .before .loop-test .taken in omega (
+    arith,
+    c .before .before .before .before .before .pre .2,
+    c .before .before .loop .inv .fits,
+  )),
+  c .before .before .loop .inv .many,
+)
 
--- src/slots.rt:91:13
 rest-requires : tie.Need-rest-requires Inv-loop μ-loop
 rest-requires c κs = entries.entry-whole _ (noting.noting-first (c .before .before .before .before .before .loop .inv) (c .before .before .before .before .loop-test .taken))
 
--- src/slots.rt:89:5
 loop-less : tie.Need-loop-less Inv-loop μ-loop
 loop-less c = rw (c .rest .ensures) (parts.rest-shorter _ (c .before .before .before .before .before .loop-test .taken))
 
--- src/slots.rt:89:5
 loop-again : tie.Need-loop-again Inv-loop μ-loop
-loop-again c = noting.noting-next (c .before .before .before .before .before .before .loop .inv) (c .before .before .before .before .before .loop-test .taken) (c .rest .ensures) (c .before .before .before .note-entry .ensures)
+loop-again c = noting.noting-next (c .before .before .before .before .before .before .loop .inv) (c .before .before .before .before .before .loop-test .taken) (c .rest .ensures)
+    (c .before .before .before .note-entry .ensures)
 
--- src/slots.rt:84:1
 same-length : tie.Need-same-length Inv-loop μ-loop
 same-length c = c .before .loop .inv .many ∙ sym (c .before .before .before .before .pre .0 .many)
 
--- src/slots.rt:84:1
 returns : tie.Need-returns Inv-loop μ-loop
 returns c = noting.noting-end (c .before .loop .inv) (c .loop-test .left)
 

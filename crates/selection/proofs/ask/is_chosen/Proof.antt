@@ -1,56 +1,55 @@
+-- `selection::ask::is_chosen` meets its contract.
 use Rattle.selection.proofs.Selections as selections
 use native.Mathlib.Omega.{arith}
 use borrow.Author.Needs.{needs}
 use Rattle.selection.proofs.ask.is_chosen.Statement.{statement}
 use Rattle.selection.proofs.ask.is_chosen.Tie as tie
-use Rattle.selection.proofs.ask.is_chosen.Reads as reads
-use Rattle.selection.proofs.ask.is_chosen.Lts as lts
-use Rattle.matching.proofs.truth.holds.Reads as holds-reads
-use Rattle.selection.proofs.ask.is_long_chosen.Reads as is-long-chosen-reads
 
--- src/ask.rt:81:9
 is-long-chosen-requires : tie.Need-is-long-chosen-requires
-is-long-chosen-requires c κs = (c .before .before .before .before .before .before .before .before .pre .0, c .before .before .before .before .before .before .before .before .pre .1, c .before .before .if1 .taken)
+is-long-chosen-requires c κs = (
+  c .before .before .before .before .before .before .before .before .pre .0,
+  c .before .before .before .before .before .before .before .before .pre .1,
+  c .before .before .if1 .taken,
+)
 
--- src/ask.rt:81:9
 same-length : tie.Need-same-length
 same-length c = search needs
 
--- src/ask.rt:81:9
 same-length-2 : tie.Need-same-length-2
 same-length-2 c = search needs
 
--- src/ask.rt:81:9
 returns : tie.Need-returns
 returns c = c .before .before .before .before .is-long-chosen .ensures
 
--- src/ask.rt:83:29
 sub-holds : tie.Need-sub-holds
 sub-holds c = search needs
 
--- src/ask.rt:83:29
 part-holds-start : tie.Need-part-holds-start
 part-holds-start c = search needs
 
--- src/ask.rt:83:29
 part-holds-end : tie.Need-part-holds-end
 part-holds-end c = search needs
 
--- src/ask.rt:83:5
 holds-requires : tie.Need-holds-requires
-holds-requires c κs = (c .before .before .before .before .before .before .before .before .before .pre .0 .query, c .before .before .before .before .before .before .before .before .before .pre .0 .entries, (λ z. absurd (omega arith)), c .before .before .before .before .before .before .before .before .before .pre .0 .deep)
+holds-requires c κs = (
+  c .before .before .before .before .before .before .before .before .before .pre .0 .query,
+  c .before .before .before .before .before .before .before .before .before .pre .0 .entries,
+  (λ z. absurd (omega arith)),
+  c .before .before .before .before .before .before .before .before .before .pre .0 .deep,
+)
 
--- src/ask.rt:68:1
 same-length-3 : tie.Need-same-length-3
 same-length-3 c = search needs
 
--- src/ask.rt:68:1
 same-length-4 : tie.Need-same-length-4
 same-length-4 c = search needs
 
--- src/ask.rt:68:1
 returns-2 : tie.Need-returns-2
-returns-2 c = record { truth = c .before .before .holds .ensures; before = selections.before-more (c .before .before .before .before .before .before .before .before .before .before .before .before .pre .0 .before) (omega arith) }
+returns-2 c = record {
+  truth = c .before .before .holds .ensures;
+  before = selections.before-more
+      (c .before .before .before .before .before .before .before .before .before .before .before .before .pre .0 .before) (omega arith);
+}
 
 pub is-chosen-spec : {M : Type 1} → statement M
 is-chosen-spec =

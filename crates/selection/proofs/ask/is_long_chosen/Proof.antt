@@ -1,3 +1,4 @@
+-- `selection::ask::is_long_chosen` meets its contract.
 use Rattle.selection.proofs.Selections as selections
 use Rattle.rules.proofs.Bools as bools
 use Rattle.rules.specs.Lists.{entryOf}
@@ -7,37 +8,41 @@ use native.Mathlib.Omega.{arith}
 use borrow.Author.Needs.{needs}
 use Rattle.selection.proofs.ask.is_long_chosen.Statement.{statement}
 use Rattle.selection.proofs.ask.is_long_chosen.Tie as tie
-use Rattle.selection.proofs.ask.is_long_chosen.Reads as reads
-use Rattle.selection.proofs.ask.is_long_chosen.Lts as lts
-use Rattle.entries.proofs.slots.note.Reads as note-reads
-use Rattle.matching.proofs.truth.holds.Reads as holds-reads
-use Rattle.wanted.proofs.any_called.Reads as any-called-reads
 
--- src/ask.rt:61:9
 any-called-requires : tie.Need-any-called-requires
 any-called-requires c κs = (c .before .before .before .before .before .pre .1 .many, c .before .before .before .before .before .pre .0 .entries)
 
--- src/ask.rt:62:9
 returns : tie.Need-returns
-returns c = record { truth = selections.bare-truth (c .before .before .before .before .before .before .before .args .plan .bare) (c .before .before .before .before .before .before .before .pre .1 .marks (c .before .before .before .before .before .before .before .pre .2)) (c .before .before .before .before .before .before .before .pre .1 .bare (c .before .before .before .before .before .before .before .pre .2)) (each entryOf (now (c .before .before .before .before .before .before .before .args .rec))) (bools.told-no (c .before .any-called .ensures) (c .if1 .taken)); before = selections.before-more (c .before .before .before .before .before .before .before .pre .0 .before) (omega arith) }
+returns c = record {
+  truth = selections.bare-truth (c .before .before .before .before .before .before .before .args .plan .bare)
+      (c .before .before .before .before .before .before .before .pre .1 .marks (c .before .before .before .before .before .before .before .pre .2))
+      (c .before .before .before .before .before .before .before .pre .1 .bare (c .before .before .before .before .before .before .before .pre .2)) (each entryOf (now
+      (c .before .before .before .before .before .before .before .args .rec))) (bools.told-no (c .before .any-called .ensures) (c .if1 .taken));
+  before = selections.before-more
+      (c .before .before .before .before .before .before .before .pre .0 .before) (omega arith);
+}
 
--- src/ask.rt:64:5
 note-requires : tie.Need-note-requires
-note-requires c κs = (c .before .before .before .before .before .before .before .before .pre .0 .before, c .before .before .before .before .before .before .before .before .pre .0 .entries, c .before .before .before .before .before .before .before .before .pre .0 .fits)
+note-requires c κs = (
+  c .before .before .before .before .before .before .before .before .pre .0 .before,
+  c .before .before .before .before .before .before .before .before .pre .0 .entries,
+  c .before .before .before .before .before .before .before .before .pre .0 .fits,
+)
 
--- src/ask.rt:65:5
 holds-requires : tie.Need-holds-requires
-holds-requires c κs = (c .before .before .before .before .before .before .before .before .before .before .before .before .before .pre .0 .query, c .before .before .before .before .before .before .before .before .before .before .before .before .before .pre .0 .entries, (λ z. c .before .before .before .before .note .ensures .0), c .before .before .before .before .before .before .before .before .before .before .before .before .before .pre .0 .deep)
+holds-requires c κs = (
+  c .before .before .before .before .before .before .before .before .before .before .before .before .before .pre .0 .query,
+  c .before .before .before .before .before .before .before .before .before .before .before .before .before .pre .0 .entries,
+  (λ z. c .before .before .before .before .note .ensures .0),
+  c .before .before .before .before .before .before .before .before .before .before .before .before .before .pre .0 .deep,
+)
 
--- src/ask.rt:49:1
 same-length : tie.Need-same-length
 same-length c = search needs
 
--- src/ask.rt:49:1
 same-length-2 : tie.Need-same-length-2
 same-length-2 c = search needs
 
--- src/ask.rt:49:1
 returns-2 : tie.Need-returns-2
 returns-2 c = record { truth = c .before .before .holds .ensures; before = c .before .before .before .before .before .before .before .note .ensures .1 }
 
