@@ -45,7 +45,15 @@ part-put-word-end : tie.Need-part-put-word-end Inv-loop μ-loop
 part-put-word-end c = omega (arith, (c .before .before .before .before .next-token .ensures) .within, c .before .before .before .before .before .loop .inv .1, c .before .before .if1 .left)
 
 put-word-requires : tie.Need-put-word-requires Inv-loop μ-loop
-put-word-requires c κs = let r = words-here (c .before .before .before .before .before .next-token .ensures) (c .before .before .before .before .before .before .loop .position) (c .before .before .before .if1 .left) in let l = laying-fits (c .before .before .before .before .before .before .loop .inv .0) (part wordTag (big 4 (c .before .before .before .before .before .before .loop .position) ++ spelled (c .before .before .before .before .before .before .before .before .before .args .analyzer) (take ((c .before .before .before .before .before .next-token .result .start) + (c .before .before .before .before .before .next-token .result .len) - (c .before .before .before .before .before .next-token .result .start)) (drop (c .before .before .before .before .before .next-token .result .start) (c .before .before .before .before .before .before .before .before .before .args .text .now))))) (encodeWords (placedFrom (c .before .before .before .before .before .before .loop .position + 1) (tokenTexts (c .before .before .before .before .before .before .before .before .before .args .analyzer) (drop ((c .before .before .before .before .before .next-token .result .start) + (c .before .before .before .before .before .next-token .result .len)) (c .before .before .before .before .before .before .before .before .before .args .text .now))))) r (c .before .before .before .before .before .before .before .before .before .pre .0) in let n = slice-length (c .before .before .before .before .before .before .before .before .before .args .text .now) (c .before .before .before .before .before .next-token .result .start) (c .before .before .before .before .before .next-token .result .len) (omega (arith, (c .before .before .before .before .before .next-token .ensures) .within, c .before .before .before .before .before .before .loop .inv .1)) in (word-room (take ((c .before .before .before .before .before .next-token .result .start) + (c .before .before .before .before .before .next-token .result .len) - (c .before .before .before .before .before .next-token .result .start)) (drop (c .before .before .before .before .before .next-token .result .start) (c .before .before .before .before .before .before .before .before .before .args .text .now))) (c .before .before .before .before .before .before .loop .out) (c .before .before .before .before .before .before .before .before .before .args .analyzer) (c .before .before .before .before .before .before .loop .w) (c .before .before .before .before .before .before .loop .position) l, omega (arith, (c .before .before .before .before .before .next-token .ensures) .within, c .before .before .before .before .before .before .loop .inv .1, c .before .before .before .before .before .before .before .before .before .pre .1))
+put-word-requires c κs =
+    let pre = c .before .before .before .before .before .before .before .before .before .pre in
+    let args = c .before .before .before .before .before .before .before .before .before .args in
+    let loop = c .before .before .before .before .before .before .loop in
+    let next-token = c .before .before .before .before .before .next-token in
+    let r = words-here (next-token .ensures) (loop .position) (c .before .before .before .if1 .left) in
+    let l = laying-fits (loop .inv .0) (part wordTag (big 4 (loop .position) ++ spelled (args .analyzer) (take ((next-token .result .start) + (next-token .result .len) - (next-token .result .start)) (drop (next-token .result .start) (args .text .now))))) (encodeWords (placedFrom (loop .position + 1) (tokenTexts (args .analyzer) (drop ((next-token .result .start) + (next-token .result .len)) (args .text .now))))) r (pre .0) in
+    let n = slice-length (args .text .now) (next-token .result .start) (next-token .result .len) (omega (arith, (next-token .ensures) .within, loop .inv .1)) in
+    (word-room (take ((next-token .result .start) + (next-token .result .len) - (next-token .result .start)) (drop (next-token .result .start) (args .text .now))) (loop .out) (args .analyzer) (loop .w) (loop .position) l, omega (arith, (next-token .ensures) .within, loop .inv .1, pre .1))
 
 add-position : tie.Need-add-position Inv-loop μ-loop
 add-position c = omega (arith, c .before .before .before .before .before .before .before .before .before .loop .inv .2, c .before .before .before .before .before .before .before .before .before .loop .inv .1, c .before .before .before .before .before .before .before .before .before .before .before .before .pre .1)
@@ -54,7 +62,12 @@ loop-less : tie.Need-loop-less Inv-loop μ-loop
 loop-less c = omega (arith, (c .before .before .before .before .before .before .before .before .next-token .ensures) .within, c .before .before .before .before .before .before .before .before .before .loop .inv .1, (c .before .before .before .before .before .before .before .before .next-token .ensures) .onward, c .before .before .before .before .before .before .if1 .left)
 
 loop-again : tie.Need-loop-again Inv-loop μ-loop
-loop-again c = (laying-on (c .before .before .before .before .before .before .before .before .before .loop .inv .0) _ _ (words-here (c .before .before .before .before .before .before .before .before .next-token .ensures) (c .before .before .before .before .before .before .before .before .before .loop .position) (c .before .before .before .before .before .before .if1 .left)) (c .before .before .before .before .before .before .before .before .before .before .before .before .pre .0) (c .before .before .put-word .ensures) (c .before .before .put-word .kept .0), omega (arith, (c .before .before .before .before .before .before .before .before .next-token .ensures) .within, c .before .before .before .before .before .before .before .before .before .loop .inv .1, c .before .before .before .before .before .before .if1 .left), omega (arith, (c .before .before .before .before .before .before .before .before .next-token .ensures) .onward, c .before .before .before .before .before .before .before .before .before .loop .inv .2, c .before .before .before .before .before .before .if1 .left))
+loop-again c =
+    let loop = c .before .before .before .before .before .before .before .before .before .loop in
+    let next-token = c .before .before .before .before .before .before .before .before .next-token in
+    let if1 = c .before .before .before .before .before .before .if1 in
+    let put-word = c .before .before .put-word in
+    (laying-on (loop .inv .0) _ _ (words-here (next-token .ensures) (loop .position) (if1 .left)) (c .before .before .before .before .before .before .before .before .before .before .before .before .pre .0) (put-word .ensures) (put-word .kept .0), omega (arith, (next-token .ensures) .within, loop .inv .1, if1 .left), omega (arith, (next-token .ensures) .onward, loop .inv .2, if1 .left))
 
 pub put-words-spec : {M : Type 1} → statement M
 put-words-spec =
