@@ -22,7 +22,7 @@ use Rattle.rules.proofs.stored.Parts.{cut-from}
 use Rattle.rules.proofs.stored.Views.{Front}
 use Rattle.places.specs.Within.{within}
 use Rattle.merging.specs.Merge.{Eatable, Ate}
-use Rattle.merging.specs.Signatures.{signatureOf, having, oneMore, Noted, Alone}
+use Rattle.merging.specs.Signatures.{signatures, signatureOf, having, oneMore, Noted, Alone}
 use Rattle.merging.proofs.Forms.{are-same, front, no-clause, front-is, front-are}
 
 -- ---- the signature of a stretch
@@ -32,11 +32,11 @@ unfolding signatureOf
 signature-short s h = rw (lt-ltb (length s) 4 h)
 
 pub signature-long : (s : List ℕ) → 4 ≤ length s → (b x : ℕ) → b ≡ ofBig (take 4 (take (length s - (length s - 4)) (drop (length s - 4) s))) → x ≡ b
-    → (x + length s % 1021 * 31) % 1021 ≡ signatureOf s
+    → (x + length s % signatures * 31) % signatures ≡ signatureOf s
 unfolding signatureOf
 signature-long s h b x eb ex =
     let e = ex ∙ eb ∙ ap (λ (l : List ℕ). ofBig (take 4 l)) (cut-from (length s - 4) s) in
-    rw (le-ltb (length s) 4 h) (ap (λ (i : ℕ). (i + length s % 1021 * 31) % 1021) e)
+    rw (le-ltb (length s) 4 h) (ap (λ (i : ℕ). (i + length s % signatures * 31) % signatures) e)
 
 pub more-none : (n : ℕ) → n ≡ 0 → 1 ≡ oneMore n
 unfolding oneMore
@@ -121,11 +121,11 @@ alone-ate {m} {b} {k} {at} {end} {room} table s E A t i h cs ei ih a =
 pub record Noting (m : ℕ) (s t table : List ℕ) : Type 0 where
   pub all : StoredClauses s
   pub left : StoredClauses t
-  pub long : length table ≡ 1021
+  pub long : length table ≡ signatures
   pub noted : (g : ℕ)
       → (getD table g 0 ≡ 0 → having m g (all .clauses) ≤ having m g (left .clauses)) × (getD table g 0 ≡ 1 → having m g (all .clauses) ≤ 1 + having m g (left .clauses))
 
-pub noting-start : (m : ℕ) {s table : List ℕ} → StoredClauses s → length table ≡ 1021 → Noting m s s table
+pub noting-start : (m : ℕ) {s table : List ℕ} → StoredClauses s → length table ≡ signatures → Noting m s s table
 noting-start m S l = record { all = S; left = S; long = l; noted = λ g. ((λ z. omega arith), (λ z. omega arith)) }
 
 module _ {m : ℕ} {s t table : List ℕ} (n : Noting m s t table) where
@@ -133,7 +133,7 @@ module _ {m : ℕ} {s t table : List ℕ} (n : Noting m s t table) where
   noting-front p = front (n .left .are) p
 
   module _ (p : 0 < length t) (v : List ℕ) (ev : (x : Query) (j : Kind) → Is (bodyOf t) x → kindTag j ≡ getD t 0 0 → Is v (held m j x)) (g₀ : ℕ) (eg : g₀ ≡ signatureOf v)
-      (small : g₀ < 1021) (u : List ℕ) (eu : u ≡ restOf t) (y : ℕ) (ey : y ≡ oneMore (getD table g₀ 0)) where
+      (small : g₀ < signatures) (u : List ℕ) (eu : u ≡ restOf t) (y : ℕ) (ey : y ≡ oneMore (getD table g₀ 0)) where
     F : Front t (n .left .clauses)
     F = noting-front p
 

@@ -12,8 +12,12 @@ use Rattle.rules.specs.Checked.{Are}
 use Rattle.rules.specs.Eating.{held}
 use Rattle.places.specs.Within.{within}
 
+-- how many there are
+abbrev pub signatures : ℕ
+signatures = 4093
+
 unfoldable pub signatureOf : List ℕ → ℕ
-signatureOf s = cond (ltb (length s) 4) 0 ((ofBig (take 4 (drop (length s - 4) s)) + length s % 1021 * 31) % 1021)
+signatureOf s = cond (ltb (length s) 4) 0 ((ofBig (take 4 (drop (length s - 4) s)) + length s % signatures * 31) % signatures)
 
 -- how many of the clauses are compared by bytes of the signature g
 unfoldable pub having : ℕ → ℕ → Clauses → ℕ

@@ -1,3 +1,3 @@
 // The merging of the clauses of a Boolean, in their place.
 pub mod merge;
-pub mod signatures;
+mod signatures;

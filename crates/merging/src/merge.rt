@@ -9,8 +9,11 @@ use floats::sums::add;
 use floats::sums::as_sum;
 use floats::sums::is_one;
 use floats::sums::rounded_bits;
+use names::BOOST_BYTES;
+use names::BOOST_FRONT;
 use names::BOOST_TAG;
 use names::FILTER_TAG;
+use names::HEADER;
 use names::MUST_TAG;
 use names::SHOULD_TAG;
 use numbers::big4;
@@ -35,11 +38,19 @@ ghost use Rattle.rules.specs.Rewriting.{summable, standsFor, base, boostOf};
 ghost use Rattle.rules.specs.Eating.{held, mergedClauses};
 ghost use Rattle.numbers.specs.Laid.{Put};
 ghost use Rattle.places.specs.Within.{within, Stands};
-ghost use Rattle.merging.specs.Signatures.{Noted, Alone};
+ghost use Rattle.merging.specs.Signatures.{signatures, Noted, Alone};
 ghost use Rattle.merging.specs.Merge.{Eats, Fed, First, Eatable, Ate, reboostedBytes, mergedSize, Way, Mergeable};
 
 // The bytes below which clauses are so few that they are compared with no table.
 const FEW: usize = 160;
+
+// Before a boosted clause's base stand a header, a boost's header and its bits.
+const BITS: usize = HEADER + HEADER;
+
+const BOOSTED_FRONT: usize = HEADER + BOOST_FRONT;
+
+// The bits of the boost 1.
+const ONE: u32 = 0x3f80_0000;
 
 // A merged clause: where its base stands, its kind, its running sum.
 pub struct Merged {
@@ -78,7 +89,7 @@ fn base(q: &[u8]) -> &[u8]
     ensures { λ r. ⌜ ((x : Query) → Is (now (q .entry)) x → Is (now r) (base x)) ⌝ }
 {
     if q[0] == BOOST_TAG {
-        return &q[7..];
+        return &q[BOOST_FRONT..];
     }
     q
 }
@@ -88,9 +99,9 @@ fn boost_of(q: &[u8]) -> u32
     ensures { λ r. ⌜ ((x : Query) → Is (now (q .entry)) x → widened r ≡ boostOf x) ⌝ }
 {
     if q[0] == BOOST_TAG {
-        return big4(&q[3..]);
+        return big4(&q[HEADER..]);
     }
-    0x3f80_0000
+    ONE
 }
 
 // What a clause of kind k is compared by.
@@ -165,8 +176,8 @@ fn eat(room: &mut [u8], m: Merged, at: usize, end: usize, least: usize) -> Eaten
     while u < end {
         let j = room[u];
         let v = end_of(room, u);
-        if eats(least, k, &room[b..at], j, &room[u + 3..v]) {
-            let x = fed(least, sum, j, &room[u + 3..v]);
+        if eats(least, k, &room[b..at], j, &room[u + HEADER..v]) {
+            let x = fed(least, sum, j, &room[u + HEADER..v]);
             let f = from + (v - u);
             shift(room, f, from, u - from);
             sum = x;
@@ -205,7 +216,7 @@ fn put_clause(room: &mut [u8], w: usize, kind: u8, b: usize, e: usize) -> usize
     ensures { λ r. ⌜ Put (now (room .entry)) w (part kind (within b e (now (room .entry)))) r (now (room .exit)) ⌝ }
 {
     let n = e - b;
-    let r = shift(room, w + 3, b, n);
+    let r = shift(room, w + HEADER, b, n);
     put_header(room, w, kind, n);
     r
 }
@@ -216,10 +227,10 @@ fn put_boosted(room: &mut [u8], w: usize, kind: u8, bits: u32, b: usize, e: usiz
     ensures { λ r. ⌜ Put (now (room .entry)) w (part kind (part boostTag (big 4 bits ++ within b e (now (room .entry))))) r (now (room .exit)) ⌝ }
 {
     let n = e - b;
-    let r = shift(room, w + 10, b, n);
-    put_big4(room, w + 6, bits);
-    put_header(room, w + 3, BOOST_TAG, 4 + n);
-    put_header(room, w, kind, 7 + n);
+    let r = shift(room, w + BOOSTED_FRONT, b, n);
+    put_big4(room, w + BITS, bits);
+    put_header(room, w + HEADER, BOOST_TAG, BOOST_BYTES + n);
+    put_header(room, w, kind, BOOST_FRONT + n);
     r
 }
 
@@ -241,7 +252,11 @@ fn merged_size(sum: f64, n: usize) -> usize
     requires { ⌜ n + 10 < 18446744073709551616 ⌝ }
     ensures { λ r. ⌜ r ≡ mergedSize sum n ⌝ }
 {
-    if is_one(sum) { 3 + n } else { 10 + n }
+    if is_one(sum) {
+        HEADER + n
+    } else {
+        BOOSTED_FRONT + n
+    }
 }
 
 // Moves what stands from `at` up to `end` so far that it begins at `need` or behind, and gives the place where it begins.
@@ -266,7 +281,7 @@ fn merge_all(room: &mut [u8], end: usize, least: usize, table: &[u8]) -> usize
     let mut last = end;
     while t < last {
         let e = end_of(room, t);
-        let m = first_of(least, t + 3, room[t], &room[t + 3..e]);
+        let m = first_of(least, t + HEADER, room[t], &room[t + HEADER..e]);
         let b = m.base;
         let k = m.kind;
         let a = eat_others(room, m, e, last, least, table);
@@ -292,7 +307,7 @@ fn merge_all(room: &mut [u8], end: usize, least: usize, table: &[u8]) -> usize
 
 // Notes the signature of each clause in the table.
 fn note_all(s: &[u8], least: usize, table: &mut [u8])
-    requires { ⌜ StoredClauses (now s) × (length (now table) ≡ 1021) ⌝ }
+    requires { ⌜ StoredClauses (now s) × (length (now table) ≡ signatures) ⌝ }
     ensures { λ _. ⌜ ((cs : Clauses) → Are (now (s .entry)) cs → Noted least (now (table .exit)) cs) ⌝ }
 {
     let mut t = s;

@@ -5,9 +5,9 @@ ghost use mathlib.Core.Path.{_≡_};
 ghost use mathlib.Core.Bool.{true};
 ghost use Prim.Native.Nat.{_<_};
 ghost use lib.ListN.{getD};
-ghost use Rattle.merging.specs.Signatures.{signatureOf, oneMore};
+ghost use Rattle.merging.specs.Signatures.{signatures, signatureOf, oneMore};
 
-pub const SIGNATURES: usize = 1021;
+pub const SIGNATURES: usize = 4093;
 
 fn upper(x: u32) -> usize
     ensures { λ r. ⌜ (r ≡ x) × (r < 4294967296) ⌝ }
@@ -17,7 +17,7 @@ fn upper(x: u32) -> usize
 
 // Of a stretch's last four bytes and its length: texts mostly differ there.
 pub fn signature(s: &[u8]) -> usize
-    ensures { λ r. ⌜ (r ≡ signatureOf (now (s .entry))) × (r < 1021) ⌝ }
+    ensures { λ r. ⌜ (r ≡ signatureOf (now (s .entry))) × (r < signatures) ⌝ }
 {
     if s.len() < 4 {
         return 0;

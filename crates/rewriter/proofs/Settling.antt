@@ -241,20 +241,20 @@ module _ (s out room : List ℕ) where
 
         module _ {n k : ℕ} {room₂ : List ℕ}
             (settled : (q : Query) → Is (drop (length room - length s) room₁) q → Settled (resultOf (rewrite q)) (countOf (rewrite q)) n k room₂) where
-          S : Settled (resultOf (rewrite query)) (countOf (rewrite query)) n k room₂
-          S = settled query is-there
+          result : Settled (resultOf (rewrite query)) (countOf (rewrite query)) n k room₂
+          result = settled query is-there
 
           pub settled-low : (n ≤ length room₂) × (length (within 0 n room₂) ≡ n)
           settled-low =
               let z : n - 0 ≡ n = omega arith in
-              (S .low, within-length room₂ 0 n (omega arith) (S .low) ∙ z)
+              (result .low, within-length room₂ 0 n (omega arith) (result .low) ∙ z)
 
           answer : rewriteReply s ≡ got (rewrittenReply (rewrite query))
           unfolding rewriteReply query
           answer = rw (read .1)
 
           n-is : n ≡ length (encode (resultOf (rewrite query)))
-          n-is = sym (sym (ap length (S .here)) ∙ within-length room₂ 0 n (omega arith) (S .low) ∙ minus)
+          n-is = sym (sym (ap length (result .here)) ∙ within-length room₂ 0 n (omega arith) (result .low) ∙ minus)
             where
               minus : n - 0 ≡ n
               minus = omega arith
@@ -268,7 +268,7 @@ module _ (s out room : List ℕ) where
 
           pub got-left : n ≤ length out → (p : ℕ) (out′ : List ℕ) → Put out 0 (within 0 n room₂) p out′ → left 0 n k out′ (zeros room) ≡ rewriteLeft s out room
           unfolding rewriteLeft call
-          got-left l p out′ P = rw (le-leb rewriteRoom (length room) h, answer) (go (rewrite query) (S .here) (S .rounds) (sym n-is))
+          got-left l p out′ P = rw (le-leb rewriteRoom (length room) h, answer) (go (rewrite query) (result .here) (result .rounds) (sym n-is))
             where
               go : (w : Rewritten) → within 0 n room₂ ≡ encode (resultOf w) → k ≡ countOf w → length (encode (resultOf w)) ≡ n
                   → left 0 n k out′ (zeros room) ≡ leave (fitting (length out) (rewrittenReply w)) out room

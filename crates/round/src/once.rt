@@ -8,9 +8,12 @@ use crate::over::put_none;
 use crate::over::rewrite_boolean;
 use crate::over::score_over;
 use floats::sums::is_one_bits;
+use names::BOOLEAN_FRONT;
 use names::BOOLEAN_TAG;
+use names::BOOST_FRONT;
 use names::BOOST_TAG;
 use names::CONSTANT_SCORE_TAG;
+use names::HEADER;
 use names::MATCH_NONE_TAG;
 use names::PHRASE_TAG;
 use numbers::big2;
@@ -25,6 +28,9 @@ ghost use Rattle.rules.specs.Checked.{Is, Are};
 ghost use Rattle.rules.specs.Rewriting.{rewriteOnce};
 ghost use Rattle.places.specs.Within.{Stands};
 ghost use Rattle.round.specs.Once.{Room, Rooms, Rewritten};
+
+// Where a Boolean's minimum stands.
+const LEAST: usize = HEADER + HEADER;
 
 enum Kept {
     Dead,
@@ -41,14 +47,14 @@ fn rewrite_clauses(room: &mut [u8], at: usize) -> Kept
     while t < room.len() {
         let k = room[t];
         let e = end_of(room, t);
-        let n = rewrite_once(&mut room[w + 3..e], t - w);
-        if room[w + 3] == MATCH_NONE_TAG {
+        let n = rewrite_once(&mut room[w + HEADER..e], t - w);
+        if room[w + HEADER] == MATCH_NONE_TAG {
             if is_needed(k) {
                 return Kept::Dead;
             }
         } else {
             put_header(room, w, k, n);
-            w = w + 3 + n;
+            w = w + HEADER + n;
         }
         t = e;
     }
@@ -64,23 +70,23 @@ pub fn rewrite_once(room: &mut [u8], at: usize) -> usize
     match tag {
         PHRASE_TAG => phrase_over(room, at),
         BOOLEAN_TAG => {
-            let least = big2(&room[at + 6..]);
-            let r = rewrite_clauses(&mut room[8..], at);
+            let least = big2(&room[at + LEAST..]);
+            let r = rewrite_clauses(&mut room[BOOLEAN_FRONT..], at);
             match r {
                 Kept::Dead => put_none(room),
-                Kept::Upto(w) => rewrite_boolean(room, 8 + w, least),
+                Kept::Upto(w) => rewrite_boolean(room, BOOLEAN_FRONT + w, least),
             }
         }
         BOOST_TAG => {
-            let b = big4(&room[at + 3..]);
+            let b = big4(&room[at + HEADER..]);
             if is_one_bits(b) {
-                return rewrite_once(room, at + 7);
+                return rewrite_once(room, at + BOOST_FRONT);
             }
-            let n = rewrite_once(&mut room[7..], at);
+            let n = rewrite_once(&mut room[BOOST_FRONT..], at);
             boost_over(room, n, b)
         }
         CONSTANT_SCORE_TAG => {
-            let n = rewrite_once(&mut room[3..], at);
+            let n = rewrite_once(&mut room[HEADER..], at);
             score_over(room, n)
         }
         _ => {

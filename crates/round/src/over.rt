@@ -5,12 +5,18 @@ use crate::clauses::only_must_not;
 use crate::clauses::should_count;
 use floats::sums::product;
 use merging::merge::merge_clauses;
+use names::BOOLEAN_FRONT;
 use names::BOOLEAN_TAG;
+use names::BOOST_BYTES;
+use names::BOOST_FRONT;
 use names::BOOST_TAG;
 use names::CONSTANT_SCORE_TAG;
 use names::FILTER_TAG;
+use names::HEADER;
 use names::MATCH_NONE_TAG;
+use names::MINIMUM_BYTES;
 use names::MUST_NOT_TAG;
+use names::POSITION_BYTES;
 use names::TERM_TAG;
 use names::TEXT_TAG;
 use numbers::big4;
@@ -33,6 +39,18 @@ ghost use Rattle.numbers.specs.Laid.{Put};
 ghost use Rattle.places.specs.Within.{within, Stands};
 ghost use Rattle.round.specs.Over.{Inner, Phrase, Live, Lone};
 
+// Where the bits of a boost stand that was laid under a boost, and what a boost under a constant score holds.
+const INNER_BITS: usize = BOOST_FRONT + HEADER;
+
+// What stands before a word's text, before the query of a lone clause, and before one that is scored 0; a minimum with its header.
+const WORD_FRONT: usize = HEADER + POSITION_BYTES;
+
+const LONE_FRONT: usize = BOOLEAN_FRONT + HEADER;
+
+const SCORED_FRONT: usize = BOOST_FRONT + HEADER;
+
+const MINIMUM: usize = HEADER + MINIMUM_BYTES;
+
 pub fn put_none(room: &mut [u8]) -> usize
     requires { ⌜ 3 ≤ length (now room) ⌝ }
     ensures { λ r. ⌜ Stands 0 (now (room .entry)) r (encode matchNone) (now (room .exit)) ⌝ }
@@ -45,19 +63,19 @@ pub fn boost_over(room: &mut [u8], n: usize, b: u32) -> usize
     requires { ⌜ Inner 7 n (now room) ⌝ }
     ensures { λ r. ⌜ ((q : Query) → Is (take n (drop 7 (now (room .entry)))) q → Stands 0 (now (room .entry)) r (encode (boosted b q)) (now (room .exit))) ⌝ }
 {
-    let tag = room[7];
+    let tag = room[BOOST_FRONT];
     if tag == MATCH_NONE_TAG {
         return put_none(room);
     }
     if tag == BOOST_TAG {
-        let c = big4(&room[10..]);
-        shift(room, 0, 7, n);
-        put_big4(room, 3, product(c, b));
+        let c = big4(&room[INNER_BITS..]);
+        shift(room, 0, BOOST_FRONT, n);
+        put_big4(room, HEADER, product(c, b));
         return n;
     }
-    let p = put_header(room, 0, BOOST_TAG, 4 + n);
+    let p = put_header(room, 0, BOOST_TAG, BOOST_BYTES + n);
     put_big4(room, p, b);
-    7 + n
+    BOOST_FRONT + n
 }
 
 // ConstantScore of the query of n bytes at 3.
@@ -65,21 +83,21 @@ pub fn score_over(room: &mut [u8], n: usize) -> usize
     requires { ⌜ Inner 3 n (now room) ⌝ }
     ensures { λ r. ⌜ ((q : Query) → Is (take n (drop 3 (now (room .entry)))) q → Stands 0 (now (room .entry)) r (encode (scored q)) (now (room .exit))) ⌝ }
 {
-    let tag = room[3];
+    let tag = room[HEADER];
     if tag == MATCH_NONE_TAG {
         return put_none(room);
     }
     if tag == CONSTANT_SCORE_TAG {
-        shift(room, 0, 3, n);
+        shift(room, 0, HEADER, n);
         return n;
     }
     if tag == BOOST_TAG {
-        shift(room, 3, 10, n - 7);
-        put_header(room, 0, CONSTANT_SCORE_TAG, n - 7);
-        return n - 4;
+        shift(room, HEADER, INNER_BITS, n - BOOST_FRONT);
+        put_header(room, 0, CONSTANT_SCORE_TAG, n - BOOST_FRONT);
+        return n - BOOST_BYTES;
     }
     put_header(room, 0, CONSTANT_SCORE_TAG, n);
-    3 + n
+    HEADER + n
 }
 
 // The term with the field part from `field` up to `word`, and the text of the word that stands from there up to the end.
@@ -88,9 +106,9 @@ fn term_over(room: &mut [u8], field: usize, word: usize) -> usize
     ensures { λ r. ⌜ Put (now (room .entry)) 0 (part termTag (within field word (now (room .entry)) ++ part textTag (within (word + 7) (length (now (room .entry))) (now (room .entry))))) r (now (room .exit)) ⌝ }
 {
     let f = word - field;
-    let from = word + 7;
+    let from = word + WORD_FRONT;
     let t = room.len() - from;
-    let p = put_header(room, 0, TERM_TAG, f + 3 + t);
+    let p = put_header(room, 0, TERM_TAG, f + HEADER + t);
     let q = shift(room, p, field, f);
     let r = put_header(room, q, TEXT_TAG, t);
     shift(room, r, from, t)
@@ -102,12 +120,12 @@ pub fn phrase_over(room: &mut [u8], at: usize) -> usize
     ensures { λ r. ⌜ ((f : List ℕ) (ws : List Word) → Is (drop at (now (room .entry))) (phrase f ws) → Stands 0 (now (room .entry)) r (encode (phrased f ws)) (now (room .exit))) ⌝ }
 {
     let end = room.len();
-    let words = end_of(room, at + 3);
+    let words = end_of(room, at + HEADER);
     if words == end {
         return put_none(room);
     }
     if end_of(room, words) == end {
-        return term_over(room, at + 3, words);
+        return term_over(room, at + HEADER, words);
     }
     let n = end - at;
     shift(room, 0, at, n);
@@ -119,19 +137,19 @@ fn put_lone(room: &mut [u8], end: usize) -> usize
     requires { ⌜ Lone end (now room) ⌝ }
     ensures { λ r. ⌜ ((k : Kind) (q : Query) → Are (within 8 end (now (room .entry))) (clause k q none) → Stands 0 (now (room .entry)) r (encode (lone k q)) (now (room .exit))) ⌝ }
 {
-    let k = room[8];
-    let n = end - 11;
+    let k = room[BOOLEAN_FRONT];
+    let n = end - LONE_FRONT;
     if k == MUST_NOT_TAG {
         return put_none(room);
     }
     if k == FILTER_TAG {
-        shift(room, 10, 11, n);
-        put_header(room, 7, CONSTANT_SCORE_TAG, n);
-        put_big4(room, 3, 0);
-        put_header(room, 0, BOOST_TAG, 7 + n);
-        return 10 + n;
+        shift(room, SCORED_FRONT, LONE_FRONT, n);
+        put_header(room, BOOST_FRONT, CONSTANT_SCORE_TAG, n);
+        put_big4(room, HEADER, 0);
+        put_header(room, 0, BOOST_TAG, BOOST_FRONT + n);
+        return SCORED_FRONT + n;
     }
-    shift(room, 0, 11, n);
+    shift(room, 0, LONE_FRONT, n);
     n
 }
 
@@ -139,10 +157,10 @@ fn put_merged_boolean(room: &mut [u8], end: usize, least: usize) -> usize
     requires { ⌜ Live end least (now room) ⌝ }
     ensures { λ r. ⌜ ((cs : Clauses) → Are (within 8 end (now (room .entry))) cs → Stands 0 (now (room .entry)) r (encode (boolean least (mergedClauses least cs))) (now (room .exit))) ⌝ }
 {
-    let n = merge_clauses(&mut room[8..], end - 8, least);
-    put_minimum(room, 3, least);
-    put_header(room, 0, BOOLEAN_TAG, 5 + n);
-    8 + n
+    let n = merge_clauses(&mut room[BOOLEAN_FRONT..], end - BOOLEAN_FRONT, least);
+    put_minimum(room, HEADER, least);
+    put_header(room, 0, BOOLEAN_TAG, MINIMUM + n);
+    BOOLEAN_FRONT + n
 }
 
 // A Boolean, of clauses after their own round, from 8 up to the end.
@@ -150,16 +168,16 @@ pub fn rewrite_boolean(room: &mut [u8], end: usize, least: usize) -> usize
     requires { ⌜ Live end least (now room) ⌝ }
     ensures { λ r. ⌜ ((cs : Clauses) → Are (within 8 end (now (room .entry))) cs → Stands 0 (now (room .entry)) r (encode (ofLive least cs)) (now (room .exit))) ⌝ }
 {
-    if only_must_not(&room[8..end]) {
+    if only_must_not(&room[BOOLEAN_FRONT..end]) {
         return put_none(room);
     }
-    if should_count(&room[8..end]) < least {
+    if should_count(&room[BOOLEAN_FRONT..end]) < least {
         return put_none(room);
     }
     if least > 1 {
         return put_merged_boolean(room, end, least);
     }
-    if is_single(&room[8..end]) {
+    if is_single(&room[BOOLEAN_FRONT..end]) {
         return put_lone(room, end);
     }
     put_merged_boolean(room, end, least)

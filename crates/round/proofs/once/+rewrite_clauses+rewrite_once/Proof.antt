@@ -1,7 +1,6 @@
 -- `round::once::rewrite_clauses` and `round::once::rewrite_once` meet their contracts. What is left to read falls at each call.
 use mathlib.Core.Path.{refl}
-use Prim.Native.Nat.{_+_, _-_}
-use Prim.Native.Nat.{ℕ}
+use Prim.Native.Nat.{ℕ, _+_, _-_, _<_}
 use native.Mathlib.Omega.{arith}
 use lib.ListN.{length, length-drop}
 use denote.Ref.{now}
