@@ -49,7 +49,7 @@ uint32_t gorbihesh_version(void);
  * holds the two equal. A call whose number is 0 takes an empty room, and NULL.
  */
 #define GORBIHESH_PARSE_ROOM 5120
-#define GORBIHESH_REWRITE_ROOM 114687
+#define GORBIHESH_REWRITE_ROOM 38229
 #define GORBIHESH_SELECT_ROOM 0
 
 size_t gorbihesh_parse_room(void);

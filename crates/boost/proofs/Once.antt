@@ -18,8 +18,8 @@ use Rattle.rules.specs.Numerals.{nearest}
 use Rattle.boost.specs.Digits.{shortMost}
 
 -- ---- powers of ten
-pub power-le : (n t : ℕ) → n < 8 → t ≡ 10 ^ n → t ≤ 2 ^ 24
-power-le n t h e = subst (λ (x : ℕ). x ≤ 2 ^ 24) (sym e) (le-trans (ten-mono n 7 (go n h)) (lit≤ tt))
+pub power-le : (n : ℕ) → n < 8 → 10 ^ n ≤ 2 ^ 24
+power-le n h = le-trans (ten-mono n 7 (go n h)) (lit≤ tt)
   where
     go : (n : ℕ) → n < 8 → n ≤ 7
     go n h = omega arith
@@ -111,27 +111,28 @@ round-not-nan f s num den =
     subst (λ (x : Float). T (not (isNan x))) (sym (round-is f s num den))
     (units-not-nan f s (closest (num * 2 ^ low f) (den * 2 ^ (size (num * 2 ^ low f / den) - prec f))) (size (num * 2 ^ low f / den) - prec f))
 
--- ---- the answers, for a t that is a power of ten
+-- ---- the answers, for a float t that is a power of ten
 
-module _ (d n t : ℕ) (H : d < shortMost) (N : n < 8) (e : t ≡ 10 ^ n) where
-  quotient-is : div binary32 (float d) (float t) ≡ round binary32 false d (10 ^ n)
-  quotient-is =
-      div-values (float d) (float t) d t (subst (λ (x : ℕ). 0 < x) (sym e) (ten-pos n)) (float-value d (few d H)) (float-value t (power-le n t N e))
-      ∙ ap (round binary32 false d) e
+module _ (d n : ℕ) (t : Float) (H : d < shortMost) (N : n < 8) (e : t ≡ float (10 ^ n)) where
+  value : HasValue t false (10 ^ n) 1
+  value = subst (λ (x : Float). HasValue x false (10 ^ n) 1) (sym e) (float-value (10 ^ n) (power-le n N))
 
-  product-is : mul binary32 (float d) (float t) ≡ round binary32 false (d * 10 ^ n) 1
-  product-is = mul-values (float d) (float t) d t (float-value d (few d H)) (float-value t (power-le n t N e)) ∙ ap (λ (x : ℕ). round binary32 false (d * x) 1) e
+  quotient-is : div binary32 (float d) t ≡ round binary32 false d (10 ^ n)
+  quotient-is = div-values (float d) t d (10 ^ n) (ten-pos n) (float-value d (few d H)) value
 
-  pub quotient-number : T (not (isNan (div binary32 (ofInt binary32 (pos d)) (ofInt binary32 (pos t)))))
+  product-is : mul binary32 (float d) t ≡ round binary32 false (d * 10 ^ n) 1
+  product-is = mul-values (float d) t d (10 ^ n) (float-value d (few d H)) value
+
+  pub quotient-number : T (not (isNan (div binary32 (ofInt binary32 (pos d)) t)))
   quotient-number = subst (λ (x : Float). T (not (isNan x))) (sym quotient-is) (round-not-nan binary32 false d (10 ^ n))
 
-  pub quotient-nearest : toBits binary32 (div binary32 (ofInt binary32 (pos d)) (ofInt binary32 (pos t))) ≡ nearest d (10 ^ n)
+  pub quotient-nearest : toBits binary32 (div binary32 (ofInt binary32 (pos d)) t) ≡ nearest d (10 ^ n)
   unfolding nearest
   quotient-nearest = ap (toBits binary32) quotient-is
 
-  pub product-number : T (not (isNan (mul binary32 (ofInt binary32 (pos d)) (ofInt binary32 (pos t)))))
+  pub product-number : T (not (isNan (mul binary32 (ofInt binary32 (pos d)) t)))
   product-number = subst (λ (x : Float). T (not (isNan x))) (sym product-is) (round-not-nan binary32 false (d * 10 ^ n) 1)
 
-  pub product-nearest : toBits binary32 (mul binary32 (ofInt binary32 (pos d)) (ofInt binary32 (pos t))) ≡ nearest (d * 10 ^ n) 1
+  pub product-nearest : toBits binary32 (mul binary32 (ofInt binary32 (pos d)) t) ≡ nearest (d * 10 ^ n) 1
   unfolding nearest
   product-nearest = ap (toBits binary32) product-is

@@ -9,7 +9,7 @@ use lib.ListN.{length, getD}
 use lib.Dec.{T, ltb, eqb, ltb→lt, eqb→eq, lit<}
 use lib.Ieee.Fits.{and-l, and-r}
 use lib.Pow.{pow-add}
-use Rattle.rules.proofs.text.Classes.{at-each}
+use Rattle.rules.proofs.text.Classes.{everyFrom, at-each}
 use Rattle.boost.specs.Row.{value, limit, Row, Times}
 
 -- ---- rows that are written out
@@ -36,15 +36,24 @@ ten-grow i d = le-trans (le-trans (le-of-eq (sym (mul-one (10 ^ i)))) (mul-le-mu
 pub ten-mono : (i j : ℕ) → i ≤ j → 10 ^ i ≤ 10 ^ j
 ten-mono i j h = subst (λ (x : ℕ). 10 ^ i ≤ 10 ^ x) (add-sub-of-le h) (ten-grow i (j - i))
 
--- the table has them, each in its place
-abbrev powers : List ℕ
-powers = 1 ∷ 10 ∷ 100 ∷ 1000 ∷ 10000 ∷ 100000 ∷ 1000000 ∷ 10000000 ∷ 100000000 ∷ 1000000000 ∷ 10000000000 ∷ 100000000000 ∷ []
-
+-- a table has them, each in its place
 abbrev isPower : ℕ → ℕ → Bool
 isPower n x = eqb x (10 ^ n)
 
-pub ten-at : (n : ℕ) → n < 12 → getD powers n 0 ≡ 10 ^ n
-ten-at n h = eqb→eq (getD powers n 0) (10 ^ n) (at-each isPower powers tt n h)
+table-ten : (xs : List ℕ) → T (everyFrom isPower 0 xs) → (n : ℕ) → n < length xs → getD xs n 0 ≡ 10 ^ n
+table-ten xs t n h = eqb→eq (getD xs n 0) (10 ^ n) (at-each isPower xs t n h)
+
+abbrev tens8 : List ℕ
+tens8 = 1 ∷ 10 ∷ 100 ∷ 1000 ∷ 10000 ∷ 100000 ∷ 1000000 ∷ 10000000 ∷ []
+
+pub short-ten : (n : ℕ) → n < 8 → getD tens8 n 0 ≡ 10 ^ n
+short-ten = table-ten tens8 tt
+
+abbrev tens12 : List ℕ
+tens12 = 1 ∷ 10 ∷ 100 ∷ 1000 ∷ 10000 ∷ 100000 ∷ 1000000 ∷ 10000000 ∷ 100000000 ∷ 1000000000 ∷ 10000000000 ∷ 100000000000 ∷ []
+
+pub long-ten : (n : ℕ) → n < 12 → getD tens12 n 0 ≡ 10 ^ n
+long-ten = table-ten tens12 tt
 
 -- ---- `tens`
 pub record Tens (xs ys : List ℕ) (k j : ℕ) : Type 0 where

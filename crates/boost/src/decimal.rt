@@ -54,7 +54,7 @@ fn below_by_parts(s: &[u8], d: Digits, n: u32) -> u32
     requires { ⌜ n < 86 ⌝ }
     ensures { λ r. ⌜ r ≡ nearest (numberOf (now (s .entry)) (d .point) (d .places)) (10 ^ n) ⌝ }
 {
-    if n < crate::powers::POWERS {
+    if n < crate::wide::POWERS {
         if d.point + (d.places as usize) < crate::wide::DIGITS {
             return crate::wide::quotient(crate::digits::short_number(s, d), n);
         }

@@ -3,7 +3,6 @@ mod bisect;
 mod decimal;
 mod digits;
 pub mod numeral;
-mod powers;
 mod quick;
 mod row;
 mod wide;

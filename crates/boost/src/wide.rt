@@ -4,11 +4,35 @@ ghost use mathlib.Core.Path.{_≡_};
 ghost use Prim.Native.Nat.{_*_, _^_, _<_};
 ghost use lib.Ieee.Nearest.{closest};
 ghost use Rattle.rules.specs.Numerals.{nearest};
-use crate::powers::ten;
 use names::EXPONENT_STEP;
 
-// The digits are fewer than these.
+// Powers of ten below 10^12, and fewer than 18 digits.
+pub const POWERS: u32 = 12;
+
 pub const DIGITS: usize = 18;
+
+const TENS: [u64; 12] = [
+    1,
+    10,
+    100,
+    1000,
+    10000,
+    100000,
+    1000000,
+    10000000,
+    100000000,
+    1000000000,
+    10000000000,
+    100000000000,
+];
+
+fn ten(n: u32) -> u64
+    requires { ⌜ n < 12 ⌝ }
+    ensures { λ r. ⌜ r ≡ 10 ^ n ⌝ }
+{
+    let k = n as usize;
+    TENS[k]
+}
 
 // n / u to the nearest whole number, a tie to the even one.
 fn rounded(n: u64, u: u64) -> u64

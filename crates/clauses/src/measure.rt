@@ -141,7 +141,7 @@ fn closing(room: &[u8], n: usize, g: Counted) -> Measured
     }
 }
 
-// One clause at i, below `depth` open brackets.
+// One clause at i.
 fn measure_clause<'a>(room: &'a [u8], default: &'a [u8], p: Scope, i: usize) -> Measured
     requires { ⌜ (Rowed (now room) (p .n)) × (Fielded (now room) (p .n) (now default) (p .from)) × (i ≤ 2000) × (p .depth ≤ 24) ⌝ }
     ensures means { λ r. ⌜ ((st : Setup) → Tuned st (p .operator) (now (room .entry)) (p .n) (now (default .entry)) (p .from) (p .analyzer) → MeantClause st (tokensOf (now (room .entry)) (p .n)) (p .n) (nameFrom (now (room .entry)) (now (default .entry)) (p .from)) (p .depth) i r) ⌝ }

@@ -226,6 +226,7 @@ fn write_clause<'a>(
     match clause_start(room, p.n, p.from, p.analyzer, i) {
         Start::Long => Wrote { end: at, next: i },
         Start::At { from, analyzer, i } => {
+            // also for a leaf, which asks for no depth
             let inner = Scope {
                 n: p.n,
                 from: from,

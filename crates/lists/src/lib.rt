@@ -1,53 +1,114 @@
 // The reader of catalogue lists, by the same parts: 0 where every record and every entry in it is sound, else 22 or 23.
+use names::FIELD_MOST;
+use names::FIELD_TAG;
+use names::FLOAT_TAG;
+use names::LIST_MOST;
+use names::LONG_LIST;
+use names::MALFORMED_LIST;
+use names::PLACE_TAG;
+use names::RECORD_TAG;
+use names::VALUE_TAG;
+use names::WHOLE_TAG;
+use names::WORD_TAG;
 use parts::part::body;
 use parts::part::is_field_part;
 use parts::part::is_part;
-use parts::part::is_part_of;
-use parts::part::is_plain;
 use parts::part::rest;
+use parts::part::size_of;
+use parts::part::tag_of;
 use parts::part::whole;
 use stored::read::is_word;
+use stretches::is_middle_text;
+use stretches::is_text;
 ghost use mathlib.Core.Path.{_≡_};
-ghost use Rattle.rules.specs.Numbers.{placeTag};
+ghost use mathlib.Core.Bool.{true};
+ghost use Rattle.rules.specs.Numbers.{wordTag};
 ghost use Rattle.rules.specs.Bytes.{every};
-ghost use Rattle.rules.specs.Reading.{numberOf};
+ghost use Rattle.rules.specs.Reading.{isWord, numberOf};
 ghost use Rattle.rules.specs.Lists.{isValue, isFieldWith, isEntry, isRecord, readList};
-ghost use Rattle.lists.specs.List.{isHeld};
+ghost use Rattle.parts.specs.Part.{Plain};
 
-fn is_value(s: &[u8]) -> bool
-    ensures { λ r. ⌜ r ≡ isValue (now (s .entry)) ⌝ }
-{
-    is_part_of(s, 0x14, 8)
-}
-
-// What stands behind the field of an entry with this tag: a position with a text, or a number.
-fn is_held(tag: u8, s: &[u8]) -> bool
-    ensures { λ r. ⌜ r ≡ isHeld tag (now (s .entry)) ⌝ }
-{
-    if tag == 0x41 { is_word(s) } else { is_value(s) }
-}
-
-fn is_fielded(tag: u8, b: &[u8]) -> bool
-    ensures { λ r. ⌜ r ≡ isFieldWith (isHeld tag) (now (b .entry)) ⌝ }
+// A field with a position and a text behind it, and nothing more.
+fn is_fielded(b: &[u8]) -> bool
+    ensures { λ r. ⌜ r ≡ isFieldWith isWord (now (b .entry)) ⌝ }
 {
     if !is_field_part(b) {
         return false;
     }
     let w = rest(b);
-    if !is_held(tag, w) {
+    if !is_word(w) {
         return false;
     }
     rest(w).len() == 0
 }
 
+// A quick test of a field and of a position with a text behind it. It passes short ones that are ASCII throughout, headers too, so that one look at
+// all the bytes is enough, and the two lengths are tested together; what it does not pass may still be sound.
+fn is_lean(b: &[u8]) -> bool
+    ensures { λ r. ⌜ (r ≡ true → Plain wordTag 4 (now (b .entry))) ⌝ }
+{
+    let n = b.len();
+    if n < 10 {
+        return false;
+    }
+    if n > 32 {
+        return false;
+    }
+    let f = size_of(b);
+    if f > n - 10 {
+        return false;
+    }
+    let at = 3 + f;
+    let t = &b[at..];
+    if size_of(t) != n - 6 - f {
+        return false;
+    }
+    if tag_of(b) != FIELD_TAG {
+        return false;
+    }
+    if tag_of(t) != WORD_TAG {
+        return false;
+    }
+    is_middle_text(b)
+}
+
 // A position with a text behind the field, short ones first.
 fn is_place(b: &[u8]) -> bool
-    ensures { λ r. ⌜ r ≡ isFieldWith (isHeld placeTag) (now (b .entry)) ⌝ }
+    ensures { λ r. ⌜ r ≡ isFieldWith isWord (now (b .entry)) ⌝ }
 {
-    if is_plain(b, 0x12, 4) {
+    if is_lean(b) {
         return true;
     }
-    is_fielded(0x41, b)
+    is_fielded(b)
+}
+
+// A field with the bits of a number behind it, and nothing more: each length follows from the whole.
+fn is_valued(b: &[u8]) -> bool
+    ensures { λ r. ⌜ r ≡ isFieldWith isValue (now (b .entry)) ⌝ }
+{
+    let n = b.len();
+    if n < 14 {
+        return false;
+    }
+    if n > FIELD_MOST + 14 {
+        return false;
+    }
+    let f = size_of(b);
+    if f + 14 != n {
+        return false;
+    }
+    if tag_of(b) != FIELD_TAG {
+        return false;
+    }
+    let at = 3 + f;
+    let t = &b[at..];
+    if size_of(t) != 8 {
+        return false;
+    }
+    if tag_of(t) != VALUE_TAG {
+        return false;
+    }
+    is_text(&b[3..at])
 }
 
 fn is_entry(s: &[u8]) -> bool
@@ -58,9 +119,9 @@ fn is_entry(s: &[u8]) -> bool
     }
     let b = body(s);
     match s[0] {
-        0x41 => is_place(b),
-        0x44 => is_fielded(0x44, b),
-        0x45 => is_fielded(0x45, b),
+        PLACE_TAG => is_place(b),
+        WHOLE_TAG => is_valued(b),
+        FLOAT_TAG => is_valued(b),
         _ => false,
     }
 }
@@ -82,7 +143,7 @@ fn is_entries(s: &[u8]) -> bool
 fn is_record(s: &[u8]) -> bool
     ensures { λ r. ⌜ r ≡ isRecord (now (s .entry)) ⌝ }
 {
-    if !is_part(s, 0x40) {
+    if !is_part(s, RECORD_TAG) {
         return false;
     }
     is_entries(body(s))
@@ -105,8 +166,8 @@ fn is_records(s: &[u8]) -> bool
 pub fn check_list(l: &[u8]) -> u8
     ensures { λ r. ⌜ r ≡ numberOf (readList (now (l .entry))) ⌝ }
 {
-    if l.len() > 65536 {
-        return 22;
+    if l.len() > LIST_MOST {
+        return LONG_LIST;
     }
-    if is_records(l) { 0 } else { 23 }
+    if is_records(l) { 0 } else { MALFORMED_LIST }
 }

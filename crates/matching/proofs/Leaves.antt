@@ -86,6 +86,10 @@ module _ (s : List ℕ) where
         sym (ap (matches es) (shown-phrase q (c .tag) i .is)
         ∙ ap (hasPhrase es (bodyOf (bodyOf s))) (ap (each wordOf) (sym e) ∙ each-done wordOf w (none-empty w h)))
 
+    pub phrase-absent : (es : List Entry) {f w : List ℕ} → f ≡ bodyOf (bodyOf s) → w ≡ restOf (bodyOf s) → hasPhrase es f (each wordOf w) ≡ false → Truth s es false
+    unfolding Truth matches
+    phrase-absent es ef ew h q i = sym (ap (matches es) (shown-phrase q (c .tag) i .is) ∙ (rw (ef, ew) at h))
+
     -- by its first word
     module _ {w : List ℕ} (e : w ≡ restOf (bodyOf s)) (n : length w ≡ 0 → ⊥) where
       pub first-word : isWord w ≡ true

@@ -1,6 +1,5 @@
-mod Searches
-mod Entries
 mod Orders
 mod Leaves
+mod Words
 mod Levels
 mod Walks

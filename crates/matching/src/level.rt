@@ -1,5 +1,7 @@
 // A Boolean that is open while its clauses are asked, and what the answer to a clause does to it. The open Booleans stand in a row of numbers,
 // one each, so that their depth costs eight bytes and no call: a scheduler's thread has a small stack.
+use names::MUST_NOT_TAG;
+use names::SHOULD_TAG;
 ghost use mathlib.Core.Path.{_≡_};
 ghost use Prim.Native.Nat.{_-_, _<_, _≤_};
 ghost use Rattle.rules.specs.Matching.{allows, bit};
@@ -45,8 +47,8 @@ pub fn allowed(l: Level, yes: bool) -> bool
 {
     let kind = l.kind;
     match kind {
-        0x21 => true,
-        0x22 => !yes,
+        SHOULD_TAG => true,
+        MUST_NOT_TAG => !yes,
         _ => yes,
     }
 }
@@ -62,10 +64,10 @@ pub fn answer(l: Level, yes: bool) -> Level
     ensures { λ r. ⌜ r ≡ answered l yes ⌝ }
 {
     let kind = l.kind;
-    if kind == 0x22 {
+    if kind == MUST_NOT_TAG {
         return l;
     }
-    if kind != 0x21 {
+    if kind != SHOULD_TAG {
         return Level {
             end: l.end,
             asked: l.asked,

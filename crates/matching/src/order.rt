@@ -4,7 +4,7 @@ ghost use mathlib.Core.Path.{_≡_};
 ghost use lib.Ieee.{binary64, ofBits, isNan};
 ghost use Rattle.rules.specs.Query.{whole, float};
 ghost use Rattle.rules.specs.Matching.{isNumber};
-ghost use Rattle.matching.specs.Entry.{numbers};
+ghost use Rattle.entries.specs.Entry.{numbers};
 ghost use Rattle.matching.specs.Order.{Turned, ordered};
 
 const TOP: u64 = 0x8000_0000_0000_0000;

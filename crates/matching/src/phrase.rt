@@ -1,19 +1,21 @@
 // A phrase is true of a record where some whole number, possibly negative, added to all its positions finds every one. Tried are the numbers
 // that put its first word, of position p, on an entry of its field and text, at x: then a word of position o stands at the y with
 // y + p == o + x. Positions have 32 bits, so that neither sum overflows, and no sign is needed.
-use super::entry::position;
-use super::term::is_here;
+use entries::entry::position;
+use entries::here::is_here;
+use entries::slots::is_missing;
 use numbers::big4;
 use parts::part::body;
 use parts::part::rest;
 ghost use mathlib.Core.Path.{_≡_};
 ghost use Prim.Native.Nat.{_<_, _^_};
-ghost use mathlib.Core.Bool.{true};
+ghost use mathlib.Core.Bool.{true, false};
 ghost use Rattle.rules.specs.Bytes.{every, each, some, all};
 ghost use Rattle.rules.specs.Lists.{isEntry, entryOf};
-ghost use Rattle.rules.specs.Matching.{isAt, followsFrom, startsOn};
+ghost use Rattle.rules.specs.Matching.{isAt, followsFrom, startsOn, hasPhrase};
 ghost use Rattle.rules.specs.Numbers.{phraseTag};
 ghost use Rattle.rules.specs.Reading.{isWord, wordOf};
+ghost use Rattle.entries.specs.Slots.{Told};
 ghost use Rattle.matching.specs.Truth.{StoredAs, Truth};
 
 // Whether the entry has this field and this text, at the y with y + p == a.
@@ -86,14 +88,34 @@ fn has_start(f: &[u8], p: u64, t: &[u8], ws: &[u8], rec: &[u8]) -> bool
     false
 }
 
-pub fn phrase_true(q: &[u8], rec: &[u8]) -> bool
-    requires { ⌜ StoredAs phraseTag (now q) × (every isEntry (now rec) ≡ true) ⌝ }
+// Whether the slots say that some of the words is missing.
+fn any_missing(f: &[u8], ws: &[u8], rec: &[u8], from: usize, slots: &[u16]) -> bool
+    requires { ⌜ (every isWord (now ws) ≡ true) × Told (now slots) from (now rec) ⌝ }
+    ensures { λ r. ⌜ (r ≡ true → hasPhrase (each entryOf (now (rec .entry))) (now (f .entry)) (each wordOf (now (ws .entry))) ≡ false) ⌝ }
+{
+    let mut s = ws;
+    while s.len() > 0 {
+        let w = body(s);
+        if is_missing(f, &w[4..], rec, from, slots) {
+            return true;
+        }
+        let u = rest(s);
+        s = u;
+    }
+    false
+}
+
+pub fn phrase_true(q: &[u8], rec: &[u8], from: usize, slots: &[u16]) -> bool
+    requires { ⌜ StoredAs phraseTag (now q) × (every isEntry (now rec) ≡ true) × Told (now slots) from (now rec) ⌝ }
     ensures { λ r. ⌜ Truth (now (q .entry)) (each entryOf (now (rec .entry))) r ⌝ }
 {
     let b = body(q);
     let ws = rest(b);
     if ws.len() == 0 {
         return false; // a phrase has words
+    }
+    if any_missing(body(b), ws, rec, from, slots) {
+        return false;
     }
     let w = body(ws);
     has_start(body(b), big4(w) as u64, &w[4..], rest(ws), rec)

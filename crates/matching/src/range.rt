@@ -1,9 +1,11 @@
 // A range is true of a record where some value of its kind and field lies inside. `float` says which kind.
-use super::entry::field;
-use super::entry::is_of;
-use super::entry::number;
 use super::order::is_number;
 use super::order::ordered;
+use entries::entry::field;
+use entries::entry::is_of;
+use entries::entry::number;
+use names::EXCLUDED_TAG;
+use names::OPEN_TAG;
 use numbers::big8;
 use parts::part::body;
 use parts::part::rest;
@@ -16,7 +18,7 @@ ghost use Rattle.rules.specs.Lists.{isEntry, entryOf};
 ghost use Rattle.rules.specs.Matching.{liesIn, isInside, hasRange};
 ghost use Rattle.rules.specs.Reading.{isBound, boundOf};
 ghost use Rattle.rules.specs.Stored.{rangeTag};
-ghost use Rattle.matching.specs.Entry.{numbers};
+ghost use Rattle.entries.specs.Entry.{numbers};
 ghost use Rattle.matching.specs.Order.{keeps};
 ghost use Rattle.matching.specs.Truth.{StoredAs, Truth};
 
@@ -26,11 +28,11 @@ fn keeps(float: bool, upper: bool, t: &[u8], x: u64) -> bool
     ensures { λ r. ⌜ r ≡ keeps upper (numbers float) (boundOf (now (t .entry))) x ⌝ }
 {
     let tag = tag_of(t);
-    if tag == 0x30 {
+    if tag == OPEN_TAG {
         return true;
     }
     let b = big8(body(t));
-    let strict = tag == 0x32;
+    let strict = tag == EXCLUDED_TAG;
     if upper {
         ordered(float, strict, x, b)
     } else {

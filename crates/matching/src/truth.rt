@@ -9,6 +9,15 @@ use super::level::unpacked;
 use super::phrase::phrase_true;
 use super::range::range_true;
 use super::term::term_true;
+use names::BOOLEAN_TAG;
+use names::BOOST_TAG;
+use names::CONSTANT_SCORE_TAG;
+use names::FLOAT_RANGE_TAG;
+use names::MATCH_ALL_TAG;
+use names::PHRASE_TAG;
+use names::SHOULD_TAG;
+use names::TERM_TAG;
+use names::WHOLE_RANGE_TAG;
 use numbers::big2;
 use parts::part::size_of;
 use parts::part::tag_of;
@@ -22,6 +31,7 @@ ghost use Rattle.rules.specs.Bytes.{tagOf, every, each};
 ghost use Rattle.rules.specs.Checked.{Stored, StoredClauses};
 ghost use Rattle.rules.specs.Lists.{isEntry, entryOf, Entry};
 ghost use Rattle.rules.specs.Matching.{matches};
+ghost use Rattle.entries.specs.Slots.{Told};
 ghost use Rattle.matching.specs.Level.{carries};
 ghost use Rattle.matching.specs.Truth.{IsLeaf, Truth, StoredFor, cut, Open, outcome, AtClause, At, Leads, Past};
 
@@ -31,16 +41,16 @@ pub enum Next {
     Query { depth: usize, at: usize, end: usize },
 }
 
-fn leaf_true(q: &[u8], rec: &[u8]) -> bool
-    requires { ⌜ Stored (now q) × IsLeaf (tagOf (now q)) × (every isEntry (now rec) ≡ true) ⌝ }
+fn leaf_true(q: &[u8], rec: &[u8], from: usize, slots: &[u16]) -> bool
+    requires { ⌜ Stored (now q) × IsLeaf (tagOf (now q)) × (every isEntry (now rec) ≡ true) × Told (now slots) from (now rec) ⌝ }
     ensures { λ r. ⌜ Truth (now (q .entry)) (each entryOf (now (rec .entry))) r ⌝ }
 {
     match tag_of(q) {
-        1 => term_true(q, rec),
-        2 => phrase_true(q, rec),
-        6 => true,
-        8 => range_true(false, q, rec),
-        9 => range_true(true, q, rec),
+        TERM_TAG => term_true(q, rec, from, slots),
+        PHRASE_TAG => phrase_true(q, rec, from, slots),
+        MATCH_ALL_TAG => true,
+        WHOLE_RANGE_TAG => range_true(false, q, rec),
+        FLOAT_RANGE_TAG => range_true(true, q, rec),
         _ => false,
     }
 }
@@ -76,7 +86,7 @@ fn past_shoulds(q: &[u8], at: usize, end: usize) -> usize
     let mut p = at;
     while p < end {
         let t = &q[p..end];
-        if tag_of(t) != 0x21 {
+        if tag_of(t) != SHOULD_TAG {
             return p;
         }
         p += 3 + size_of(t);
@@ -146,8 +156,17 @@ fn enter(q: &[u8], row: &mut [u64], depth: usize, at: usize, end: usize) -> Next
 }
 
 // From the query at hand.
-fn step(q: &[u8], rec: &[u8], row: &mut [u64], depth: usize, at: usize, end: usize) -> Next
-    requires { ⌜ At (now q) (now row) depth at end × (every isEntry (now rec) ≡ true)
+fn step(
+    q: &[u8],
+    rec: &[u8],
+    from: usize,
+    slots: &[u16],
+    row: &mut [u64],
+    depth: usize,
+    at: usize,
+    end: usize,
+) -> Next
+    requires { ⌜ At (now q) (now row) depth at end × (every isEntry (now rec) ≡ true) × Told (now slots) from (now rec)
         × (length (now q) ≤ selectionBytes) × (selectionDepth ≤ length (now row)) ⌝ }
     ensures { λ r. ⌜ ((t : At (now (q .entry)) (now (row .entry)) depth at end)
         → Leads (each entryOf (now (rec .entry))) (now (q .entry)) (now (row .exit)) at
@@ -155,34 +174,35 @@ fn step(q: &[u8], rec: &[u8], row: &mut [u64], depth: usize, at: usize, end: usi
 {
     let x = &q[at..end];
     match tag_of(x) {
-        3 => enter(q, row, depth, at, end),
-        4 => Next::Query {
+        BOOLEAN_TAG => enter(q, row, depth, at, end),
+        BOOST_TAG => Next::Query {
             depth,
             at: at + 7,
             end,
         },
-        5 => Next::Query {
+        CONSTANT_SCORE_TAG => Next::Query {
             depth,
             at: at + 3,
             end,
         },
         _ => {
-            let y = leaf_true(x, rec);
+            let y = leaf_true(x, rec, from, slots);
             settle(q, row, depth, end, y)
         }
     }
 }
 
-// The row is the caller's, so that it is made once for all records.
-pub fn holds(q: &[u8], rec: &[u8], row: &mut [u64]) -> bool
-    requires { ⌜ StoredFor (now q) × (every isEntry (now rec) ≡ true) × (selectionDepth ≤ length (now row)) ⌝ }
+// Where there are slots, the entries of the record, whose front is at `from` in its list, are noted in them. The row is the caller's, so that it is
+// made once for all records.
+pub fn holds(q: &[u8], rec: &[u8], from: usize, slots: &[u16], row: &mut [u64]) -> bool
+    requires { ⌜ StoredFor (now q) × (every isEntry (now rec) ≡ true) × Told (now slots) from (now rec) × (selectionDepth ≤ length (now row)) ⌝ }
     ensures { λ r. ⌜ Truth (now (q .entry)) (each entryOf (now (rec .entry))) r ⌝ }
 {
     let mut depth: usize = 0;
     let mut at: usize = 0;
     let mut end = q.len();
     loop {
-        match step(q, rec, row, depth, at, end) {
+        match step(q, rec, from, slots, row, depth, at, end) {
             Next::Done(y) => return y,
             Next::Query {
                 depth: d,

@@ -1,5 +1,7 @@
 pub mod Placed
 pub mod Forms
 pub mod Laid
-pub mod Seeking
+pub mod Rows
+pub mod Eating
+pub mod Alike
 pub mod Merging

@@ -1,264 +1,281 @@
--- The loop that lays the merged clauses behind those that they are made of.
+-- The loop over the clauses of a Boolean: the first of those that are left takes up what it stands for, and is laid behind those that are kept.
 use mathlib.Core.Path.{_≡_, refl, sym, ap, _∙_, subst}
-use Prim.Native.Nat.{ℕ, _+_, _-_, _≤_, _<_}
-use mathlib.Core.List.{List, _++_, append-assoc, append-nil}
+use mathlib.Core.Logic.{_⊎_, inl, inr}
+use Prim.Native.Nat.{ℕ, _+_, _-_, _≤_, _<_, max}
+use mathlib.Core.List.{List, _++_}
 use mathlib.Core.Bool.{Bool, true, false, cond}
 use native.Mathlib.Omega.{arith}
-use lib.ListN.{length, getD, take, drop, length-append, take-append-drop}
+use lib.ListN.{length, getD, take, drop, take-append-drop}
 use lib.Seq.{length-take-le}
 use lib.Ieee.{Float}
 use Rattle.rules.specs.Bytes.{part, sizeOf}
-use Rattle.rules.specs.Query.{Kind, Query, Clauses, none, clause}
+use Rattle.rules.specs.Query.{Kind, Query, term, phrase, boolean, boost, constantScore, matchAll, matchNone, range, Clauses, none, clause}
 use Rattle.rules.specs.Stored.{kindTag, encode, encodes, Valid, Valids}
 use Rattle.rules.specs.Checked.{Is, Are}
-use Rattle.rules.specs.Rewriting.{reboosted}
-use Rattle.rules.specs.ByPlace.{held, seen, sumFrom, snoc, mergedByPlace}
-use Rattle.rules.proofs.rewriting.Walk.{join, join-none}
+use Rattle.rules.specs.Floats.{one}
+use Rattle.rules.specs.Rewriting.{summable, base, boostOf, reboosted, clauseCount, clauseCounts}
+use Rattle.rules.specs.Eating.{held, ownSum, sumEaten, stayed, mergedClauses}
+use Rattle.rules.proofs.rewriting.Walk.{join, snoc, join-none}
+use Rattle.rules.proofs.rewriting.Eating.{merged-none, merged-first, stayed-count, sum-stays}
 use Rattle.numbers.specs.Laid.{Put}
 use Rattle.numbers.proofs.Laying.{there-laid}
 use Rattle.places.specs.Within.{within, Stands}
-use Rattle.merging.specs.Merge.{MergedIs, reboostedBytes, Mergeable}
-use Rattle.places.proofs.Standing.{joined, second, lower}
+use Rattle.merging.specs.Merge.{First, Eatable, Ate, reboostedBytes, mergedSize, Way, Mergeable}
+use Rattle.merging.specs.Signatures.{signatureOf, having, Noted, Alone}
+use Rattle.places.proofs.Standing.{joined, second, within-same, within-length, behind-laid}
 use Rattle.merging.proofs.Forms.{are-same}
-use Rattle.merging.proofs.Placed.{ClauseAt, clause-at, no-clause-at}
-use Rattle.merging.proofs.Laid.{put-long, put-below, put-kept, reboosted-bytes, held-end}
+use Rattle.merging.proofs.Placed.{ClauseAt, clause-at, no-clause-at, clause-end, clause-is, clause-further}
+use Rattle.merging.proofs.Laid.{put-long, put-below, held-end, merged-size, size-within, own-size, reboosted-bytes}
+use Rattle.merging.proofs.Rows.{encodes-snoc, join-snoc, length-snoc}
+use Rattle.merging.proofs.Alike.{having-first, having-fewer, stayed-having}
 
--- ---- clauses behind clauses
+valid-base : (q : Query) → Valid q → Valid (base q)
+unfolding Valid base
+valid-base (term f t) v = v
+valid-base (phrase f ws) v = v
+valid-base (boolean m cs) v = v
+valid-base (boost b q) v = v .1
+valid-base (constantScore q) v = v
+valid-base matchAll v = v
+valid-base matchNone v = v
+valid-base (range n f l u) v = v
 
-pub encodes-join : (a b : Clauses) → encodes (join a b) ≡ encodes a ++ encodes b
-unfolding encodes
-encodes-join none b = refl
-encodes-join (clause k q a) b = rw (encodes-join a b) (sym (append-assoc (part (kindTag k) (encode q)) (encodes a) (encodes b)))
+valid-held : (m : ℕ) (k : Kind) (q : Query) → Valid q → Valid (held m k q)
+valid-held m k q v = go (summable m k)
+  where
+    go : (b : Bool) → Valid (cond b (base q) q)
+    go true = valid-base q v
+    go false = v
 
-pub encodes-snoc : (a : Clauses) (k : Kind) (q : Query) → encodes (snoc a k q) ≡ encodes a ++ part (kindTag k) (encode q)
-unfolding encodes
-encodes-snoc none k q = append-nil _
-encodes-snoc (clause j p a) k q = rw (encodes-snoc a k q) (sym (append-assoc (part (kindTag j) (encode p)) (encodes a) (part (kindTag k) (encode q))))
-
-pub join-snoc : (a : Clauses) (k : Kind) (q : Query) (b : Clauses) → join (snoc a k q) b ≡ join a (clause k q b)
-join-snoc none k q b = refl
-join-snoc (clause j p a) k q b = ap (clause j p) (join-snoc a k q b)
-
-pub valids-snoc : (a : Clauses) (k : Kind) (q : Query) → Valids a → Valid q → Valids (snoc a k q)
-unfolding Valids
-valids-snoc none k q v w = (w, tt)
-valids-snoc (clause j p a) k q v w = (v .0, valids-snoc a k q (v .1) w)
-
-pub length-snoc : (a : Clauses) (k : Kind) (q : Query) → length (encodes (snoc a k q)) ≡ length (encodes a) + 3 + length (encode q)
-length-snoc a k q = omega (arith, ap length (encodes-snoc a k q), length-append (encodes a) (part (kindTag k) (encode q)))
-
-pub length-join : (a b : Clauses) → length (encodes (join a b)) ≡ length (encodes a) + length (encodes b)
-length-join a b = ap length (encodes-join a b) ∙ length-append (encodes a) (encodes b)
+own-one : (m : ℕ) (k : Kind) (q : Query) → summable m k ≡ false → ownSum m k q ≡ one
+own-one m k q n = rw n
 
 -- what was put behind what stands from a up to w
-pub put-behind : {room room₁ : List ℕ} {w v : ℕ} {s : List ℕ} → Put room w s v room₁ → w + length s ≤ length room → (a : ℕ) (t : List ℕ) → a ≤ w
+put-behind : {room room₁ : List ℕ} {w v : ℕ} {s : List ℕ} → Put room w s v room₁ → w + length s ≤ length room → (a : ℕ) (t : List ℕ) → a ≤ w
     → within a w room ≡ t → within a v room₁ ≡ t ++ s
 put-behind {room} {room₁} {w} {v} {s} P fits a t h e =
     let z : v - w ≡ length s = omega (arith, P .place) in
     let new : within w v room₁ ≡ s = ap (λ (n : ℕ). take n (drop w room₁)) z ∙ ap (λ (l : List ℕ). take (length s) (drop w l)) (P .bytes) ∙ there-laid room w s fits in
     sym (joined room₁ a w v h (omega (arith, P .place))) ∙ ap {B = List ℕ} (λ l. l ++ within w v room₁) (put-below P fits a w h (omega arith) ∙ e) ∙ ap {B = List ℕ} (λ l. t ++ l) new
 
--- ---- the loop
-
-pub record Merging (from end m : ℕ) (room₀ room : List ℕ) (t w : ℕ) : Type 0 where
-  pub all : Mergeable from end m room₀
+-- the clauses from t up to `last` are left, and what is kept of those before them stands in the first w bytes
+pub record Merging (end m : ℕ) (table room₀ room : List ℕ) (t w last : ℕ) : Type 0 where
+  pub all : Mergeable end room₀
   pub long : length room ≡ length room₀
-  pub kept : take end room ≡ take end room₀
-  pub low : from ≤ t
-  pub high : t ≤ end
-  pub pre : Clauses
-  pub are-pre : Are (within from t room) pre
+  pub low : w ≤ t
+  pub high : t ≤ last
   pub left : Clauses
-  pub are-left : Are (within t end room) left
+  pub are-left : Are (within t last room) left
   pub done : Clauses
-  pub place : w ≡ end + length (encodes done)
-  pub there : within end w room ≡ encodes done
-  pub whole : join done (mergedByPlace m pre left) ≡ mergedByPlace m none (all .clauses)
+  pub place : w ≡ length (encodes done)
+  pub there : within 0 w room ≡ encodes done
+  pub whole : join done (mergedClauses m left) ≡ mergedClauses m (all .clauses)
+  pub fits : last + clauseCounts left ≤ length room
+  pub small : last + clauseCounts left < 65536
+  pub noted : Noted m table left
 
-pub merging-start : (from end m : ℕ) (room : List ℕ) → Mergeable from end m room → Merging from end m room room from end
-unfolding encodes Valids
-merging-start from end m room M =
-    let z : from - from ≡ 0 = omega arith in
-    let y : end - end ≡ 0 = omega arith in
-    record {
-      all = M;
-      long = refl;
-      kept = refl;
-      low = omega arith;
-      high = M .low;
-      pre = none;
-      are-pre = record { valid = tt; form = ap (λ (n : ℕ). take n (drop from room)) (sym z) };
-      left = M .clauses;
-      are-left = M .are;
-      done = none;
-      place = omega arith;
-      there = ap (λ (n : ℕ). take n (drop end room)) y;
-      whole = refl;
-    }
+pub merging-start : {end : ℕ} (m : ℕ) (table : List ℕ) {room : List ℕ} → Mergeable end room → ((cs : Clauses) → Are (within 0 end room) cs → Noted m table cs)
+    → Merging end m table room room 0 0 end
+unfolding encodes
+merging-start m table M N = record {
+  all = M;
+  long = refl;
+  low = omega arith;
+  high = omega arith;
+  left = M .clauses;
+  are-left = M .are;
+  done = none;
+  place = refl;
+  there = refl;
+  whole = refl;
+  fits = M .fits;
+  small = M .small;
+  noted = N (M .clauses) (M .are);
+}
 
-module _ {from end m : ℕ} {room₀ room : List ℕ} {t w : ℕ} (g : Merging from end m room₀ room t w) where
-  pub inside : end ≤ length room
-  inside = omega (arith, g .all .fits, g .long)
+module _ {end m : ℕ} {table room₀ room : List ℕ} {t w last : ℕ} (g : Merging end m table room₀ room t w last) where
+  pub inside : last ≤ length room
+  inside = omega (arith, g .fits)
 
-  pub behind : (end ≤ w) × (w ≤ length room) × (w - end < 65536)
-  behind =
-      let l = ap (λ (cs : Clauses). length (encodes cs)) (g .whole) in
-      omega (arith, g .place, g .all .fits, g .all .small, g .long, length-join (g .done) (mergedByPlace m (g .pre) (g .left)))
+  module _ (p : t < last) where
+    pub here : ClauseAt room t last (g .left)
+    here = clause-at room t last (g .left) (g .are-left) p inside
 
-  module _ (p : t < end) where
-    pub here : ClauseAt room t end (g .left)
-    here = clause-at room t end (g .left) (g .are-left) p inside
+    counted : clauseCounts (g .left) ≡ 1 + clauseCount (here .query) + clauseCounts (here .others)
+    unfolding clauseCounts
+    counted = ap clauseCounts (here .split)
 
-    pub next : ℕ
-    next = t + 3 + length (encode (here .query))
-
-    -- where the code says that the clause ends
-    pub ends : (e : ℕ) → e ≡ t + 3 + sizeOf (drop t room) → e ≡ next
-    unfolding next
-    ends e h = omega (arith, here .part .size)
-
-    pub is-here : (e : ℕ) → e ≡ next → Is (within (t + 3) e room) (here .query)
-    unfolding next
-    is-here e h = rw h (here .is)
-
-    pub further : (e : ℕ) → e ≡ next → (t + 3 ≤ e) × (e ≤ end)
-    unfolding next
-    further e h = omega (arith, here .top)
-
-    pub split-here : Are (within t end room) (clause (here .kind) (here .query) (here .others))
-    split-here = subst (λ (cs : Clauses). Are (within t end room) cs) (here .split) (g .are-left)
-
-    next-pre : (e : ℕ) → e ≡ next → Are (within from e room) (snoc (g .pre) (here .kind) (here .query))
-    unfolding next
-    next-pre e h = record {
-      valid = valids-snoc (g .pre) (here .kind) (here .query) (g .are-pre .valid) (here .is .valid);
-      form =
-          encodes-snoc (g .pre) (here .kind) (here .query)
-          ∙ ap {B = List ℕ} (λ l. l ++ part (kindTag (here .kind)) (encode (here .query))) (g .are-pre .form)
-          ∙ ap {B = List ℕ} (λ l. within from t room ++ l) (sym (here .form) ∙ ap (λ (i : ℕ). within t i room) (sym h))
-          ∙ joined room from t e (g .low) (omega arith);
-    }
-
-    new : Query
-    new = reboosted (here .kind) (held m (here .kind) (here .query)) (sumFrom m (here .kind) (here .query) (here .others))
-
-    others : Clauses
-    others = mergedByPlace m (snoc (g .pre) (here .kind) (here .query)) (here .others)
-
-    -- what the code has: where the clause ends, its kind, what it is compared by, whether that was seen
-    module _ (e : ℕ) (ee : e ≡ next) (k : ℕ) (ek : k ≡ getD room t 0) (h : List ℕ)
-        (eh : (x : Query) (j : Kind) → Is (within (t + 3) e room) x → kindTag j ≡ k → Is h (held m j x)) (r : Bool)
-        (er : (cs : Clauses) (j : Kind) (x : Query) → Are (within from t room) cs → kindTag j ≡ k → Is h x → r ≡ seen m cs j x) where
-      tag : kindTag (here .kind) ≡ k
+    module _ (e : ℕ) (ee : e ≡ t + 3 + sizeOf (drop t room)) (k : ℕ) (ek : k ≡ getD room t 0) where
+      pub tag : kindTag (here .kind) ≡ k
       tag = sym (ek ∙ here .part .tag)
 
-      unroll : mergedByPlace m (g .pre) (g .left) ≡ cond r others (clause (here .kind) new others)
-      unfolding mergedByPlace new others
-      unroll =
-          let i = eh (here .query) (here .kind) (is-here e ee) tag in
-          ap (mergedByPlace m (g .pre)) (here .split)
-          ∙ rw (← er (g .pre) (here .kind) (held m (here .kind) (here .query)) (g .are-pre) tag i)
+      -- where its base stands, and the sum that it starts with
+      module _ (b : ℕ) (x : Float) (k′ : ℕ) (firsts : (j : Kind) (q : Query) → kindTag j ≡ k → Is (within (t + 3) e room) q → First (t + 3) m j q b k′ x) where
+        F : First (t + 3) m (here .kind) (here .query) b k′ x
+        F = firsts (here .kind) (here .query) tag (clause-is here e ee)
 
-      pub merge-drop : r ≡ true → Merging from end m room₀ room e w
-      unfolding next others
-      merge-drop tr = record {
-        all = g .all;
-        long = g .long;
-        kept = g .kept;
-        low = omega (arith, g .low);
-        high = omega (arith, here .top);
-        pre = snoc (g .pre) (here .kind) (here .query);
-        are-pre = next-pre e ee;
-        left = here .others;
-        are-left = rw ee (here .are);
-        done = g .done;
-        place = g .place;
-        there = g .there;
-        whole = ap (join (g .done)) (sym (unroll ∙ rw tr)) ∙ g .whole;
-      }
+        abbrev h : Query
+        h = held m (here .kind) (here .query)
 
-      module _ (fr : r ≡ false) (b k′ : ℕ) (x : Float) (M : MergedIs t m (here .kind) (here .query) (here .others) b k′ x) where
-        next-whole : join (snoc (g .done) (here .kind) new) others ≡ mergedByPlace m none (g .all .clauses)
-        unfolding new others
-        next-whole = join-snoc (g .done) (here .kind) new others ∙ ap (join (g .done)) (sym (unroll ∙ rw fr)) ∙ g .whole
+        base-low : (t + 3 ≤ b) × (b ≤ e) × (e - b ≡ length (encode h)) × (e ≤ last)
+        base-low = omega (arith, F .place, held-end m (here .kind) (here .query) .1, clause-end here e ee, here .top)
 
-        base-low : (t + 3 ≤ b) × (b ≤ e)
-        unfolding next
-        base-low = omega (arith, M .place, held-end m (here .kind) (here .query) .1)
-
-        base-here : within b e room ≡ encode (held m (here .kind) (here .query))
-        unfolding next
+        base-here : within b e room ≡ encode h
         base-here =
             let s = encode (here .query) in
-            let h = encode (held m (here .kind) (here .query)) in
-            let d = length s - length h in
+            let d = length s - length (encode (held m (here .kind) (here .query))) in
             let E = held-end m (here .kind) (here .query) in
             let ld : length (take d s) ≡ d = length-take-le d s (omega arith) in
-            let z : t + 3 + length (take d s) ≡ b = omega (arith, M .place, E .1, ld) in
+            let ce = clause-end here e ee in
+            let z : t + 3 + length (take d s) ≡ b = omega (arith, F .place, E .1, ld) in
             ap (λ (i : ℕ). within i e room) (sym z)
-            ∙ second room (t + 3) e (take d s) (drop d s) (omega arith) (omega (arith, inside, here .top)) (sym (is-here e ee .form) ∙ sym (take-append-drop d s))
+            ∙ second room (t + 3) e (take d s) (drop d s) (omega arith) (omega (arith, inside, here .top)) (sym (clause-is here e ee .form) ∙ sym (take-append-drop d s))
             ∙ E .0
 
-        bytes-here : reboostedBytes x (within b e room) ≡ encode new
-        unfolding new
-        bytes-here =
-            ap (reboostedBytes x) base-here
-            ∙ ap (λ (y : Float). reboostedBytes y (encode (held m (here .kind) (here .query)))) (M .sum)
-            ∙ sym (reboosted-bytes m (here .kind) (here .query) (here .others) (held m (here .kind) (here .query)))
+        pub base-is : Is (within b e room) h
+        base-is = record { valid = valid-held m (here .kind) (here .query) (here .is .valid); form = sym base-here }
 
-        pub merge-room : (b ≤ e) × (e ≤ w) × (w + 3 + length (reboostedBytes x (within b e room)) ≤ length room) × (length (reboostedBytes x (within b e room)) < 65536)
-        unfolding next
-        merge-room =
-            let l = ap (λ (cs : Clauses). length (encodes cs)) next-whole in
-            let n = ap length bytes-here in
-            let f = length-join (snoc (g .done) (here .kind) new) others in
-            let c = length-snoc (g .done) (here .kind) new in (
-              base-low .1,
-              omega (arith, here .top, behind),
-              omega (arith, g .place, g .all .fits, g .long),
-              omega (arith, g .all .small),
-            )
+        pub others-are : Are (within e last room) (here .others)
+        others-are = record { valid = here .are .valid; form = here .are .form ∙ ap (λ (i : ℕ). within i last room) (sym (clause-end here e ee)) }
 
-        pub merge-keep : (v : ℕ) (room′ : List ℕ) → Put room w (part k′ (reboostedBytes x (within b e room))) v room′ → Merging from end m room₀ room′ e v
-        unfolding next others
-        merge-keep v room′ P =
-            let f = merge-room in
-            let fits : w + length (part k′ (reboostedBytes x (within b e room))) ≤ length room = omega (arith, f .2) in
-            let bh = behind in
-            let top = here .top in
-            let bytes : part k′ (reboostedBytes x (within b e room)) ≡ part (kindTag (here .kind)) (encode new) =
-            ap (λ (j : ℕ). part j (reboostedBytes x (within b e room))) (M .kind) ∙ ap (part (kindTag (here .kind))) bytes-here in
-            let a = next-pre e ee in
+        pub eatable : Eatable b k′ e last room
+        eatable =
+            let l = base-low in
             record {
-              all = g .all;
-              long = put-long P fits ∙ g .long;
-              kept = lower room′ room end w (bh .0) (put-kept P fits) ∙ g .kept;
-              low = omega (arith, g .low);
-              high = omega arith;
-              pre = snoc (g .pre) (here .kind) (here .query);
-              are-pre = record { valid = a .valid; form = a .form ∙ sym (put-below P fits from e (omega (arith, g .low)) (omega arith)) };
-              left = here .others;
-              are-left = record {
-                valid = here .are .valid;
-                form = here .are .form ∙ ap (λ (i : ℕ). within i end room) (sym ee) ∙ sym (put-below P fits e end (omega arith) (bh .0));
-              };
-              done = snoc (g .done) (here .kind) new;
-              place = omega (arith, P .place, ap length bytes, g .place, length-snoc (g .done) (here .kind) new);
-              there =
-                  put-behind P fits end (encodes (g .done)) (bh .0) (g .there)
-                  ∙ ap {B = List ℕ} (λ l. encodes (g .done) ++ l) bytes ∙ sym (encodes-snoc (g .done) (here .kind) new);
-              whole = next-whole;
+              kind = here .kind;
+              tag = sym (F .kind);
+              query = h;
+              is = base-is;
+              clauses = here .others;
+              are = others-are;
+              low = l .1;
+              high = l .3;
+              fits = inside;
             }
 
-  pub merge-end : end ≤ t → (cs : Clauses) → Are (within from end room₀) cs → Stands end room₀ (w - end) (encodes (mergedByPlace m none cs)) room
-  unfolding mergedByPlace
-  merge-end p cs a =
-      let n : mergedByPlace m (g .pre) (g .left) ≡ none = ap (mergedByPlace m (g .pre)) (no-clause-at room t end (g .left) (g .are-left) p) in
-      let d : g .done ≡ mergedByPlace m none (g .all .clauses) = sym (join-none (g .done)) ∙ ap (join (g .done)) (sym n) ∙ g .whole in
-      let c : g .done ≡ mergedByPlace m none cs = d ∙ ap (mergedByPlace m none) (are-same (g .all .are) a) in
+        pub others-alone : Alone m table b e last room
+        others-alone cs a one =
+            let sg = signatureOf (encode h) in
+            let z : signatureOf (within b e room) ≡ signatureOf (encode h) = ap signatureOf base-here in
+            let c = g .noted sg (ap (λ (i : ℕ). getD table i 0) (sym z) ∙ one) in
+            let l = ap (having m sg) (here .split) ∙ having-first m (here .kind) (here .query) (here .others) in
+            let o : having m (signatureOf (encode h)) (here .others) ≡ 0 = omega arith in
+            ap (λ (i : ℕ). having m i cs) z ∙ ap (having m sg) (are-same a others-are) ∙ o
+
+        -- what is left of those behind it stands from f on, and its sum is s
+        module _ {f : ℕ} {s : Float} {room₁ : List ℕ}
+            (ates : (j : Kind) (q : Query) (cs : Clauses) → kindTag j ≡ k′ → Is (within b e room) q → Are (within e last room) cs → Ate m e last room j q cs x f s room₁)
+            (l₁ : length room₁ ≡ length room) (n : ℕ) (en : n ≡ mergedSize s (e - b)) where
+          A : Ate m e last room (here .kind) h (here .others) x f s room₁
+          A = ates (here .kind) h (here .others) (sym (F .kind)) base-is others-are
+
+          -- at most one byte is missing
+          pub near : w + n ≤ f + 1
+          near = go (A .grown)
+            where
+              go : ((f ≡ e) × (s ≡ x)) ⊎ (e + 6 ≤ f) → w + n ≤ f + 1
+              go (inl z) =
+                  let l = base-low in
+                  let y : mergedSize s (e - b) ≡ mergedSize (ownSum m (here .kind) (here .query)) (length (encode h)) =
+                  ap (mergedSize s) (l .2) ∙ ap (λ (r : Float). mergedSize r (length (encode h))) (z .1 ∙ F .sum) in
+                  omega (arith, en, own-size m (here .kind) (here .query), clause-end here e ee, g .low, z .0)
+              go (inr z) = let l = base-low in omega (arith, en, size-within s (e - b), g .low)
+
+          pub way-room : (f ≤ last) × (last ≤ length room₁) × (w + n + (last - f) ≤ length room₁)
+          way-room = let nr = near in let c = counted in (A .high, omega (arith, inside), omega (arith, A .high, g .fits))
+
+          module _ {v : ℕ} {room₂ : List ℕ} (W : Way (w + n) f last room₁ v room₂) (l₂ : length room₂ ≡ length room₁) where
+            pub put-room : (b ≤ e) × (e ≤ length room₂) × (w + mergedSize s (e - b) ≤ length room₂) × (mergedSize s (e - b) < 65536)
+            put-room =
+                let nr = near in
+                let c = counted in
+                let l = base-low in
+                (l .1, omega (arith, inside), omega (arith, en, A .high, g .fits), omega (arith, en, A .high, g .small))
+
+            pub further : (f ≤ v) × (v ≤ f + 1) × (f ≤ last) × (e ≤ f) × (t < e) × (last + 1 < 65536) × (last + 1 ≤ length room)
+            further = let nr = near in let c = counted in let l = base-low in omega (arith, W .place, A .low, A .high, g .small, g .fits)
+
+            same : (a c : ℕ) → a ≤ c → c ≤ e → within a c room₂ ≡ within a c room
+            same a c i j =
+                within-same room₂ room₁ a c f i (omega (arith, A .low)) (W .kept) ∙ within-same room₁ room a c e i j (A .kept)
+
+            abbrev new : Query
+            new = reboosted (here .kind) h (sumEaten m (here .kind) h (ownSum m (here .kind) (here .query)) (here .others))
+
+            sum-is : s ≡ sumEaten m (here .kind) h (ownSum m (here .kind) (here .query)) (here .others)
+            sum-is = A .sum ∙ ap (λ (y : Float). sumEaten m (here .kind) h y (here .others)) (F .sum)
+
+            bytes-here : reboostedBytes s (within b e room₂) ≡ encode new
+            bytes-here =
+                let l = base-low in
+                ap (reboostedBytes s) (same b e (l .1) (omega arith) ∙ base-here)
+                ∙ ap (λ (y : Float). reboostedBytes y (encode h)) sum-is
+                ∙ sym (reboosted-bytes m (here .kind) h (sumEaten m (here .kind) h (ownSum m (here .kind) (here .query)) (here .others))
+                (λ n. sum-stays m (here .kind) h (ownSum m (here .kind) (here .query)) n (here .others) ∙ own-one m (here .kind) (here .query) n))
+
+            module _ {u : ℕ} {room₃ : List ℕ} (P : Put room₂ w (part k′ (reboostedBytes s (within b e room₂))) u room₃) where
+              size : length (part k′ (reboostedBytes s (within b e room₂))) ≡ n
+              size =
+                  let l = base-low in
+                  let z = within-length room₂ b e (l .1) (omega (arith, inside)) in
+                  omega (arith, en, merged-size s (within b e room₂), ap (mergedSize s) z)
+
+              pub merge-next : Merging end m table room₀ room₃ v u (last + (v - f))
+              merge-next =
+                  let nr = near in
+                  let c = counted in
+                  let z = size in
+                  let x₁ = further in
+                  let fits : w + length (part k′ (reboostedBytes s (within b e room₂))) ≤ length room₂ = omega (arith, put-room) in
+                  let bytes : part k′ (reboostedBytes s (within b e room₂)) ≡ part (kindTag (here .kind)) (encode new) =
+                  ap (λ (j : ℕ). part j (reboostedBytes s (within b e room₂))) (F .kind) ∙ ap (part (kindTag (here .kind))) bytes-here in
+                  let y : last + (v - f) ≡ v + (last - f) = omega arith in
+                  let lo : w ≤ e = omega (arith, g .low) in
+                  record {
+                    all = g .all;
+                    long = put-long P fits ∙ l₂ ∙ l₁ ∙ g .long;
+                    low = omega (arith, P .place, W .place);
+                    high = omega arith;
+                    left = stayed m (here .kind) h (here .others);
+                    are-left = record {
+                      valid = A .are .valid;
+                      form =
+                          A .are .form ∙ sym (W .there) ∙ ap (λ (i : ℕ). within v i room₂) (sym y)
+                          ∙ sym (ap (within v (last + (v - f))) (P .bytes)
+                          ∙ behind-laid room₂ (part k′ (reboostedBytes s (within b e room₂))) v (last + (v - f)) w (omega (arith, W .place)) fits);
+                    };
+                    done = snoc (g .done) (here .kind) new;
+                    place = omega (arith, P .place, ap length bytes, g .place, length-snoc (g .done) (here .kind) new);
+                    there =
+                        put-behind P fits 0 (encodes (g .done)) (omega arith) (same 0 w (omega arith) lo ∙ g .there)
+                        ∙ ap {B = List ℕ} (λ l. encodes (g .done) ++ l) bytes ∙ sym (encodes-snoc (g .done) (here .kind) new);
+                    whole = next-whole;
+                    fits = omega (arith, g .fits, put-long P fits, stayed-count m (here .kind) h (here .others));
+                    small = omega (arith, g .small, stayed-count m (here .kind) h (here .others));
+                    noted = λ i y. omega (
+                      arith,
+                      g .noted i y,
+                      stayed-having m (here .kind) h i (here .others),
+                      having-fewer m i (here .kind) (here .query) (here .others),
+                      ap (having m i) (here .split),
+                    );
+                  }
+                where
+                  next-whole : join (snoc (g .done) (here .kind) new) (mergedClauses m (stayed m (here .kind) h (here .others))) ≡ mergedClauses m (g .all .clauses)
+                  next-whole =
+                      join-snoc (g .done) (here .kind) new (mergedClauses m (stayed m (here .kind) h (here .others)))
+                      ∙ ap (join (g .done)) (sym (ap (mergedClauses m) (here .split) ∙ merged-first m (here .kind) (here .query) (here .others)))
+                      ∙ g .whole
+
+  pub merging-end : last ≤ t → (cs : Clauses) → Are (within 0 end room₀) cs → Stands 0 room₀ w (encodes (mergedClauses m cs)) room
+  merging-end p cs a =
+      let n : mergedClauses m (g .left) ≡ none = ap (mergedClauses m) (no-clause-at room t last (g .left) (g .are-left) p) ∙ merged-none m in
+      let c : g .done ≡ mergedClauses m cs =
+      sym (join-none (g .done)) ∙ ap (join (g .done)) (sym n) ∙ g .whole ∙ ap (mergedClauses m) (are-same (g .all .are) a) in
+      let z : w - 0 ≡ w = omega arith in
       record {
         long = g .long;
-        kept = g .kept;
-        size = omega (arith, g .place, ap (λ (ds : Clauses). length (encodes ds)) c);
-        there = g .there ∙ ap encodes c;
+        kept = refl;
+        size = g .place ∙ ap (λ (ds : Clauses). length (encodes ds)) c;
+        there = ap (λ (i : ℕ). take i (drop 0 room)) (sym z) ∙ g .there ∙ ap encodes c;
       }

@@ -1,2 +1,3 @@
-// The merging of a Boolean's clauses: duplicates are dropped, boosts of equal clauses summed, all in one lent room.
+// The merging of the clauses of a Boolean, in their place.
 pub mod merge;
+mod signatures;

@@ -1,9 +1,21 @@
-// The merging of clauses by place: a clause is kept unless an earlier one takes it up, and its sum is gathered from those behind it.
+// The merging of clauses, in their place: the first clause is kept and goes once over those behind it; what it stands for it takes up, boost by boost
+// in clause order, and what lies between is moved over what was taken up. Then the next of those that are left.
 // A merged clause travels as base, kind and its running float sum.
+use crate::signatures::SIGNATURES;
+use crate::signatures::is_alone;
+use crate::signatures::one_more;
+use crate::signatures::signature;
 use floats::sums::add;
 use floats::sums::as_sum;
 use floats::sums::is_one;
 use floats::sums::rounded_bits;
+use names::BOOST_BYTES;
+use names::BOOST_FRONT;
+use names::BOOST_TAG;
+use names::FILTER_TAG;
+use names::HEADER;
+use names::MUST_TAG;
+use names::SHOULD_TAG;
 use numbers::big4;
 use numbers::put_big4;
 use parts::part::body;
@@ -14,20 +26,31 @@ use places::place::shift;
 use stretches::same;
 ghost use mathlib.Core.Path.{_≡_};
 ghost use mathlib.Core.List.{_++_};
-ghost use mathlib.Core.Bool.{true};
 ghost use Prim.Native.Nat.{_+_, _-_, _<_, _≤_};
 ghost use lib.ListN.{length};
 ghost use Rattle.rules.specs.Numbers.{boostTag};
 ghost use Rattle.rules.specs.Bytes.{big, part};
-ghost use Rattle.rules.specs.Query.{Kind, Query, Clauses, none, clause};
+ghost use Rattle.rules.specs.Query.{Kind, Query, Clauses};
 ghost use Rattle.rules.specs.Stored.{kindTag, encodes};
 ghost use Rattle.rules.specs.Checked.{Is, Are, Stored, StoredClauses};
 ghost use Rattle.rules.specs.Floats.{widened};
 ghost use Rattle.rules.specs.Rewriting.{summable, standsFor, base, boostOf};
-ghost use Rattle.rules.specs.ByPlace.{held, seen, mergedByPlace};
+ghost use Rattle.rules.specs.Eating.{held, mergedClauses};
 ghost use Rattle.numbers.specs.Laid.{Put};
 ghost use Rattle.places.specs.Within.{within, Stands};
-ghost use Rattle.merging.specs.Merge.{TakenUp, Summed, MergedIs, reboostedBytes, Mergeable};
+ghost use Rattle.merging.specs.Signatures.{signatures, Noted, Alone};
+ghost use Rattle.merging.specs.Merge.{Eats, Fed, First, Eatable, Ate, reboostedBytes, mergedSize, Way, Mergeable};
+
+// The bytes below which clauses are so few that they are compared with no table.
+const FEW: usize = 160;
+
+// Before a boosted clause's base stand a header, a boost's header and its bits.
+const BITS: usize = HEADER + HEADER;
+
+const BOOSTED_FRONT: usize = HEADER + BOOST_FRONT;
+
+// The bits of the boost 1.
+const ONE: u32 = 0x3f80_0000;
 
 // A merged clause: where its base stands, its kind, its running sum.
 pub struct Merged {
@@ -39,9 +62,9 @@ pub struct Merged {
 fn summable(least: usize, k: u8) -> bool
     ensures { λ r. ⌜ ((j : Kind) → kindTag j ≡ k → r ≡ summable least j) ⌝ }
 {
-    if k == 0x20 {
+    if k == MUST_TAG {
         true
-    } else if k == 0x21 {
+    } else if k == SHOULD_TAG {
         least <= 1
     } else {
         false
@@ -53,8 +76,8 @@ fn stands_for(j: u8, k: u8) -> bool
 {
     if j == k {
         true
-    } else if k == 0x23 {
-        j == 0x20
+    } else if k == FILTER_TAG {
+        j == MUST_TAG
     } else {
         false
     }
@@ -65,8 +88,8 @@ fn base(q: &[u8]) -> &[u8]
     requires { ⌜ Stored (now q) ⌝ }
     ensures { λ r. ⌜ ((x : Query) → Is (now (q .entry)) x → Is (now r) (base x)) ⌝ }
 {
-    if q[0] == 4 {
-        return &q[7..];
+    if q[0] == BOOST_TAG {
+        return &q[BOOST_FRONT..];
     }
     q
 }
@@ -75,10 +98,10 @@ fn boost_of(q: &[u8]) -> u32
     requires { ⌜ Stored (now q) ⌝ }
     ensures { λ r. ⌜ ((x : Query) → Is (now (q .entry)) x → widened r ≡ boostOf x) ⌝ }
 {
-    if q[0] == 4 {
-        return big4(&q[3..]);
+    if q[0] == BOOST_TAG {
+        return big4(&q[HEADER..]);
     }
-    0x3f80_0000
+    ONE
 }
 
 // What a clause of kind k is compared by.
@@ -92,106 +115,128 @@ fn held(least: usize, k: u8, q: &[u8]) -> &[u8]
     q
 }
 
-// Does one of the clauses stand for one of kind k that is compared by h?
-fn seen(clauses: &[u8], least: usize, k: u8, h: &[u8]) -> bool
-    requires { ⌜ StoredClauses (now clauses) ⌝ }
-    ensures { λ r. ⌜ ((cs : Clauses) (j : Kind) (x : Query) → Are (now (clauses .entry)) cs → kindTag j ≡ k → Is (now (h .entry)) x → r ≡ seen least cs j x) ⌝ }
+// Does a clause of kind k that is compared by h stand for one of kind j with the query q?
+fn eats(least: usize, k: u8, h: &[u8], j: u8, q: &[u8]) -> bool
+    requires { ⌜ Stored (now q) ⌝ }
+    ensures { λ r. ⌜ Eats least k (now (h .entry)) j (now (q .entry)) r ⌝ }
 {
-    let mut t = clauses;
-    while t.len() > 0 {
-        let j = t[0];
-        if stands_for(j, k) {
-            if same(held(least, j, body(t)), h) {
-                return true;
-            }
-        }
-        let u = rest(t);
-        t = u;
+    if stands_for(k, j) {
+        return same(h, held(least, j, q));
     }
     false
 }
 
-// One clause more: its boost is added where it is of the kind k, and is h without its boost.
-fn taken_up(sum: f64, k: u8, j: u8, q: &[u8], h: &[u8]) -> f64
+// The sum once a clause of kind j with the query q was taken up.
+fn fed(least: usize, sum: f64, j: u8, q: &[u8]) -> f64
     requires { ⌜ Stored (now q) ⌝ }
-    ensures { λ r. ⌜ TakenUp k sum j (now (q .entry)) (now (h .entry)) r ⌝ }
+    ensures { λ r. ⌜ Fed least sum j (now (q .entry)) r ⌝ }
 {
-    if j == k {
-        if same(base(q), h) {
-            return add(sum, boost_of(q));
-        }
+    if summable(least, j) {
+        return add(sum, boost_of(q));
     }
     sum
 }
 
-// The sum, gathered from clauses in their order: those of its kind that are h without their boost.
-fn total(clauses: &[u8], first: Merged, h: &[u8]) -> Merged
-    requires { ⌜ StoredClauses (now clauses) ⌝ }
-    ensures { λ r. ⌜ Summed (now (clauses .entry)) (first .base) (first .kind) (first .sum) (now (h .entry)) (r .base) (r .kind) (r .sum) ⌝ }
+// The clause of kind k with the query q, which stands at a place, before it has taken up any.
+fn first_of(least: usize, at: usize, k: u8, q: &[u8]) -> Merged
+    requires { ⌜ Stored (now q) × (at + length (now q) < 18446744073709551616) ⌝ }
+    ensures { λ r. ⌜ ((j : Kind) (x : Query) → kindTag j ≡ k → Is (now (q .entry)) x → First at least j x (r .base) (r .kind) (r .sum)) ⌝ }
 {
-    let mut t = clauses;
-    let mut sum = first.sum;
-    while t.len() > 0 {
-        let x = taken_up(sum, first.kind, t[0], body(t), h);
-        sum = x;
-        let u = rest(t);
-        t = u;
-    }
-    Merged {
-        base: first.base,
-        kind: first.kind,
-        sum,
-    }
-}
-
-// The first of the clauses in s, which stand at a place, merged with those behind it.
-fn merged_at(s: &[u8], at: usize, least: usize) -> Merged
-    requires { ⌜ StoredClauses (now s) × (0 < length (now s)) × (at + length (now s) < 18446744073709551616) ⌝ }
-    ensures { λ r. ⌜ ((j : Kind) (q : Query) (cs : Clauses) → Are (now (s .entry)) (clause j q cs) → MergedIs at least j q cs (r .base) (r .kind) (r .sum)) ⌝ }
-{
-    let k = s[0];
-    let q = body(s);
     if summable(least, k) {
         let h = base(q);
-        let m = Merged {
-            base: at + 3 + (q.len() - h.len()),
+        return Merged {
+            base: at + (q.len() - h.len()),
             kind: k,
             sum: as_sum(boost_of(q)),
         };
-        return total(rest(s), m, h);
     }
     Merged {
-        base: at + 3,
+        base: at,
         kind: k,
         sum: 1.0,
     }
 }
 
-// Lays a clause at w: what stands from b up to e, below it.
+// Where the clauses that were left begin, and the sum with those that were taken up.
+struct Eaten {
+    from: usize,
+    sum: f64,
+}
+
+// Goes over the clauses from `at`, where the base of m ends, up to `end`.
+fn eat(room: &mut [u8], m: Merged, at: usize, end: usize, least: usize) -> Eaten
+    requires { ⌜ Eatable (m .base) (m .kind) at end (now room) ⌝ }
+    ensures { λ r. ⌜ ((k : Kind) (h : Query) (cs : Clauses) → kindTag k ≡ m .kind → Is (within (m .base) at (now (room .entry))) h → Are (within at end (now (room .entry))) cs → Ate least at end (now (room .entry)) k h cs (m .sum) (r .from) (r .sum) (now (room .exit))) ⌝ }
+{
+    let b = m.base;
+    let k = m.kind;
+    let mut sum = m.sum;
+    let mut from = at;
+    let mut u = at;
+    while u < end {
+        let j = room[u];
+        let v = end_of(room, u);
+        if eats(least, k, &room[b..at], j, &room[u + HEADER..v]) {
+            let x = fed(least, sum, j, &room[u + HEADER..v]);
+            let f = from + (v - u);
+            shift(room, f, from, u - from);
+            sum = x;
+            from = f;
+        }
+        u = v;
+    }
+    Eaten { from, sum }
+}
+
+// The same, without a search where the table says that no clause equals m.
+fn eat_others(
+    room: &mut [u8],
+    m: Merged,
+    at: usize,
+    end: usize,
+    least: usize,
+    table: &[u8],
+) -> Eaten
+    requires { ⌜ Eatable (m .base) (m .kind) at end (now room) × Alone least (now table) (m .base) at end (now room) ⌝ }
+    ensures { λ r. ⌜ ((k : Kind) (h : Query) (cs : Clauses) → kindTag k ≡ m .kind → Is (within (m .base) at (now (room .entry))) h → Are (within at end (now (room .entry))) cs → Ate least at end (now (room .entry)) k h cs (m .sum) (r .from) (r .sum) (now (room .exit))) ⌝ }
+{
+    let b = m.base;
+    if is_alone(table, &room[b..at]) {
+        return Eaten {
+            from: at,
+            sum: m.sum,
+        };
+    }
+    eat(room, m, at, end, least)
+}
+
+// Lays a clause at w: what stands from b up to e.
 fn put_clause(room: &mut [u8], w: usize, kind: u8, b: usize, e: usize) -> usize
-    requires { ⌜ (b ≤ e) × (e ≤ w) × (w + 3 + (e - b) ≤ length (now room)) × (e - b < 65536) ⌝ }
+    requires { ⌜ (b ≤ e) × (e ≤ length (now room)) × (w + 3 + (e - b) ≤ length (now room)) × (e - b < 65536) ⌝ }
     ensures { λ r. ⌜ Put (now (room .entry)) w (part kind (within b e (now (room .entry)))) r (now (room .exit)) ⌝ }
 {
     let n = e - b;
-    let p = put_header(room, w, kind, n);
-    shift(room, p, b, n)
+    let r = shift(room, w + HEADER, b, n);
+    put_header(room, w, kind, n);
+    r
 }
 
 // The same with a boost.
 fn put_boosted(room: &mut [u8], w: usize, kind: u8, bits: u32, b: usize, e: usize) -> usize
-    requires { ⌜ (b ≤ e) × (e ≤ w) × (w + 10 + (e - b) ≤ length (now room)) × (7 + (e - b) < 65536) ⌝ }
+    requires { ⌜ (b ≤ e) × (e ≤ length (now room)) × (w + 10 + (e - b) ≤ length (now room)) × (7 + (e - b) < 65536) ⌝ }
     ensures { λ r. ⌜ Put (now (room .entry)) w (part kind (part boostTag (big 4 bits ++ within b e (now (room .entry))))) r (now (room .exit)) ⌝ }
 {
     let n = e - b;
-    let p = put_header(room, w, kind, 7 + n);
-    let c = put_header(room, p, 4, 4 + n);
-    let d = put_big4(room, c, bits);
-    shift(room, d, b, n)
+    let r = shift(room, w + BOOSTED_FRONT, b, n);
+    put_big4(room, w + BITS, bits);
+    put_header(room, w + HEADER, BOOST_TAG, BOOST_BYTES + n);
+    put_header(room, w, kind, BOOST_FRONT + n);
+    r
 }
 
 // Lays a merged clause at w: its base ends at e. The boost is put back where the sum is not 1.
 fn put_merged(room: &mut [u8], w: usize, m: Merged, e: usize) -> usize
-    requires { ⌜ (m .base ≤ e) × (e ≤ w) × (w + 3 + length (reboostedBytes (m .sum) (within (m .base) e (now room))) ≤ length (now room)) × (length (reboostedBytes (m .sum) (within (m .base) e (now room))) < 65536) ⌝ }
+    requires { ⌜ (m .base ≤ e) × (e ≤ length (now room)) × (w + mergedSize (m .sum) (e - m .base) ≤ length (now room)) × (mergedSize (m .sum) (e - m .base) < 65536) ⌝ }
     ensures { λ r. ⌜ Put (now (room .entry)) w (part (m .kind) (reboostedBytes (m .sum) (within (m .base) e (now (room .entry))))) r (now (room .exit)) ⌝ }
 {
     let b = m.base;
@@ -202,22 +247,94 @@ fn put_merged(room: &mut [u8], w: usize, m: Merged, e: usize) -> usize
     put_boosted(room, w, m.kind, rounded_bits(s), b, e)
 }
 
-// Merges the clauses from `from` up to `end`, and lays what is kept behind them.
-pub fn merge_clauses(room: &mut [u8], from: usize, end: usize, least: usize) -> usize
-    requires { ⌜ Mergeable from end least (now room) ⌝ }
-    ensures { λ r. ⌜ ((cs : Clauses) → Are (within from end (now (room .entry))) cs → Stands end (now (room .entry)) r (encodes (mergedByPlace least none cs)) (now (room .exit))) ⌝ }
+// The bytes that a merged clause with a base of n bytes takes.
+fn merged_size(sum: f64, n: usize) -> usize
+    requires { ⌜ n + 10 < 18446744073709551616 ⌝ }
+    ensures { λ r. ⌜ r ≡ mergedSize sum n ⌝ }
 {
-    let mut t = from;
-    let mut w = end;
-    while t < end {
-        let k = room[t];
-        let e = end_of(room, t);
-        if !seen(&room[from..t], least, k, held(least, k, &room[t + 3..e])) {
-            let m = merged_at(&room[t..end], t, least);
-            let v = put_merged(room, w, m, e);
-            w = v;
-        }
-        t = e;
+    if is_one(sum) {
+        HEADER + n
+    } else {
+        BOOSTED_FRONT + n
     }
-    w - end
+}
+
+// Moves what stands from `at` up to `end` so far that it begins at `need` or behind, and gives the place where it begins.
+fn make_way(room: &mut [u8], need: usize, at: usize, end: usize) -> usize
+    requires { ⌜ (at ≤ end) × (end ≤ length (now room)) × (need + (end - at) ≤ length (now room)) ⌝ }
+    ensures { λ r. ⌜ Way need at end (now (room .entry)) r (now (room .exit)) ⌝ }
+{
+    if need <= at {
+        return at;
+    }
+    shift(room, need, at, end - at);
+    need
+}
+
+// Merges the clauses that stand in the first `end` bytes, and lays what is kept at the front.
+fn merge_all(room: &mut [u8], end: usize, least: usize, table: &[u8]) -> usize
+    requires { ⌜ Mergeable end (now room) × ((cs : Clauses) → Are (within 0 end (now room)) cs → Noted least (now table) cs) ⌝ }
+    ensures { λ r. ⌜ ((cs : Clauses) → Are (within 0 end (now (room .entry))) cs → Stands 0 (now (room .entry)) r (encodes (mergedClauses least cs)) (now (room .exit))) ⌝ }
+{
+    let mut t = 0;
+    let mut w = 0;
+    let mut last = end;
+    while t < last {
+        let e = end_of(room, t);
+        let m = first_of(least, t + HEADER, room[t], &room[t + HEADER..e]);
+        let b = m.base;
+        let k = m.kind;
+        let a = eat_others(room, m, e, last, least, table);
+        let s = a.sum;
+        let f = a.from;
+        let g = make_way(room, w + merged_size(s, e - b), f, last);
+        let v = put_merged(
+            room,
+            w,
+            Merged {
+                base: b,
+                kind: k,
+                sum: s,
+            },
+            e,
+        );
+        last = last + (g - f);
+        w = v;
+        t = g;
+    }
+    w
+}
+
+// Notes the signature of each clause in the table.
+fn note_all(s: &[u8], least: usize, table: &mut [u8])
+    requires { ⌜ StoredClauses (now s) × (length (now table) ≡ signatures) ⌝ }
+    ensures { λ _. ⌜ ((cs : Clauses) → Are (now (s .entry)) cs → Noted least (now (table .exit)) cs) ⌝ }
+{
+    let mut t = s;
+    while t.len() > 0 {
+        let g = signature(held(least, t[0], body(t)));
+        table[g] = one_more(table[g]);
+        let u = rest(t);
+        t = u;
+    }
+}
+
+fn merge_many(room: &mut [u8], end: usize, least: usize) -> usize
+    requires { ⌜ Mergeable end (now room) ⌝ }
+    ensures { λ r. ⌜ ((cs : Clauses) → Are (within 0 end (now (room .entry))) cs → Stands 0 (now (room .entry)) r (encodes (mergedClauses least cs)) (now (room .exit))) ⌝ }
+{
+    let mut table = [0u8; SIGNATURES];
+    note_all(&room[0..end], least, &mut table);
+    merge_all(room, end, least, &table)
+}
+
+// Merges the clauses that stand in the first `end` bytes, and lays what is kept at the front. Few clauses are compared with no table.
+pub fn merge_clauses(room: &mut [u8], end: usize, least: usize) -> usize
+    requires { ⌜ Mergeable end (now room) ⌝ }
+    ensures { λ r. ⌜ ((cs : Clauses) → Are (within 0 end (now (room .entry))) cs → Stands 0 (now (room .entry)) r (encodes (mergedClauses least cs)) (now (room .exit))) ⌝ }
+{
+    if end < FEW {
+        return merge_all(room, end, least, b"");
+    }
+    merge_many(room, end, least)
 }

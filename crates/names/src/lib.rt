@@ -33,7 +33,7 @@ pub const LIST_MOST: usize = 65536;
 
 pub const PARSE_ROOM: usize = 5120;
 
-pub const REWRITE_ROOM: usize = 114687;
+pub const REWRITE_ROOM: usize = 38229;
 
 pub const SELECT_ROOM: usize = 0;
 

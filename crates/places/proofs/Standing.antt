@@ -1,53 +1,15 @@
 -- Stretches of one room: what stands where, before and after bytes are laid.
 use mathlib.Core.Path.{_≡_, refl, sym, ap, _∙_}
-use mathlib.Core.Logic.{_⊎_, inl, inr}
 use Prim.Native.Nat.{ℕ, zero, suc, _+_, _-_, _≤_, _<_}
 use mathlib.Core.List.{List, [], _∷_, _++_, append-assoc}
 use native.Mathlib.Omega.{arith}
 use native.Mathlib.Nat.{add-sub-cancel-left}
-use lib.ListN.{length, getD, take, drop, set, length-append, length-drop, take-append-drop}
-use lib.Seq.{take-at, drop-at, take-add, take-take, drop-drop, take-append-add, length-take-le, getD-take, getD-drop, paste, take-paste, drop-paste}
+use native.Mathlib.Numerals.{add-one}
+use lib.ListN.{length, getD, take, drop, set, length-append, length-take, length-drop, take-append-drop}
+use lib.Seq.{take-at, drop-at, take-add, take-take, drop-cons, drop-drop, drop-length, take-append-add, take-append-le, length-take-le, getD-take, getD-drop, paste, drop-paste}
 use Rattle.numbers.specs.Laid.{laid, Put}
-use Rattle.numbers.proofs.Laying.{before-laid, from-laid, length-laid, there-laid, copy-turn, copy-end}
+use Rattle.numbers.proofs.Laying.{before-laid, from-laid, drop-laid, length-laid, there-laid, lent, laid-none, laid-sets, copy-turn, copy-end}
 use Rattle.places.specs.Within.{within, Stands}
-
--- ---- the loop that moves bytes
-
-module _ (room : List ℕ) (to from n : ℕ) (here : from + n ≤ length room) (fits : to + n ≤ length room) where
-  pub moved-length : length (take n (drop from room)) ≡ n
-  moved-length = length-take-le n (drop from room) (simp length-drop (omega arith))
-
-  moved-at : (k : ℕ) → k < n → getD (take n (drop from room)) k 0 ≡ getD room (from + k) 0
-  moved-at k h = getD-take n (drop from room) k 0 h ∙ getD-drop from room k 0
-
-  -- a byte that is still to be read has not been written over
-  still : (l : List ℕ) (k : ℕ) → k < n → l ≡ paste room to (take n (drop from room)) k → (to ≤ from) ⊎ (from + n ≤ to)
-      → getD l (from + k) 0 ≡ getD room (from + k) 0
-  still l k h e (inl b) =
-      let i : from + k ≡ to + k + (from - to) = omega arith in
-      let d : drop (to + k) l ≡ drop (to + k) room =
-      ap (drop (to + k)) e ∙ drop-paste room to (take n (drop from room)) k (omega arith) (omega (arith, moved-length)) in
-      ap (λ (x : ℕ). getD l x 0) i ∙ sym (getD-drop (to + k) l (from - to) 0) ∙ ap (λ (m : List ℕ). getD m (from - to) 0) d
-      ∙ getD-drop (to + k) room (from - to) 0 ∙ ap (λ (x : ℕ). getD room x 0) (sym i)
-  still l k h e (inr b) =
-      let s = take n (drop from room) in
-      let f : take to l ≡ take to room =
-      sym (take-take to (to + k) l (omega arith))
-      ∙ ap (take to) (ap (take (to + k)) e ∙ take-paste room to s k (omega arith) (omega (arith, moved-length)))
-      ∙ take-at (take to room) (take k s) to (length-take-le to room (omega arith)) in
-      sym (getD-take to l (from + k) 0 (omega arith)) ∙ ap (λ (m : List ℕ). getD m (from + k) 0) f ∙ getD-take to room (from + k) 0 (omega arith)
-
-  pub shift-turn : (l : List ℕ) (k : ℕ) → k < n → l ≡ paste room to (take n (drop from room)) k → (to ≤ from) ⊎ (from + n ≤ to)
-      → set l (to + k) (getD l (from + k) 0) ≡ paste room to (take n (drop from room)) (k + 1)
-  shift-turn l k h e a =
-      ap (λ (x : ℕ). set l (to + k) x) (still l k h e a ∙ sym (moved-at k h))
-      ∙ copy-turn room l (take n (drop from room)) to k (omega (arith, moved-length)) (omega (arith, moved-length)) e
-
-  pub shift-end : (l : List ℕ) (k : ℕ) → k ≤ n → n ≤ k → l ≡ paste room to (take n (drop from room)) k → Put room to (take n (drop from room)) (to + n) l
-  shift-end l k h i e = record {
-    place = omega (arith, moved-length);
-    bytes = copy-end room l (take n (drop from room)) to k (omega (arith, moved-length)) (omega (arith, moved-length)) e;
-  }
 
 -- ---- rooms that agree on their first bytes
 
@@ -68,6 +30,90 @@ within-same x y a e to h k f = kept-same x y a (e - a) to (omega arith) f
 
 pub within-laid : (room s : List ℕ) (a e to : ℕ) → a ≤ e → e ≤ to → to + length s ≤ length room → within a e (laid room to s) ≡ within a e room
 within-laid room s a e to h k f = within-same (laid room to s) room a e to h k (before-laid room to s f)
+
+-- ---- something laid in front of what was laid
+
+pub laid-before : (room : List ℕ) (at : ℕ) (s t : List ℕ) → at + length s + length t ≤ length room → laid (laid room (at + length s) t) at s ≡ laid room at (s ++ t)
+unfolding laid
+laid-before room at s t fits =
+    let k = at + length s in
+    let L = laid room k t in
+    let r = drop (k + length t) room in
+    let low : take at L ≡ take at room = lower L room at k (omega arith) (before-laid room k t fits) in
+    let e : k + length t ≡ at + length (s ++ t) = omega (arith, length-append s t) in
+    ap {B = List ℕ} (λ l. l ++ s ++ drop k L) low
+    ∙ ap {B = List ℕ} (λ l. take at room ++ s ++ l) (from-laid room k t fits)
+    ∙ sym (append-assoc (take at room ++ s) t r)
+    ∙ ap {B = List ℕ} (λ l. l ++ r) (append-assoc (take at room) s t)
+    ∙ ap {B = List ℕ} (λ i. take at room ++ (s ++ t) ++ drop i room) e
+
+-- ---- the loops that move bytes
+
+module _ (room : List ℕ) (to from n : ℕ) (here : from + n ≤ length room) (fits : to + n ≤ length room) where
+  pub moved-length : length (take n (drop from room)) ≡ n
+  moved-length = length-take-le n (drop from room) (simp length-drop (omega arith))
+
+  moved-at : (k : ℕ) → k < n → getD (take n (drop from room)) k 0 ≡ getD room (from + k) 0
+  moved-at k h = getD-take n (drop from room) k 0 h ∙ getD-drop from room k 0
+
+  -- the first byte first: one that is still to be read has not been written over
+  down-read : (l : List ℕ) (k : ℕ) → k < n → l ≡ paste room to (take n (drop from room)) k → to ≤ from → getD l (from + k) 0 ≡ getD room (from + k) 0
+  down-read l k h e b =
+      let i : from + k ≡ to + k + (from - to) = omega arith in
+      let d : drop (to + k) l ≡ drop (to + k) room =
+      ap (drop (to + k)) e ∙ drop-paste room to (take n (drop from room)) k (omega arith) (omega (arith, moved-length)) in
+      ap (λ (x : ℕ). getD l x 0) i ∙ sym (getD-drop (to + k) l (from - to) 0) ∙ ap (λ (m : List ℕ). getD m (from - to) 0) d
+      ∙ getD-drop (to + k) room (from - to) 0 ∙ ap (λ (x : ℕ). getD room x 0) (sym i)
+
+  pub down-turn : (l : List ℕ) (k : ℕ) → k < n → l ≡ paste room to (take n (drop from room)) k → to ≤ from
+      → set l (to + k) (getD l (from + k) 0) ≡ paste room to (take n (drop from room)) (k + 1)
+  down-turn l k h e a =
+      ap (λ (x : ℕ). set l (to + k) x) (down-read l k h e a ∙ sym (moved-at k h))
+      ∙ copy-turn room l (take n (drop from room)) to k (omega (arith, moved-length)) (omega (arith, moved-length)) e
+
+  pub down-end : (l : List ℕ) (k : ℕ) → k ≤ n → n ≤ k → l ≡ paste room to (take n (drop from room)) k → Put room to (take n (drop from room)) (to + n) l
+  down-end l k h i e = record {
+    place = omega (arith, moved-length);
+    bytes = copy-end room l (take n (drop from room)) to k (omega (arith, moved-length)) (omega (arith, moved-length)) e;
+  }
+
+  -- the last byte first
+  left-length : (k : ℕ) → length (drop k (take n (drop from room))) ≡ n - k
+  left-length k = length-drop k (take n (drop from room)) ∙ ap (λ (i : ℕ). i - k) moved-length
+
+  pub up-start : room ≡ laid room (to + n) (drop n (take n (drop from room)))
+  up-start =
+      let s = take n (drop from room) in
+      sym (ap (laid room (to + n)) (ap (λ (i : ℕ). drop i s) (sym moved-length) ∙ drop-length s) ∙ laid-none room (to + n))
+
+  pub up-turn : (l : List ℕ) (j k : ℕ) → j ≡ k + 1 → j ≤ n → l ≡ laid room (to + j) (drop j (take n (drop from room))) → from ≤ to
+      → set l (to + k) (getD l (from + k) 0) ≡ laid room (to + k) (drop k (take n (drop from room)))
+  up-turn l j k ej h e b =
+      let s = take n (drop from room) in
+      let x = getD s k 0 in
+      let nl = left-length j in
+      let f : to + j + length (drop j s) ≤ length room = omega arith in
+      let low : take (to + j) l ≡ take (to + j) room = ap (take (to + j)) e ∙ before-laid room (to + j) (drop j s) f in
+      let read : getD l (from + k) 0 ≡ x =
+      sym (getD-take (to + j) l (from + k) 0 (omega arith)) ∙ ap (λ (m : List ℕ). getD m (from + k) 0) low
+      ∙ getD-take (to + j) room (from + k) 0 (omega arith) ∙ sym (moved-at k (omega arith)) in
+      let z : to + j ≡ to + k + length (x ∷ []) = omega arith in
+      let long : length l ≡ length room = ap length e ∙ length-laid room (to + j) (drop j s) f in
+      let more : x ∷ drop j s ≡ drop k s = sym (drop-cons s k 0 (omega (arith, moved-length)) ∙ ap (λ (i : ℕ). x ∷ drop i s) (sym (ej ∙ add-one k))) in
+      ap (λ (y : ℕ). set l (to + k) y) read
+      ∙ laid-sets (x ∷ []) l (to + k) (omega arith)
+      ∙ ap (λ (m : List ℕ). laid m (to + k) (x ∷ [])) (e ∙ ap (λ (i : ℕ). laid room i (drop j s)) z)
+      ∙ laid-before room (to + k) (x ∷ []) (drop j s) (omega arith)
+      ∙ ap (laid room (to + k)) more
+
+  pub up-end : (l : List ℕ) (k : ℕ) → k ≤ 0 → l ≡ laid room (to + k) (drop k (take n (drop from room))) → Put room to (take n (drop from room)) (to + n) l
+  up-end l k h e =
+      let z : k ≡ 0 = omega arith in
+      let y : to + 0 ≡ to = omega arith in
+      record {
+        place = omega (arith, moved-length);
+        bytes = e ∙ ap (λ (i : ℕ). laid room (to + i) (drop i (take n (drop from room)))) z ∙ ap (λ (i : ℕ). laid room i (take n (drop from room))) y;
+      }
 
 -- ---- stretches one behind the other
 
@@ -148,3 +194,34 @@ stands-over {room} {room₁} {a = a} {to = to} S T h = record {
   size = T .size;
   there = T .there;
 }
+
+-- ---- behind and before what was laid
+
+pub behind-laid : (room s : List ℕ) (a e to : ℕ) → to + length s ≤ a → to + length s ≤ length room → within a e (laid room to s) ≡ within a e room
+behind-laid room s a e to h f =
+    let k = to + length s in
+    let z : k + (a - k) ≡ a = omega arith in
+    let d : drop (k + (a - k)) (laid room to s) ≡ drop (k + (a - k)) room =
+    sym (drop-drop (a - k) k (laid room to s)) ∙ ap (drop (a - k)) (drop-laid room to s f) ∙ drop-drop (a - k) k room in
+    ap (λ (i : ℕ). take (e - a) (drop i (laid room to s))) (sym z) ∙ ap (take (e - a)) d ∙ ap (λ (i : ℕ). take (e - a) (drop i room)) z
+
+-- s at its place, and then h right before it
+pub put-before : {room room₁ room₂ : List ℕ} {at a p r : ℕ} {h s : List ℕ} → Put room a s r room₁ → Put room₁ at h p room₂ → a ≡ at + length h
+    → at + length h + length s ≤ length room → Put room at (h ++ s) r room₂
+put-before {room} {at = at} {h = h} {s = s} P Q e fits = record {
+  place = omega (arith, P .place, length-append h s);
+  bytes = Q .bytes ∙ ap (λ (l : List ℕ). laid l at h) (P .bytes ∙ ap (λ (i : ℕ). laid room i s) e) ∙ laid-before room at h s fits;
+}
+
+-- the stretch from a up to e was lent and came back as ys: what stands at its front stands at a
+pub stands-lent : (room ys : List ℕ) (a e : ℕ) → a ≤ e → e ≤ length room → length ys ≡ e - a → {n : ℕ} {s : List ℕ} → Stands 0 (within a e room) n s ys
+    → Stands a room n s (take a room ++ (ys ++ drop (e - a) (drop a room)))
+stands-lent room ys a e h k l {n} {s} S =
+    let f : a + length ys ≤ length room = omega arith in
+    let g : n ≤ length ys = omega (arith, S .size, ap length (S .there), length-take n ys) in
+    rw (lent room ys a e h k l) (record {
+      long = length-laid room a ys f;
+      kept = before-laid room a ys f;
+      size = S .size;
+      there = ap (take n) (from-laid room a ys f) ∙ take-append-le n ys (drop (a + length ys) room) g ∙ S .there;
+    })

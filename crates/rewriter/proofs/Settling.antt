@@ -1,32 +1,36 @@
 -- The rounds: each is counted, and the last one changes nothing. And the call's answer.
 use mathlib.Core.Path.{_≡_, refl, sym, ap, _∙_}
+use mathlib.Core.Logic.{_⊎_, inl, inr}
 use Prim.Native.Nat.{ℕ, suc, _+_, _-_, _*_, _≤_, _<_}
 use mathlib.Core.List.{List, _++_}
 use mathlib.Core.Bool.{Bool, true, false, cond}
 use native.Mathlib.Omega.{arith}
 use native.Mathlib.Nat.{add-sub-cancel-left}
-use lib.ListN.{length, take, drop, replicate}
+use lib.ListN.{length, take, drop, replicate, length-drop}
 use lib.Dec.{leb}
 use borrow.Author.Tests.{le-leb, lt-leb}
 use Rattle.rules.specs.Numbers.{Refusal, number, Read, got, refused, need, onRead, andThen, shortRoom, rewriteRoom, rewriterBytes, rewriterDepth}
 use Rattle.rules.specs.Bytes.{Bytes, same}
 use Rattle.rules.specs.Query.{Query, equal}
-use Rattle.rules.specs.Stored.{encode}
-use Rattle.rules.specs.Checked.{Is}
+use Rattle.rules.specs.Stored.{encode, Valid}
+use Rattle.rules.specs.Checked.{Is, Stored}
 use Rattle.rules.specs.Reading.{numberOf, readForRewriting}
-use Rattle.rules.specs.Rewriting.{rewriteOnce, Rewritten, rewritten, oneRoundMore, rounds, rewrite, bulk, resultOf, countOf}
+use Rattle.rules.specs.Rewriting.{weight, rewriteOnce, Rewritten, rewritten, oneRoundMore, rewrite, bulk, resultOf, countOf}
 use Rattle.rules.specs.Answers.{zeros, leave, fitting, call, rewrittenReply, rewriteReply, rewriteLeft}
 use Rattle.rules.proofs.stored.Equal.{equal-eq, equal-bytes, same-eq, same-refl}
 use Rattle.rules.proofs.stored.Refusals.{number-got, number-not}
 use Rattle.rules.proofs.stored.Sound.{read-sound}
+use Rattle.rules.proofs.stored.Parts.{cut-from}
+use Rattle.rules.proofs.stored.Sizes.{length-encode}
 use Rattle.rules.proofs.rewriting.Measures.{bulk-is, measured, weight-length}
-use Rattle.rules.proofs.rewriting.Weights.{valid-once, any-fuel}
+use Rattle.rules.proofs.rewriting.Weights.{valid-once, one-weight, once-lighter, Made, last, more as more-made, made, rewrite-is}
 use Rattle.numbers.specs.Laid.{laid, Put}
 use Rattle.numbers.proofs.Laying.{laid-front}
 use Rattle.places.specs.Within.{within, Stands}
+use Rattle.measures.specs.Measure.{Weighs}
 use Rattle.round.specs.Once.{Room}
-use Rattle.rewriter.specs.Rounds.{Ready, Settled, left}
-use Rattle.places.proofs.Standing.{within-length, within-same, stands-put}
+use Rattle.rewriter.specs.Rounds.{Settled, left}
+use Rattle.places.proofs.Standing.{within-length, stands-put}
 use Rattle.merging.proofs.Forms.{is-same}
 use Rattle.round.proofs.Finishing.{moved}
 use Rattle.round.proofs.Nested.{once-bulk}
@@ -42,124 +46,143 @@ more-none (rewritten q n) = let z : 0 + n ≡ n = omega arith in ap (rewritten q
 more-one : (k : ℕ) (r : Rewritten) → more k (oneRoundMore r) ≡ more (k + 1) r
 more-one k (rewritten q n) = let z : k + suc n ≡ k + 1 + n = omega arith in ap (rewritten q) z
 
--- after `made` rounds the query now stands in the first len bytes, and at most `fuel` rounds are left
-pub record Settling (n : ℕ) (room₀ room : List ℕ) (len made fuel : ℕ) : Type 0 where
-  pub all : Ready n room₀
-  pub long : length room ≡ length room₀
+-- ---- one round more
+
+module _ (q : Query) (v : Valid q) where
+  once-last : weight (rewriteOnce q) ≡ weight q → rewriteOnce q ≡ q
+  once-last e = go (once-lighter q v)
+    where
+      go : (rewriteOnce q ≡ q) ⊎ (weight (rewriteOnce q) < weight q) → rewriteOnce q ≡ q
+      go (inl s) = s
+      go (inr l) = absurd (omega arith)
+
+  once-less : (weight (rewriteOnce q) ≡ weight q → ⊥) → weight (rewriteOnce q) < weight q
+  once-less n = go (once-lighter q v)
+    where
+      go : (rewriteOnce q ≡ q) ⊎ (weight (rewriteOnce q) < weight q) → weight (rewriteOnce q) < weight q
+      go (inl s) = absurd (n (ap weight s))
+      go (inr l) = l
+
+  rewrite-last : weight (rewriteOnce q) ≡ weight q → rewrite q ≡ rewritten (rewriteOnce q) 1
+  rewrite-last e = rewrite-is q v (rewritten (rewriteOnce q) 1) (last (once-last e))
+
+  rewrite-more : (weight (rewriteOnce q) ≡ weight q → ⊥) → rewrite q ≡ oneRoundMore (rewrite (rewriteOnce q))
+  rewrite-more n =
+      rewrite-is q v (oneRoundMore (rewrite (rewriteOnce q)))
+      (more-made (λ s. n (ap weight s)) (made (weight (rewriteOnce q)) (rewriteOnce q) (valid-once q v) (omega arith)))
+
+-- after `count` rounds the query now stands from t on, and weighs `left`
+pub record Settling (at : ℕ) (room₀ room : List ℕ) (t count left : ℕ) : Type 0 where
+  pub all : Room at room₀
   pub now : Query
-  pub is : Is (within 0 len room) now
-  pub low : len ≤ length room
-  pub same : rewrite (all .query) ≡ more made (rounds fuel now)
-  pub counted : made + fuel ≡ n
-  pub fits : 3 * bulk now ≤ length room
+  pub is : Is (drop t room) now
+  pub long : length room ≡ length room₀
+  pub same : rewrite (all .query) ≡ more count (rewrite now)
+  pub weighs : left ≡ weight now
+  pub few : count + left ≤ length room
+  pub fits : bulk now ≤ length room
   pub small : bulk now < 65536
 
-pub settling-start : {n : ℕ} {room : List ℕ} → Ready n room → Settling n room room n 0 n
-settling-start {n} {room} R =
-    let q = R .query in
-    let l : n ≡ length (encode q) = omega (arith, within-length room 0 n (omega arith) (R .low), ap length (R .is .form)) in
-    record {
-      all = R;
-      long = refl;
-      now = q;
-      is = R .is;
-      low = R .low;
-      same = sym (more-none (rounds n q) ∙ any-fuel q (R .is .valid) n (omega (arith, weight-length q)));
-      counted = omega arith;
-      fits = R .fits;
-      small = R .small;
-    }
+-- a query that stands up to the end of the room
+module _ (t : ℕ) (room : List ℕ) {q : Query} (i : Is (drop t room) q) where
+  tail-long : (length (encode q) ≡ length room - t) × (t + 3 ≤ length room)
+  tail-long = omega (arith, ap length (i .form), length-drop t room, length-encode q)
 
-module _ {n : ℕ} {room₀ room : List ℕ} {len made fuel : ℕ} (g : Settling n room₀ room len made fuel) where
-  pub size : (len ≡ length (encode (g .now))) × (len ≤ bulk (g .now))
-  size = omega (arith, within-length room 0 len (omega arith) (g .low), ap length (g .is .form), bulk-is (g .now))
+module _ {at : ℕ} {room : List ℕ} (R : Room at room) where
+  pub at-low : at + 3 ≤ length room
+  at-low = tail-long at room (R .is) .1
 
-  pub round-room : Room 0 len len room
-  round-room =
-      let s = size in
-      record { query = g .now; is = g .is; low = omega arith; below = omega arith; fits = omega (arith, g .fits); small = g .small }
+  bulk-fits : bulk (R .query) ≤ length room
+  bulk-fits = omega (arith, tail-long at room (R .is), bulk-is (R .query), R .fits)
 
-  pub done : fuel ≤ 0 → (q : Query) → Is (within 0 n room₀) q → Settled (resultOf (rewrite q)) (countOf (rewrite q)) len made room₀ room
-  unfolding rounds
-  done h q i =
-      let z : fuel ≡ 0 = omega arith in
-      let e : rewrite q ≡ rewritten (g .now) (made + 0) = ap rewrite (is-same i (g .all .is)) ∙ g .same ∙ ap (λ (k : ℕ). more made (rounds k (g .now))) z in
+  -- the whole of what is weighed first
+  first-is : Is (within at (length room) room) (R .query)
+  first-is = record { valid = R .is .valid; form = R .is .form ∙ sym (cut-from at room) }
+
+  pub first-stored : Stored (within at (length room) room)
+  first-stored = record { query = R .query; is = first-is }
+
+  pub settling-start : (w : ℕ) → Weighs (within at (length room) room) w → Settling at room room at 0 w
+  settling-start w s =
+      let e = s .weighs (R .query) first-is in
+      let l = tail-long at room (R .is) in
       record {
-        long = g .long;
-        low = g .low;
-        here = sym (g .is .form) ∙ ap (λ (r : Rewritten). encode (resultOf r)) (sym e);
-        rounds = omega (arith, ap countOf e);
+        all = R;
+        now = R .query;
+        is = R .is;
+        long = refl;
+        same = sym (more-none (rewrite (R .query)));
+        weighs = e;
+        few = omega (arith, weight-length (R .query));
+        fits = bulk-fits;
+        small = R .small;
       }
 
-  module _ (p : 0 < fuel) (m : ℕ) (room₁ : List ℕ) (S : Stands len room m (encode (rewriteOnce (g .now))) room₁) where
-    r : Query
-    r = rewriteOnce (g .now)
+module _ {at : ℕ} {room₀ room : List ℕ} {t count left : ℕ} (g : Settling at room₀ room t count left) where
+  pub round-room : Room t room
+  round-room = record { query = g .now; is = g .is; fits = omega (arith, tail-long t room (g .is), bulk-is (g .now), g .fits); small = g .small }
 
-    pub round-fits : (len + m ≤ length room₁) × (length room₁ ≡ length room)
-    round-fits =
-        let s = size in
-        let b = once-bulk (g .now) in
-        omega (arith, S .size, S .long, g .fits)
+  pub one-left : 1 ≤ left
+  one-left = omega (arith, g .weighs, one-weight (g .now))
 
-    old : within 0 len room₁ ≡ encode (g .now)
-    old = within-same room₁ room 0 len len (omega arith) (omega arith) (S .kept) ∙ sym (g .is .form)
+  module _ (m : ℕ) (room₁ : List ℕ) (rounds : (q : Query) → Is (drop t room) q → Stands 0 room m (encode (rewriteOnce q)) room₁) where
+    S : Stands 0 room m (encode (rewriteOnce (g .now))) room₁
+    S = rounds (g .now) (g .is)
 
-    new : within len (len + m) room₁ ≡ encode r
-    unfolding r
-    new = ap (λ (k : ℕ). take k (drop len room₁)) (add-sub-cancel-left len m) ∙ S .there
+    pub round-fits : (m ≤ length room₁) × (length room₁ ≡ length room)
+    round-fits = omega (arith, S .size, S .long, once-bulk (g .now), g .fits)
 
-    step : rounds fuel (g .now) ≡ cond (equal r (g .now)) (rewritten r 1) (oneRoundMore (rounds (fuel - 1) r))
-    unfolding rounds r
-    step = let z : fuel ≡ suc (fuel - 1) = omega arith in ap (λ (k : ℕ). rounds k (g .now)) z
+    front-is : Is (within 0 m room₁) (rewriteOnce (g .now))
+    front-is =
+        let z : m - 0 ≡ m = omega arith in
+        record { valid = valid-once (g .now) (g .is .valid); form = sym (ap (λ (k : ℕ). take k (drop 0 room₁)) z ∙ S .there) }
 
-    module _ (b : Bool) (eb : b ≡ same (within 0 len room₁) (within len (len + m) room₁)) where
-      compared : same (encode (g .now)) (encode r) ≡ b
-      compared = ap (λ (l : List ℕ). same l (encode r)) (sym old) ∙ ap (same (within 0 len room₁)) (sym new) ∙ sym eb
+    pub round-stored : Stored (within 0 m room₁)
+    round-stored = record { query = rewriteOnce (g .now); is = front-is }
 
-      pub round-last : b ≡ true → (q : Query) → Is (within 0 n room₀) q → Settled (resultOf (rewrite q)) (countOf (rewrite q)) len (made + 1) room₀ room₁
-      unfolding r
-      round-last t q i =
-          let s : encode (g .now) ≡ encode r = same-eq (encode (g .now)) (encode r) (compared ∙ t) in
-          let f : equal r (g .now) ≡ true =
-          equal-bytes r (g .now) (valid-once (g .now) (g .is .valid)) (g .is .valid) ∙ ap (λ (l : List ℕ). same l (encode (g .now))) (sym s) ∙ same-refl (encode (g .now)) in
-          let st : rounds fuel (g .now) ≡ rewritten r 1 = step ∙ rw f in
-          let e : rewrite q ≡ rewritten r (made + 1) = ap rewrite (is-same i (g .all .is)) ∙ g .same ∙ ap (more made) st in
-          let c = round-fits in
+    module _ (w : ℕ) (W : Weighs (within 0 m room₁) w) where
+      weighs-now : w ≡ weight (rewriteOnce (g .now))
+      weighs-now = W .weighs (rewriteOnce (g .now)) front-is
+
+      pub round-last : w ≡ left → (q : Query) → Is (drop at room₀) q → Settled (resultOf (rewrite q)) (countOf (rewrite q)) m (count + 1) room₁
+      round-last e q i =
+          let st = rewrite-last (g .now) (g .is .valid) (sym weighs-now ∙ e ∙ g .weighs) in
+          let r : rewrite q ≡ rewritten (rewriteOnce (g .now)) (count + 1) = ap rewrite (is-same i (g .all .is)) ∙ g .same ∙ ap (more count) st in
           record {
-            long = S .long ∙ g .long;
-            low = omega arith;
-            here = old ∙ s ∙ ap (λ (x : Rewritten). encode (resultOf x)) (sym e);
-            rounds = sym (ap countOf e);
+            low = round-fits .0;
+            here = sym (front-is .form) ∙ ap (λ (x : Rewritten). encode (resultOf x)) (sym r);
+            rounds = sym (ap countOf r);
           }
 
-      pub round-next : b ≡ false → (x : ℕ) (room₂ : List ℕ) → Put room₁ 0 (take m (drop len room₁)) x room₂ → Settling n room₀ room₂ m (made + 1) (fuel - 1)
-      unfolding r
-      round-next t x room₂ P =
-          let c = round-fits in
-          let T = moved len m P (S .there) (omega arith) (omega arith) in
-          let z : m - 0 ≡ m = omega arith in
-          let o = once-bulk (g .now) in
-          let l = T .long in
-          let f : equal r (g .now) ≡ false = differ (equal r (g .now)) refl in
-          let st : rounds fuel (g .now) ≡ oneRoundMore (rounds (fuel - 1) r) = step ∙ rw f in
-          record {
-            all = g .all;
-            long = T .long ∙ S .long ∙ g .long;
-            now = r;
-            is = record { valid = valid-once (g .now) (g .is .valid); form = sym (ap (λ (k : ℕ). take k (drop 0 room₂)) z ∙ T .there) };
-            low = omega arith;
-            same = g .same ∙ ap (more made) st ∙ more-one made (rounds (fuel - 1) r);
-            counted = omega (arith, g .counted);
-            fits = omega (arith, g .fits);
-            small = omega (arith, g .small);
-          }
-        where
-          differ : (x : Bool) → equal r (g .now) ≡ x → x ≡ false
-          differ false e = refl
-          differ true e =
-              let u : same (encode (g .now)) (encode r) ≡ true =
-              ap (λ (y : Query). same (encode (g .now)) (encode y)) (equal-eq r (g .now) e) ∙ same-refl (encode (g .now)) in
-              sym u ∙ compared ∙ t
+      module _ (n : w ≡ left → ⊥) where
+        differs : weight (rewriteOnce (g .now)) ≡ weight (g .now) → ⊥
+        differs e = n (weighs-now ∙ e ∙ sym (g .weighs))
+
+        pub lighter : w < left
+        lighter = omega (arith, once-less (g .now) (g .is .valid) differs, weighs-now, g .weighs)
+
+        pub round-next : {x : ℕ} {room₂ : List ℕ} → Put room₁ (length room₁ - m) (take m (drop 0 room₁)) x room₂ → Settling at room₀ room₂ (length room₁ - m) (count + 1) w
+        round-next {x} {room₂} P =
+            let f = round-fits in
+            let o = once-bulk (g .now) in
+            let l = lighter in
+            let T = moved 0 m P (S .there) (omega arith) (omega arith) in
+            let k = T .long in
+            let z : length room₂ - (length room₁ - m) ≡ m = omega arith in
+            record {
+              all = g .all;
+              now = rewriteOnce (g .now);
+              is = record {
+                valid = front-is .valid;
+                form = sym (sym (cut-from (length room₁ - m) room₂) ∙ ap (λ (i : ℕ). take i (drop (length room₁ - m) room₂)) z ∙ T .there);
+              };
+              long = T .long ∙ S .long ∙ g .long;
+              same = g .same ∙ ap (more count) (rewrite-more (g .now) (g .is .valid) differs) ∙ more-one count (rewrite (rewriteOnce (g .now)));
+              weighs = weighs-now;
+              few = omega (arith, g .few);
+              fits = omega (arith, g .fits);
+              small = omega (arith, g .small);
+            }
 
 -- ---- the call
 
@@ -191,57 +214,64 @@ module _ (s out room : List ℕ) where
       unfolding query
       is-query = let R = read-sound rewriterBytes rewriterDepth s (read .0) B (read .1) .1 in record { valid = R .valid; form = R .form }
 
-      sizes : (length s ≤ rewriterBytes) × (3 * bulk query ≤ rewriteRoom) × (bulk query < 65536)
+      sizes : (length s ≤ rewriterBytes) × (bulk query ≤ rewriteRoom) × (bulk query < 65536)
       unfolding query
       sizes =
           let l = read-sound rewriterBytes rewriterDepth s (read .0) B (read .1) .0 in
           omega (arith, measured query, bulk-is query, ap length (is-query .form))
 
-      pub room-for : 0 + length s ≤ length room
-      room-for = omega (arith, sizes)
+      pub room-for : (length s ≤ length room) × (length room - length s + length s ≤ length room)
+      room-for = let z = sizes in omega arith
 
-      pub is-there : (p : ℕ) (room₁ : List ℕ) → Put room 0 s p room₁ → Is (within 0 (length s) room₁) query
-      is-there p room₁ P =
-          let S = stands-put P (length s) refl room-for in
-          let y : length s - 0 ≡ length s = omega arith in
-          record { valid = is-query .valid; form = is-query .form ∙ sym (ap (λ (k : ℕ). take k (drop 0 room₁)) y ∙ S .there) }
+      -- where the query was laid
+      module _ {p : ℕ} {room₁ : List ℕ} (P : Put room (length room - length s) s p room₁) where
+        pub is-there : Is (drop (length room - length s) room₁) query
+        is-there =
+            let f = room-for in
+            let a = length room - length s in
+            let S = stands-put P (length s) refl (f .1) in
+            let l = S .long in
+            let z : length room₁ - (length room - length s) ≡ length s = omega arith in
+            record { valid = is-query .valid; form = is-query .form ∙ sym (sym (cut-from a room₁) ∙ ap (λ (k : ℕ). take k (drop a room₁)) z ∙ S .there) }
 
-      pub ready : (p : ℕ) (room₁ : List ℕ) → Put room 0 s p room₁ → Ready (length s) room₁
-      ready p room₁ P =
-          let S = stands-put P (length s) refl room-for in
-          let f = sizes in
-          record {
-            query = query;
-            is = is-there p room₁ P;
-            fits = omega (arith, S .long);
-            low = omega (arith, S .long);
-            small = f .2;
-          }
+        pub ready : Room (length room - length s) room₁
+        ready =
+            let f = sizes in
+            record { query = query; is = is-there; fits = omega (arith, bulk-is query, ap length (is-query .form), room-for); small = f .2 }
 
-      module _ (n k : ℕ) (room₁ room₂ : List ℕ) (S : Settled (resultOf (rewrite query)) (countOf (rewrite query)) n k room₁ room₂) where
-        answer : rewriteReply s ≡ got (rewrittenReply (rewrite query))
-        unfolding rewriteReply query
-        answer = rw (read .1)
+        module _ {n k : ℕ} {room₂ : List ℕ}
+            (settled : (q : Query) → Is (drop (length room - length s) room₁) q → Settled (resultOf (rewrite q)) (countOf (rewrite q)) n k room₂) where
+          result : Settled (resultOf (rewrite query)) (countOf (rewrite query)) n k room₂
+          result = settled query is-there
 
-        n-is : n ≡ length (encode (resultOf (rewrite query)))
-        n-is = sym (sym (ap length (S .here)) ∙ within-length room₂ 0 n (omega arith) (S .low) ∙ minus)
-          where
-            minus : n - 0 ≡ n
-            minus = omega arith
+          pub settled-low : (n ≤ length room₂) × (length (within 0 n room₂) ≡ n)
+          settled-low =
+              let z : n - 0 ≡ n = omega arith in
+              (result .low, within-length room₂ 0 n (omega arith) (result .low) ∙ z)
 
-        pub long-left : length out < n → left 18 0 0 out (zeros room) ≡ rewriteLeft s out room
-        unfolding rewriteLeft call
-        long-left l = rw (le-leb rewriteRoom (length room) h, answer) (go (rewrite query) (sym n-is))
-          where
-            go : (w : Rewritten) → length (encode (resultOf w)) ≡ n → left 18 0 0 out (zeros room) ≡ leave (fitting (length out) (rewrittenReply w)) out room
-            go (rewritten q j) e = rw (lt-leb (length (encode q)) (length out) (omega arith))
+          answer : rewriteReply s ≡ got (rewrittenReply (rewrite query))
+          unfolding rewriteReply query
+          answer = rw (read .1)
 
-        pub got-left : n ≤ length out → (p : ℕ) (out′ : List ℕ) → Put out 0 (within 0 n room₂) p out′ → left 0 n k out′ (zeros room) ≡ rewriteLeft s out room
-        unfolding rewriteLeft call
-        got-left l p out′ P = rw (le-leb rewriteRoom (length room) h, answer) (go (rewrite query) (S .here) (S .rounds) (sym n-is))
-          where
-            go : (w : Rewritten) → within 0 n room₂ ≡ encode (resultOf w) → k ≡ countOf w → length (encode (resultOf w)) ≡ n
-                → left 0 n k out′ (zeros room) ≡ leave (fitting (length out) (rewrittenReply w)) out room
-            go (rewritten q j) e c f =
-                let o : out′ ≡ encode q ++ drop (length (encode q)) out = P .bytes ∙ ap (laid out 0) e ∙ laid-front out (encode q) in
-                rw (le-leb (length (encode q)) (length out) (omega arith), o, c, f)
+          n-is : n ≡ length (encode (resultOf (rewrite query)))
+          n-is = sym (sym (ap length (result .here)) ∙ within-length room₂ 0 n (omega arith) (result .low) ∙ minus)
+            where
+              minus : n - 0 ≡ n
+              minus = omega arith
+
+          pub long-left : length out < n → left 18 0 0 out (zeros room) ≡ rewriteLeft s out room
+          unfolding rewriteLeft call
+          long-left l = rw (le-leb rewriteRoom (length room) h, answer) (go (rewrite query) (sym n-is))
+            where
+              go : (w : Rewritten) → length (encode (resultOf w)) ≡ n → left 18 0 0 out (zeros room) ≡ leave (fitting (length out) (rewrittenReply w)) out room
+              go (rewritten q j) e = rw (lt-leb (length (encode q)) (length out) (omega arith))
+
+          pub got-left : n ≤ length out → (p : ℕ) (out′ : List ℕ) → Put out 0 (within 0 n room₂) p out′ → left 0 n k out′ (zeros room) ≡ rewriteLeft s out room
+          unfolding rewriteLeft call
+          got-left l p out′ P = rw (le-leb rewriteRoom (length room) h, answer) (go (rewrite query) (result .here) (result .rounds) (sym n-is))
+            where
+              go : (w : Rewritten) → within 0 n room₂ ≡ encode (resultOf w) → k ≡ countOf w → length (encode (resultOf w)) ≡ n
+                  → left 0 n k out′ (zeros room) ≡ leave (fitting (length out) (rewrittenReply w)) out room
+              go (rewritten q j) e c f =
+                  let o : out′ ≡ encode q ++ drop (length (encode q)) out = P .bytes ∙ ap (laid out 0) e ∙ laid-front out (encode q) in
+                  rw (le-leb (length (encode q)) (length out) (omega arith), o, c, f)

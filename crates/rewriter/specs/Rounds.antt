@@ -1,28 +1,17 @@
 -- Rounds until one changes nothing, and the call's answer by its numbers.
 use mathlib.Core.Path.{_≡_}
-use Prim.Native.Nat.{ℕ, _*_, _≤_, _<_}
+use Prim.Native.Nat.{ℕ, _≤_}
 use mathlib.Core.List.{List}
 use lib.ListN.{length}
 use Rattle.rules.specs.Query.{Query}
 use Rattle.rules.specs.Stored.{encode}
-use Rattle.rules.specs.Checked.{Is}
 use Rattle.rules.specs.Answers.{Left}
-use Rattle.rules.specs.Rewriting.{bulk}
 use Rattle.places.specs.Within.{within}
 
--- a query in the first n bytes of the room, and space for its rounds
-pub record Ready (n : ℕ) (room : List ℕ) : Type 0 where
-  pub query : Query
-  pub is : Is (within 0 n room) query
-  pub fits : 3 * bulk query ≤ length room
-  pub low : n ≤ length room
-  pub small : bulk query < 65536
-
 -- the query p, made in k rounds, stands in the first n bytes
-pub record Settled (p : Query) (k n made : ℕ) (room room′ : List ℕ) : Type 0 where
-  pub long : length room′ ≡ length room
-  pub low : n ≤ length room′
-  pub here : within 0 n room′ ≡ encode p
+pub record Settled (p : Query) (k n made : ℕ) (room : List ℕ) : Type 0 where
+  pub low : n ≤ length room
+  pub here : within 0 n room ≡ encode p
   pub rounds : made ≡ k
 
 -- what the call leaves, by the numbers of its answer

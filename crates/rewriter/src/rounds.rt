@@ -1,48 +1,48 @@
 // Rounds, until one changes nothing; and the call.
+use measures::weight;
+use names::LONG_ANSWER;
+use names::REWRITE_ROOM;
+use names::SHORT_ROOM;
 use places::place::shift;
 use round::once::rewrite_once;
 use stored::read::for_rewriting;
 use stretches::clear;
 use stretches::copy;
-use stretches::same;
 ghost use mathlib.Core.Path.{_≡_};
+ghost use lib.ListN.{drop};
 ghost use Rattle.rules.specs.Query.{Query};
 ghost use Rattle.rules.specs.Checked.{Is};
 ghost use Rattle.rules.specs.Rewriting.{rewrite, resultOf, countOf};
 ghost use Rattle.rules.specs.Answers.{rewriteLeft};
-ghost use Rattle.places.specs.Within.{within};
-ghost use Rattle.rewriter.specs.Rounds.{Ready, Settled, left};
+ghost use Rattle.round.specs.Once.{Room};
+ghost use Rattle.rewriter.specs.Rounds.{Settled, left};
 
 pub struct Rounds {
     pub len: usize,
     pub rounds: usize,
 }
 
-// The query stands in the first n bytes, and so does what is left of it. A query has at least as many bytes as rounds, so that n is enough to count down from.
-fn rewrite_all(room: &mut [u8], n: usize) -> Rounds
-    requires { ⌜ Ready n (now room) ⌝ }
-    ensures { λ r. ⌜ ((q : Query) → Is (within 0 n (now (room .entry))) q → Settled (resultOf (rewrite q)) (countOf (rewrite q)) (r .len) (r .rounds) (now (room .entry)) (now (room .exit))) ⌝ }
+// The query stands from `at` on, and what is left of it ends up at the front. A round lowers the weight, or changes nothing and is the last.
+fn rewrite_all(room: &mut [u8], at: usize) -> Rounds
+    requires { ⌜ Room at (now room) ⌝ }
+    ensures { λ r. ⌜ ((q : Query) → Is (drop at (now (room .entry))) q → Settled (resultOf (rewrite q)) (countOf (rewrite q)) (r .len) (r .rounds) (now (room .exit))) ⌝ }
 {
-    let mut len = n;
+    let mut t = at;
     let mut made: usize = 0;
-    let mut left = n;
-    while 0 < left {
-        let m = rewrite_once(room, 0, len, len);
+    let mut left = weight(&room[at..]);
+    loop {
+        let m = rewrite_once(room, t);
         made += 1;
-        let e = len + m;
-        if same(&room[0..len], &room[len..e]) {
+        let w = weight(&room[0..m]);
+        if w == left {
             return Rounds {
-                len: len,
+                len: m,
                 rounds: made,
             };
         }
-        shift(room, 0, len, m);
-        len = m;
-        left -= 1;
-    }
-    Rounds {
-        len: len,
-        rounds: made,
+        t = room.len() - m;
+        shift(room, t, 0, m);
+        left = w;
     }
 }
 
@@ -56,10 +56,10 @@ pub struct Rewritten {
 pub fn rewrite(query: &[u8], out: &mut [u8], room: &mut [u8]) -> Rewritten
     ensures { λ r. ⌜ left (r .refusal) (r .len) (r .rounds) (now (out .exit)) (now (room .exit)) ≡ rewriteLeft (now (query .entry)) (now (out .entry)) (now (room .entry)) ⌝ }
 {
-    if room.len() < 114687 {
+    if room.len() < REWRITE_ROOM {
         clear(room);
         return Rewritten {
-            refusal: 32,
+            refusal: SHORT_ROOM,
             len: 0,
             rounds: 0,
         };
@@ -73,13 +73,14 @@ pub fn rewrite(query: &[u8], out: &mut [u8], room: &mut [u8]) -> Rewritten
             rounds: 0,
         };
     }
-    copy(room, 0, query);
-    let a = rewrite_all(room, query.len());
+    let at = room.len() - query.len();
+    copy(room, at, query);
+    let a = rewrite_all(room, at);
     let n = a.len;
     if out.len() < n {
         clear(room);
         return Rewritten {
-            refusal: 18,
+            refusal: LONG_ANSWER,
             len: 0,
             rounds: 0,
         };

@@ -20,9 +20,9 @@ use Rattle.numbers.specs.Laid.{laid, Put, header}
 use Rattle.numbers.proofs.Laying.{length-laid, there-laid, laid-over, laid-inside, put-then, put-body}
 use Rattle.places.specs.Within.{within, Stands}
 use Rattle.round.specs.Over.{Inner}
-use Rattle.places.proofs.Standing.{stands-laid, stands-put, stands-here, stands-before, within-length}
+use Rattle.places.proofs.Standing.{stands-laid, stands-put, stands-here, stands-before, within-length, behind-laid}
 use Rattle.merging.proofs.Forms.{long-of, kind-is}
-use Rattle.merging.proofs.Laid.{put-long, put-below}
+use Rattle.merging.proofs.Laid.{put-long}
 
 -- ---- what stands at a place, by its tag
 
@@ -82,9 +82,9 @@ scored-plain (range k f l u) n m o = refl
 
 -- ---- what is laid
 
-pub none-put : {room room₁ : List ℕ} {to p : ℕ} → Put room to (header 7 0) p room₁ → to + 3 ≤ length room → Stands to room 3 (encode matchNone) room₁
+pub none-put : {room room₁ : List ℕ} {p : ℕ} → Put room 0 (header 7 0) p room₁ → 3 ≤ length room → Stands 0 room p (encode matchNone) room₁
 unfolding encode
-none-put P h = stands-put P 3 refl h
+none-put {p = p} P h = stands-put P p (P .place) (omega (arith, P .place))
 
 -- something moved
 pub moved : {room room₁ : List ℕ} {to p : ℕ} {s : List ℕ} (a n : ℕ) → Put room to (take n (drop a room)) p room₁ → take n (drop a room) ≡ s → a + n ≤ length room → to + n ≤ length room
@@ -183,36 +183,38 @@ filter-laid {room} {room₁} {room₂} {room₃} {room₄} {to = to} {n = n} q S
     subst (λ (j : ℕ). Stands to room j (encode (boost 0 (constantScore q))) room₄) y
     (subst (λ (k : ℕ). Stands to room (3 + (4 + (3 + n))) (header boostTag k ++ (big 4 0 ++ encode (constantScore q))) room₄) e S₄)
 
--- ---- a term, of a field part and a text that stand below
+-- ---- a term, of a field part and a text that stand further up
 
-pub term-put : {room room₁ room₂ room₃ room₄ : List ℕ} {to p q r u : ℕ} (field wd from end : ℕ) → field ≤ wd → wd ≤ from → from ≤ end → end ≤ to
-    → to + 6 + (wd - field) + (end - from) ≤ length room
-    → Put room to (header termTag (wd - field + 3 + (end - from))) p room₁ → Put room₁ p (take (wd - field) (drop field room₁)) q room₂
+put-above : {room room₁ : List ℕ} {at p : ℕ} {s : List ℕ} → Put room at s p room₁ → at + length s ≤ length room → (a e : ℕ) → at + length s ≤ a → within a e room₁ ≡ within a e room
+put-above {room} {at = at} {s = s} P fits a e h = ap (within a e) (P .bytes) ∙ behind-laid room s a e at h fits
+
+pub term-put : {room room₁ room₂ room₃ room₄ : List ℕ} {p q r u : ℕ} (field wd from end : ℕ) → 3 ≤ field → field ≤ wd → wd + 3 ≤ from → from ≤ end → end ≤ length room
+    → Put room 0 (header termTag (wd - field + 3 + (end - from))) p room₁ → Put room₁ p (take (wd - field) (drop field room₁)) q room₂
     → Put room₂ q (header textTag (end - from)) r room₃ → Put room₃ r (take (end - from) (drop from room₃)) u room₄
-    → Put room to (part termTag (within field wd room ++ part textTag (within from end room))) u room₄
-term-put {room} {room₁} {room₂} {room₃} {to = to} {p = p} {q = q} field wd from end a b c d fits P Q R S =
+    → Put room 0 (part termTag (within field wd room ++ part textTag (within from end room))) u room₄
+term-put {room} {room₁} {room₂} {room₃} {p = p} {q = q} field wd from end l a b c d P Q R S =
     let f = within field wd room in
     let t = within from end room in
     let nf = within-length room field wd a (omega arith) in
-    let nt = within-length room from end c (omega arith) in
+    let nt = within-length room from end c d in
     let l₁ = put-long P (omega arith) in
-    let ep : p ≡ to + 3 = P .place in
-    let Q₂ = rw (put-below P (omega arith) field wd a (omega arith)) at Q in
+    let ep : p ≡ 3 = P .place in
+    let Q₂ = rw (put-above P (omega arith) field wd l) at Q in
     let l₂ = put-long Q₂ (omega arith) in
-    let eq : q ≡ to + 3 + (wd - field) = omega (arith, Q₂ .place) in
+    let eq : q ≡ 3 + (wd - field) = omega (arith, Q₂ .place) in
     let l₃ = put-long R (omega arith) in
     let same : within from end room₃ ≡ t =
-    put-below R (omega arith) from end c (omega arith) ∙ put-below Q₂ (omega arith) from end c (omega arith) ∙ put-below P (omega arith) from end c d in
+    put-above R (omega arith) from end (omega arith) ∙ put-above Q₂ (omega arith) from end (omega arith) ∙ put-above P (omega arith) from end (omega arith) in
     let T = put-body R (rw same at S) (sym nt) (omega arith) in
     put-body P (put-then Q₂ T (omega arith)) (omega (arith, length-append f (part textTag t))) (omega (arith, length-append f (part textTag t)))
 
 -- ---- the ways out of a boost and of a constant score
 
-pub inner-long : {h a n : ℕ} {room : List ℕ} → Inner h a n room → 3 ≤ n
-inner-long {h} {a} {n} {room} I = omega (arith, length-of room a n (I .query) (I .is) (I .fits), length-encode (I .query))
+pub inner-long : {a n : ℕ} {room : List ℕ} → Inner a n room → 3 ≤ n
+inner-long {a} {n} {room} I = omega (arith, length-of room a n (I .query) (I .is) (I .fits), length-encode (I .query))
 
-pub boost-long : {k a n : ℕ} {room : List ℕ} → Inner k a n room → getD room a 0 ≡ 4 → 7 ≤ n
-boost-long {k} {a} {n} {room} I h =
+pub boost-long : {a n : ℕ} {room : List ℕ} → Inner a n room → getD room a 0 ≡ 4 → 7 ≤ n
+boost-long {a} {n} {room} I h =
     let F = boost-form (I .query) (sym (tag-of room a n (I .query) (I .is)) ∙ h) in
     boost-inner room a n (F .0) (F .1) (subst (λ (q : Query). Is (take n (drop a room)) q) (F .2) (I .is)) (I .fits) .0
 

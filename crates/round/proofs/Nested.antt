@@ -2,30 +2,34 @@
 use mathlib.Core.Path.{_≡_, refl, sym, ap, _∙_, subst}
 use Prim.Native.Nat.{ℕ, _+_, _-_, _≤_, _<_}
 use mathlib.Core.List.{List, _++_}
-use mathlib.Core.Bool.{true, false}
+use mathlib.Core.Bool.{Bool, true, false}
 use native.Mathlib.Omega.{arith}
-use lib.ListN.{length, getD, take, drop, take-append-drop}
+use lib.ListN.{length, getD, take, drop, length-drop}
 use lib.Seq.{drop-drop}
-use Rattle.rules.specs.Numbers.{booleanTag, minimumTag, constantScoreTag}
-use Rattle.rules.specs.Bytes.{ofBig, big, part, tagOf}
+use Rattle.rules.specs.Bytes.{ofBig, tagOf}
 use Rattle.rules.specs.Query.{Word, Query, term, phrase, boolean, boost, constantScore, matchAll, matchNone, range, Clauses}
 use Rattle.rules.specs.Stored.{encode, encodes, Valid, Valids}
 use Rattle.rules.specs.Checked.{Is, Are}
 use Rattle.rules.specs.Floats.{widened, isOne}
-use Rattle.rules.specs.Rewriting.{boosted, scored, phrased, isDead, live, ofLive, rewriteBoolean, rewriteOnce, rewriteEach, bulk, bulks}
+use Rattle.rules.specs.Rewriting.{boosted, scored, phrased, isDead, live, ofLive, rewriteBoolean, rewriteOnce, rewriteEach, clauseCount, clauseCounts, bulk, bulks}
 use Rattle.rules.proofs.stored.Bigs.{read-big}
+use Rattle.rules.proofs.stored.Parts.{cut-from}
+use Rattle.rules.proofs.stored.Inverse.{boost-below}
+use Rattle.rules.proofs.stored.Sizes.{length-encode}
 use Rattle.rules.proofs.stored.Views.{View, v-phrase, v-boolean, at-tag}
 use Rattle.rules.proofs.rewriting.Measures.{bulk-is, bulks-are, measured}
 use Rattle.rules.proofs.rewriting.Bounds.{Bounded, BoundedAll, bounds-law}
 use Rattle.rules.proofs.rewriting.Weights.{Lightens, LightensAll, weight-law, valid-once}
 use Rattle.rules.proofs.rewriting.Walk.{once-law, each-law, live-law}
-use Rattle.numbers.specs.Laid.{Put, header}
+use Rattle.numbers.specs.Laid.{Put}
+use Rattle.numbers.proofs.Laying.{lent, length-laid}
 use Rattle.places.specs.Within.{within, Stands}
 use Rattle.round.specs.Over.{Inner, Phrase, Live}
-use Rattle.round.specs.Once.{Room, Rooms, Ended, Went}
-use Rattle.places.proofs.Standing.{second, lower, stands-over, within-length}
+use Rattle.round.specs.Once.{Room, Rooms, Went}
+use Rattle.places.proofs.Standing.{stands-over, stands-lent, within-length}
 use Rattle.merging.proofs.Forms.{is-same, long-of}
-use Rattle.round.proofs.Finishing.{tag-of, boost-form, score-form, boost-bits, boost-inner, moved}
+use Rattle.merging.proofs.Placed.{tag-at}
+use Rattle.round.proofs.Finishing.{boost-form, score-form, moved}
 
 -- ---- sizes
 
@@ -70,267 +74,320 @@ plain-form matchAll a b c d = refl
 plain-form matchNone a b c d = refl
 plain-form (range n f l u) a b c d = refl
 
--- a query of another form, nested in the first
-pub record BoostAt (at end : ℕ) (room : List ℕ) (q : Query) : Type 0 where
+-- ---- a stretch that was lent
+
+-- the room once the stretch from a up to its end came back as ys
+abbrev pub returned : ℕ → List ℕ → List ℕ → List ℕ
+returned a room ys = take a room ++ (ys ++ drop (length room - a) (drop a room))
+
+-- what stands from `at` on in the stretch that is lent from a on
+lent-drop : (room : List ℕ) (a at : ℕ) → drop at (within a (length room) room) ≡ drop (at + a) room
+lent-drop room a at = let z : a + at ≡ at + a = omega arith in ap (drop at) (cut-from a room) ∙ drop-drop at a room ∙ ap (λ (i : ℕ). drop i room) z
+
+module _ (room ys : List ℕ) (a : ℕ) (low : a ≤ length room) where
+  pub returned-stands : {n : ℕ} {s : List ℕ} → Stands 0 (within a (length room) room) n s ys → Stands a room n s (returned a room ys)
+  returned-stands S =
+      let all : length room ≤ length room = omega arith in
+      stands-lent room ys a (length room) low all (S .long ∙ within-length room a (length room) low all) S
+
+  pub returned-long : length ys ≡ length (within a (length room) room) → length (returned a room ys) ≡ length room
+  returned-long l =
+      let all : length room ≤ length room = omega arith in
+      let n = within-length room a (length room) low all in
+      ap length (lent room ys a (length room) low all (l ∙ n)) ∙ length-laid room a ys (omega arith)
+
+-- ---- a query of another form, nested in the first
+
+pub record BoostAt (at : ℕ) (room : List ℕ) (q : Query) : Type 0 where
   pub bits : ℕ
   pub inner : Query
   pub is : q ≡ boost bits inner
   pub read : ofBig (take 4 (drop (at + 3) room)) ≡ bits
-  pub low : at + 7 ≤ end
-  pub here : Is (within (at + 7) end room) inner
+  pub low : at + 10 ≤ length room
+  pub here : Is (drop (at + 7) room) inner
   pub size : bulk q ≡ 7 + bulk inner
+  pub count : clauseCount q ≡ clauseCount inner
 
-pub record ScoreAt (at end : ℕ) (room : List ℕ) (q : Query) : Type 0 where
+pub record ScoreAt (at : ℕ) (room : List ℕ) (q : Query) : Type 0 where
   pub inner : Query
   pub is : q ≡ constantScore inner
-  pub low : at + 3 ≤ end
-  pub here : Is (within (at + 3) end room) inner
+  pub low : at + 6 ≤ length room
+  pub here : Is (drop (at + 3) room) inner
   pub size : bulk q ≡ 3 + bulk inner
+  pub count : clauseCount q ≡ clauseCount inner
 
-pub record BooleanAt (at end : ℕ) (room : List ℕ) (q : Query) : Type 0 where
+pub record BooleanAt (at : ℕ) (room : List ℕ) (q : Query) : Type 0 where
   pub least : ℕ
   pub clauses : Clauses
   pub is : q ≡ boolean least clauses
   pub read : ofBig (take 2 (drop (at + 6) room)) ≡ least
-  pub low : at + 8 ≤ end
-  pub are : Are (within (at + 8) end room) clauses
+  pub low : at + 8 ≤ length room
+  pub are : Are (drop (at + 8) room) clauses
   pub size : bulk q ≡ 8 + bulks clauses
+  pub count : clauseCount q ≡ clauseCounts clauses
 
-module _ {at end to : ℕ} {room : List ℕ} (R : Room at end to room) where
-  pub inside : (at + 3 ≤ end) × (end ≤ length room) × (end - at ≡ length (encode (R .query))) × (end - at ≤ bulk (R .query))
-  inside =
-      let f : end ≤ length room = omega (arith, R .below, R .fits) in
-      let l = within-length room at end (R .low) f in
-      omega (arith, long-of (R .is), ap length (R .is .form), bulk-is (R .query), R .low)
+module _ {at : ℕ} {room : List ℕ} (R : Room at room) where
+  pub inside : (at + 3 ≤ length room) × (length room - at ≡ length (encode (R .query))) × (length room - at ≤ bulk (R .query))
+  inside = omega (arith, long-of (R .is), ap length (R .is .form), length-drop at room, bulk-is (R .query))
 
   pub tag-here : getD room at 0 ≡ tagOf (encode (R .query))
-  tag-here = tag-of room at (end - at) (R .query) (R .is)
+  tag-here = tag-at room (encode (R .query)) at (sym (R .is .form))
 
   -- what is shown of it is shown of each query that has these bytes
-  pub for-all : {r : ℕ} {room′ : List ℕ} → Stands to room r (encode (rewriteOnce (R .query))) room′
-      → (q : Query) → Is (within at end room) q → Stands to room r (encode (rewriteOnce q)) room′
-  for-all {r} {room′} S q i = subst (λ (x : Query). Stands to room r (encode (rewriteOnce x)) room′) (is-same (R .is) i) S
+  pub for-all : {r : ℕ} {room′ : List ℕ} → Stands 0 room r (encode (rewriteOnce (R .query))) room′
+      → (q : Query) → Is (drop at room) q → Stands 0 room r (encode (rewriteOnce q)) room′
+  for-all {r} {room′} S q i = subst (λ (x : Query). Stands 0 room r (encode (rewriteOnce x)) room′) (is-same (R .is) i) S
+
+  -- as a query of the form that its tag shows
+  as-form : {q : Query} → R .query ≡ q → Is (drop at room) q
+  as-form e = subst (λ (q : Query). Is (drop at room) q) e (R .is)
+
+  -- a number that is read at a place of it
+  read-at : (n k : ℕ) → ofBig (take n (within (at + k) (length room) room)) ≡ ofBig (take n (drop (at + k) room))
+  read-at n k = ap (λ (l : List ℕ). ofBig (take n l)) (cut-from (at + k) room)
 
   -- ---- a phrase
 
-  pub phrase-here : getD room at 0 ≡ 2 → Phrase at end to room
-  phrase-here h =
-      let F = phrase-form (R .query) (sym tag-here ∙ h) in
-      let l = within-length room at end (R .low) (inside .1) in
-      record {
-        field = F .0;
-        words = F .1;
-        is = subst (λ (q : Query). Is (within at end room) q) (F .2) (R .is);
-        low = R .low;
-        below = R .below;
-        fits = omega (arith, inside, R .fits);
-        small = omega (arith, inside, R .small);
-      }
+  module _ (h : getD room at 0 ≡ 2) where
+    pub phrase-here : Phrase at room
+    phrase-here =
+        let F = phrase-form (R .query) (sym tag-here ∙ h) in
+        record {
+          field = F .0;
+          words = F .1;
+          is = as-form (F .2);
+          low = omega (arith, inside);
+          small = omega (arith, inside, R .small);
+        }
 
-  pub phrase-done : getD room at 0 ≡ 2 → (r : ℕ) (room′ : List ℕ)
-      → ((f : List ℕ) (ws : List Word) → Is (within at end room) (phrase f ws) → Stands to room r (encode (phrased f ws)) room′) → Stands to room r (encode (rewriteOnce (R .query))) room′
-  unfolding rewriteOnce
-  phrase-done h r room′ S =
-      let F = phrase-form (R .query) (sym tag-here ∙ h) in
-      subst (λ (q : Query). Stands to room r (encode (rewriteOnce q)) room′) (sym (F .2)) (S (F .0) (F .1) (subst (λ (q : Query). Is (within at end room) q) (F .2) (R .is)))
+    pub phrase-done : {r : ℕ} {room′ : List ℕ} → ((f : List ℕ) (ws : List Word) → Is (drop at room) (phrase f ws) → Stands 0 room r (encode (phrased f ws)) room′)
+        → (q : Query) → Is (drop at room) q → Stands 0 room r (encode (rewriteOnce q)) room′
+    unfolding rewriteOnce
+    phrase-done {r} {room′} S =
+        let F = phrase-form (R .query) (sym tag-here ∙ h) in
+        for-all (subst (λ (q : Query). Stands 0 room r (encode (rewriteOnce q)) room′) (sym (F .2)) (S (F .0) (F .1) (as-form (F .2))))
 
   -- ---- a boost
 
-  pub boost-at : getD room at 0 ≡ 4 → BoostAt at end room (R .query)
-  unfolding Valid bulk
+  boost-at : getD room at 0 ≡ 4 → BoostAt at room (R .query)
+  unfolding Valid bulk clauseCount encode
   boost-at h =
       let F = boost-form (R .query) (sym tag-here ∙ h) in
-      let i = subst (λ (q : Query). Is (within at end room) q) (F .2) (R .is) in
-      let z : at + (end - at) ≤ length room = omega (arith, inside) in
-      let n = boost-inner room at (end - at) (F .0) (F .1) i z in
-      let y : end - (at + 7) ≡ end - at - 7 = omega arith in
+      let i = as-form (F .2) in
       record {
         bits = F .0;
         inner = F .1;
         is = F .2;
-        read = boost-bits room at (end - at) (F .0) (F .1) i;
-        low = omega (arith, n .0, inside);
-        here = record { valid = i .valid .1; form = sym (ap (λ (k : ℕ). take k (drop (at + 7) room)) y ∙ n .1) };
+        read = ap (λ (l : List ℕ). ofBig (take 4 l)) (sym (drop-drop 3 at room) ∙ ap (drop 3) (sym (i .form))) ∙ read-big 4 (F .0) (boost-below (F .0) (i .valid .0));
+        low = omega (arith, ap length (i .form), length-drop at room, length-encode (F .1));
+        here = record { valid = i .valid .1; form = ap (drop 7) (i .form) ∙ drop-drop 7 at room };
         size = ap bulk (F .2);
+        count = ap clauseCount (F .2);
       }
 
-  module _ (B : BoostAt at end room (R .query)) where
-    pub boost-room-one : Room (at + 7) end to room
-    boost-room-one = record {
-      query = B .inner;
-      is = B .here;
-      low = B .low;
-      below = R .below;
-      fits = omega (arith, R .fits, B .size);
-      small = omega (arith, R .small, B .size);
-    }
+  module _ (h : getD room at 0 ≡ 4) where
+    B : BoostAt at room (R .query)
+    B = boost-at h
 
-    pub boost-room : Room (at + 7) end (to + 7) room
-    boost-room = record {
-      query = B .inner;
-      is = B .here;
-      low = B .low;
-      below = omega (arith, R .below);
-      fits = omega (arith, R .fits, B .size);
-      small = omega (arith, R .small, B .size);
-    }
+    pub boost-low : at + 10 ≤ length room
+    boost-low = B .low
 
-    pub boost-one : (b : ℕ) → b ≡ ofBig (take 4 (drop (at + 3) room)) → isOne (widened b) ≡ true → {r : ℕ} {room′ : List ℕ}
-        → Stands to room r (encode (rewriteOnce (B .inner))) room′ → Stands to room r (encode (rewriteOnce (R .query))) room′
-    unfolding rewriteOnce
-    boost-one b eb o {r} {room′} S =
-        let z : isOne (widened (B .bits)) ≡ true = ap (λ (x : ℕ). isOne (widened x)) (sym (eb ∙ B .read)) ∙ o in
-        subst (λ (q : Query). Stands to room r (encode (rewriteOnce q)) room′) (sym (B .is)) (rw z S)
+    pub boost-room-one : Room (at + 7) room
+    boost-room-one = record { query = B .inner; is = B .here; fits = omega (arith, R .fits, B .count); small = omega (arith, R .small, B .size) }
 
-    module _ {n : ℕ} {room₁ : List ℕ} (S : Stands (to + 7) room n (encode (rewriteOnce (B .inner))) room₁) where
-      pub boost-inside : Inner 7 (to + 7) n room₁
+    boost-lent : Is (drop at (within 7 (length room) room)) (B .inner)
+    boost-lent = record { valid = B .here .valid; form = B .here .form ∙ sym (lent-drop room 7 at) }
+
+    pub boost-room : Room at (within 7 (length room) room)
+    boost-room = record { query = B .inner; is = boost-lent; fits = omega (arith, R .fits, B .count); small = omega (arith, R .small, B .size) }
+
+    module _ (b : ℕ) (eb : b ≡ ofBig (take 4 (within (at + 3) (length room) room))) (o : Bool) (eo : o ≡ isOne (widened b)) where
+      test : isOne (widened (B .bits)) ≡ o
+      test = ap (λ (x : ℕ). isOne (widened x)) (sym (eb ∙ read-at 4 3 ∙ B .read)) ∙ sym eo
+
+      pub boost-one : o ≡ true → {r : ℕ} {room′ : List ℕ} → ((q : Query) → Is (drop (at + 7) room) q → Stands 0 room r (encode (rewriteOnce q)) room′)
+          → (q : Query) → Is (drop at room) q → Stands 0 room r (encode (rewriteOnce q)) room′
+      unfolding rewriteOnce
+      boost-one t {r} {room′} S =
+          for-all (subst (λ (q : Query). Stands 0 room r (encode (rewriteOnce q)) room′) (sym (B .is)) (rw (test ∙ t) (S (B .inner) (B .here))))
+
+    -- the stretch from 7 on came back as ys
+    module _ {n : ℕ} {ys : List ℕ} (T : (q : Query) → Is (drop at (within 7 (length room) room)) q → Stands 0 (within 7 (length room) room) n (encode (rewriteOnce q)) ys) where
+      S : Stands 7 room n (encode (rewriteOnce (B .inner))) (returned 7 room ys)
+      S = let l = B .low in returned-stands room ys 7 (omega arith) (T (B .inner) boost-lent)
+
+      boost-is : Is (take n (drop 7 (returned 7 room ys))) (rewriteOnce (B .inner))
+      boost-is = record { valid = valid-once (B .inner) (B .here .valid); form = sym (S .there) }
+
+      pub boost-inside : Inner 7 n (returned 7 room ys)
       boost-inside =
           let b = once-bulk (B .inner) in
           record {
             query = rewriteOnce (B .inner);
-            is = record { valid = valid-once (B .inner) (B .here .valid); form = sym (S .there) };
-            fits = omega (arith, S .size, S .long, R .fits, B .size);
+            is = boost-is;
+            fits = omega (arith, S .size, S .long, R .fits, B .size, B .count, inside, bulk-is (R .query));
             small = omega (arith, S .size, R .small, B .size);
           }
 
-      pub boost-done : (b : ℕ) → b ≡ ofBig (take 4 (drop (at + 3) room)) → isOne (widened b) ≡ false → (r : ℕ) (room₂ : List ℕ)
-          → ((q : Query) → Is (take n (drop (to + 7) room₁)) q → Stands to room₁ r (encode (boosted b q)) room₂) → Stands to room r (encode (rewriteOnce (R .query))) room₂
+      pub boost-done : (b : ℕ) → b ≡ ofBig (take 4 (within (at + 3) (length room) room)) → (o : Bool) → o ≡ isOne (widened b) → o ≡ false → {r : ℕ} {room₂ : List ℕ}
+          → ((q : Query) → Is (take n (drop 7 (returned 7 room ys))) q → Stands 0 (returned 7 room ys) r (encode (boosted b q)) room₂)
+          → (q : Query) → Is (drop at room) q → Stands 0 room r (encode (rewriteOnce q)) room₂
       unfolding rewriteOnce
-      boost-done b eb o r room₂ T =
-          let e = eb ∙ B .read in
-          let z : isOne (widened (B .bits)) ≡ false = ap (λ (x : ℕ). isOne (widened x)) (sym e) ∙ o in
-          let U = stands-over S (T (rewriteOnce (B .inner)) (record { valid = valid-once (B .inner) (B .here .valid); form = sym (S .there) })) (omega arith) in
-          subst (λ (q : Query). Stands to room r (encode (rewriteOnce q)) room₂) (sym (B .is))
-          (rw z (subst (λ (x : ℕ). Stands to room r (encode (boosted x (rewriteOnce (B .inner)))) room₂) e U))
+      boost-done b eb o eo f {r} {room₂} U =
+          let e = eb ∙ read-at 4 3 ∙ B .read in
+          let X = stands-over S (U (rewriteOnce (B .inner)) boost-is) (omega arith) in
+          for-all (subst (λ (q : Query). Stands 0 room r (encode (rewriteOnce q)) room₂) (sym (B .is))
+          (rw (test b eb o eo ∙ f) (subst (λ (x : ℕ). Stands 0 room r (encode (boosted x (rewriteOnce (B .inner)))) room₂) e X)))
 
   -- ---- a constant score
 
-  pub score-at : getD room at 0 ≡ 5 → ScoreAt at end room (R .query)
-  unfolding Valid bulk encode
+  score-at : getD room at 0 ≡ 5 → ScoreAt at room (R .query)
+  unfolding Valid bulk clauseCount encode
   score-at h =
       let F = score-form (R .query) (sym tag-here ∙ h) in
-      let i = subst (λ (q : Query). Is (within at end room) q) (F .1) (R .is) in
+      let i = as-form (F .1) in
       record {
         inner = F .0;
         is = F .1;
-        low = inside .0;
-        here = record {
-          valid = i .valid;
-          form = sym (second room at end (header constantScoreTag (length (encode (F .0)))) (encode (F .0)) (R .low) (inside .1) (sym (i .form)));
-        };
+        low = omega (arith, ap length (i .form), length-drop at room, length-encode (F .0));
+        here = record { valid = i .valid; form = ap (drop 3) (i .form) ∙ drop-drop 3 at room };
         size = ap bulk (F .1);
+        count = ap clauseCount (F .1);
       }
 
-  module _ (C : ScoreAt at end room (R .query)) where
-    pub score-room : Room (at + 3) end (to + 3) room
-    score-room = record {
-      query = C .inner;
-      is = C .here;
-      low = C .low;
-      below = omega (arith, R .below);
-      fits = omega (arith, R .fits, C .size);
-      small = omega (arith, R .small, C .size);
-    }
+  module _ (h : getD room at 0 ≡ 5) where
+    C : ScoreAt at room (R .query)
+    C = score-at h
 
-    module _ {n : ℕ} {room₁ : List ℕ} (S : Stands (to + 3) room n (encode (rewriteOnce (C .inner))) room₁) where
-      pub score-inside : Inner 3 (to + 3) n room₁
+    pub score-low : at + 6 ≤ length room
+    score-low = C .low
+
+    score-lent : Is (drop at (within 3 (length room) room)) (C .inner)
+    score-lent = record { valid = C .here .valid; form = C .here .form ∙ sym (lent-drop room 3 at) }
+
+    pub score-room : Room at (within 3 (length room) room)
+    score-room = record { query = C .inner; is = score-lent; fits = omega (arith, R .fits, C .count); small = omega (arith, R .small, C .size) }
+
+    -- the stretch from 3 on came back as ys
+    module _ {n : ℕ} {ys : List ℕ} (T : (q : Query) → Is (drop at (within 3 (length room) room)) q → Stands 0 (within 3 (length room) room) n (encode (rewriteOnce q)) ys) where
+      S₃ : Stands 3 room n (encode (rewriteOnce (C .inner))) (returned 3 room ys)
+      S₃ = let l = C .low in returned-stands room ys 3 (omega arith) (T (C .inner) score-lent)
+
+      score-is : Is (take n (drop 3 (returned 3 room ys))) (rewriteOnce (C .inner))
+      score-is = record { valid = valid-once (C .inner) (C .here .valid); form = sym (S₃ .there) }
+
+      pub score-inside : Inner 3 n (returned 3 room ys)
       score-inside =
           let b = once-bulk (C .inner) in
           record {
             query = rewriteOnce (C .inner);
-            is = record { valid = valid-once (C .inner) (C .here .valid); form = sym (S .there) };
-            fits = omega (arith, S .size, S .long, R .fits, C .size);
-            small = omega (arith, S .size, R .small, C .size);
+            is = score-is;
+            fits = omega (arith, S₃ .size, S₃ .long, R .fits, C .size, C .count, inside, bulk-is (R .query));
+            small = omega (arith, S₃ .size, R .small, C .size);
           }
 
-      pub score-done : (r : ℕ) (room₂ : List ℕ)
-          → ((q : Query) → Is (take n (drop (to + 3) room₁)) q → Stands to room₁ r (encode (scored q)) room₂) → Stands to room r (encode (rewriteOnce (R .query))) room₂
+      pub score-done : {r : ℕ} {room₂ : List ℕ}
+          → ((q : Query) → Is (take n (drop 3 (returned 3 room ys))) q → Stands 0 (returned 3 room ys) r (encode (scored q)) room₂)
+          → (q : Query) → Is (drop at room) q → Stands 0 room r (encode (rewriteOnce q)) room₂
       unfolding rewriteOnce
-      score-done r room₂ T =
-          subst (λ (q : Query). Stands to room r (encode (rewriteOnce q)) room₂) (sym (C .is))
-          (stands-over S (T (rewriteOnce (C .inner)) (record { valid = valid-once (C .inner) (C .here .valid); form = sym (S .there) })) (omega arith))
+      score-done {r} {room₂} U =
+          for-all (subst (λ (q : Query). Stands 0 room r (encode (rewriteOnce q)) room₂) (sym (C .is)) (stands-over S₃ (U (rewriteOnce (C .inner)) score-is) (omega arith)))
 
   -- ---- a Boolean
 
-  pub boolean-at : getD room at 0 ≡ 3 → BooleanAt at end room (R .query)
-  unfolding Valid bulk encode
+  boolean-at : getD room at 0 ≡ 3 → BooleanAt at room (R .query)
+  unfolding Valid bulk clauseCount encode
   boolean-at h =
       let F = boolean-form (R .query) (sym tag-here ∙ h) in
-      let m = F .0 in
-      let cs = F .1 in
-      let i = subst (λ (q : Query). Is (within at end room) q) (F .2) (R .is) in
-      let hd = header booleanTag (length (part minimumTag (big 2 m) ++ encodes cs)) ++ part minimumTag (big 2 m) in
-      let e : drop at room ≡ encode (boolean m cs) ++ drop (end - at) (drop at room) =
-      sym (take-append-drop (end - at) (drop at room)) ∙ ap {B = List ℕ} (λ l. l ++ drop (end - at) (drop at room)) (sym (i .form)) in
+      let i = as-form (F .2) in
       record {
-        least = m;
-        clauses = cs;
+        least = F .0;
+        clauses = F .1;
         is = F .2;
-        read = ap (λ (l : List ℕ). ofBig (take 2 l)) (sym (drop-drop 6 at room) ∙ ap (drop 6) e) ∙ read-big 2 m (i .valid .0);
-        low = omega (arith, inside, ap (λ (q : Query). length (encode q)) (F .2));
-        are = record { valid = i .valid .1; form = sym (second room at end hd (encodes cs) (R .low) (inside .1) (sym (i .form))) };
+        read = ap (λ (l : List ℕ). ofBig (take 2 l)) (sym (drop-drop 6 at room) ∙ ap (drop 6) (sym (i .form))) ∙ read-big 2 (F .0) (i .valid .0);
+        low = omega (arith, ap length (i .form), length-drop at room);
+        are = record { valid = i .valid .1; form = ap (drop 8) (i .form) ∙ drop-drop 8 at room };
         size = ap bulk (F .2);
+        count = ap clauseCount (F .2);
       }
 
-  module _ (B : BooleanAt at end room (R .query)) where
-    pub boolean-rooms : Rooms (at + 8) end (to + 8) room
-    boolean-rooms = record {
-      clauses = B .clauses;
-      are = B .are;
-      low = B .low;
-      below = omega (arith, R .below);
-      fits = omega (arith, R .fits, B .size);
-      small = omega (arith, R .small, B .size);
-    }
+  module _ (h : getD room at 0 ≡ 3) where
+    D : BooleanAt at room (R .query)
+    D = boolean-at h
 
-    pub boolean-dead : {r : ℕ} {room₁ room₂ : List ℕ} → Ended (to + 8) room room₁ (B .clauses) → Stands to room₁ r (encode matchNone) room₂
-        → Stands to room r (encode (rewriteOnce (R .query))) room₂
-    unfolding rewriteOnce rewriteBoolean
-    boolean-dead {r} {room₁} {room₂} E T =
-        let U : Stands to room r (encode matchNone) room₂ = record {
-          long = T .long ∙ E .long;
-          kept = T .kept ∙ lower room₁ room to (to + 8) (omega arith) (E .kept);
-          size = T .size;
-          there = T .there;
-        } in
-        subst (λ (q : Query). Stands to room r (encode (rewriteOnce q)) room₂) (sym (B .is)) (rw (E .dead) U)
+    pub boolean-low : at + 8 ≤ length room
+    boolean-low = D .low
 
-    module _ {w : ℕ} {room₁ : List ℕ} (G : Went (to + 8) room w room₁ (B .clauses)) (m : ℕ) (em : m ≡ ofBig (take 2 (drop (at + 6) room))) where
-      alive : Clauses
-      alive = live (rewriteEach (B .clauses))
+    boolean-lent : Are (drop at (within 8 (length room) room)) (D .clauses)
+    boolean-lent = record { valid = D .are .valid; form = D .are .form ∙ sym (lent-drop room 8 at) }
 
-      alive-are : Are (within (to + 8) w room₁) alive
-      unfolding alive
-      alive-are = record { valid = live-valid (B .clauses) (G .alive) (B .are .valid); form = sym (G .stands .there) }
+    pub boolean-rooms : Rooms at (within 8 (length room) room)
+    boolean-rooms =
+        let l = D .low in
+        record {
+          clauses = D .clauses;
+          are = boolean-lent;
+          low = omega (arith, within-length room 8 (length room) (omega arith) (omega arith));
+          fits = omega (arith, R .fits, D .count);
+          small = omega (arith, R .small, D .size);
+        }
 
-      pub boolean-live : m < 65536 → Live (to + 8) w m room₁
-      unfolding alive
-      boolean-live l =
-          let b = live-bulk (B .clauses) (G .alive) in
-          let n = bulks-are (live (rewriteEach (B .clauses))) in
+    -- the stretch from 8 on came back as ys
+    module _ (ys : List ℕ) (long : length ys ≡ length (within 8 (length room) room)) where
+      pub boolean-long : length (returned 8 room ys) ≡ length room
+      boolean-long = let l = D .low in returned-long room ys 8 (omega arith) long
+
+      pub boolean-dead : ((cs : Clauses) → Are (drop at (within 8 (length room) room)) cs → isDead (rewriteEach cs) ≡ true) → {r : ℕ} {room₂ : List ℕ}
+          → Stands 0 (returned 8 room ys) r (encode matchNone) room₂ → (q : Query) → Is (drop at room) q → Stands 0 room r (encode (rewriteOnce q)) room₂
+      unfolding rewriteOnce rewriteBoolean
+      boolean-dead E {r} {room₂} T =
+          let U : Stands 0 room r (encode matchNone) room₂ = record { long = T .long ∙ boolean-long; kept = refl; size = T .size; there = T .there } in
+          for-all (subst (λ (q : Query). Stands 0 room r (encode (rewriteOnce q)) room₂) (sym (D .is)) (rw (E (D .clauses) boolean-lent) U))
+
+    module _ {w : ℕ} {ys : List ℕ} (T : (cs : Clauses) → Are (drop at (within 8 (length room) room)) cs → Went w (within 8 (length room) room) ys cs)
+        (m : ℕ) (em : (m ≡ ofBig (take 2 (within (at + 6) (length room) room))) × (m < 65536)) where
+      S₈ : Stands 8 room w (encodes (live (rewriteEach (D .clauses)))) (returned 8 room ys)
+      S₈ = let l = D .low in returned-stands room ys 8 (omega arith) (T (D .clauses) boolean-lent .stands)
+
+      alive-are : Are (within 8 (8 + w) (returned 8 room ys)) (live (rewriteEach (D .clauses)))
+      alive-are =
+          let z : 8 + w - 8 ≡ w = omega arith in
           record {
-            clauses = alive;
-            are = alive-are;
-            low = omega (arith, G .place);
-            fits = omega (arith, G .place, G .stands .long, R .fits, B .size);
-            small = omega (arith, R .small, B .size);
-            least = l;
+            valid = live-valid (D .clauses) (T (D .clauses) boolean-lent .alive) (D .are .valid);
+            form = sym (ap (λ (n : ℕ). take n (drop 8 (returned 8 room ys))) z ∙ S₈ .there);
           }
 
-      pub boolean-done : (r : ℕ) (room₂ : List ℕ) → ((cs : Clauses) → Are (within (to + 8) w room₁) cs → Stands to room₁ r (encode (ofLive m cs)) room₂)
-          → Stands to room r (encode (rewriteOnce (R .query))) room₂
-      unfolding rewriteOnce rewriteBoolean alive
-      boolean-done r room₂ T =
-          let e = em ∙ B .read in
-          let U = stands-over (G .stands) (T alive alive-are) (omega arith) in
-          subst (λ (q : Query). Stands to room r (encode (rewriteOnce q)) room₂) (sym (B .is))
-          (rw (G .alive) (subst (λ (x : ℕ). Stands to room r (encode (ofLive x (live (rewriteEach (B .clauses))))) room₂) e U))
+      pub boolean-live : Live (8 + w) m (returned 8 room ys)
+      boolean-live =
+          let b = live-bulk (D .clauses) (T (D .clauses) boolean-lent .alive) in
+          let n = bulks-are (live (rewriteEach (D .clauses))) in
+          let i = inside in
+          let q = bulk-is (R .query) in
+          record {
+            clauses = live (rewriteEach (D .clauses));
+            are = alive-are;
+            low = omega arith;
+            high = omega (arith, S₈ .size, S₈ .long, R .fits, D .size, D .count);
+            fits = omega (arith, S₈ .long, R .fits, D .size, D .count);
+            small = omega (arith, R .small, D .size);
+            least = em .1;
+          }
+
+      pub boolean-done : {r : ℕ} {room₂ : List ℕ}
+          → ((cs : Clauses) → Are (within 8 (8 + w) (returned 8 room ys)) cs → Stands 0 (returned 8 room ys) r (encode (ofLive m cs)) room₂)
+          → (q : Query) → Is (drop at room) q → Stands 0 room r (encode (rewriteOnce q)) room₂
+      unfolding rewriteOnce rewriteBoolean
+      boolean-done {r} {room₂} U =
+          let e = em .0 ∙ read-at 2 6 ∙ D .read in
+          let X = stands-over S₈ (U (live (rewriteEach (D .clauses))) alive-are) (omega arith) in
+          for-all (subst (λ (q : Query). Stands 0 room r (encode (rewriteOnce q)) room₂) (sym (D .is))
+          (rw (T (D .clauses) boolean-lent .alive) (subst (λ (x : ℕ). Stands 0 room r (encode (ofLive x (live (rewriteEach (D .clauses))))) room₂) e X)))
 
   -- ---- all others
 
   pub plain-done : (getD room at 0 ≡ 2 → ⊥) → (getD room at 0 ≡ 3 → ⊥) → (getD room at 0 ≡ 4 → ⊥) → (getD room at 0 ≡ 5 → ⊥) → {p : ℕ} {room′ : List ℕ}
-      → Put room to (take (end - at) (drop at room)) p room′ → Stands to room (end - at) (encode (rewriteOnce (R .query))) room′
+      → Put room 0 (take (length room - at) (drop at room)) p room′ → (q : Query) → Is (drop at room) q → Stands 0 room (length room - at) (encode (rewriteOnce q)) room′
   plain-done a b c d P =
       let t = tag-here in
       let e = plain-form (R .query) (λ z. a (t ∙ z)) (λ z. b (t ∙ z)) (λ z. c (t ∙ z)) (λ z. d (t ∙ z)) in
-      rw e (moved at (end - at) P (sym (R .is .form)) (omega (arith, inside)) (omega (arith, inside, R .fits)))
+      for-all (rw e (moved at (length room - at) P (cut-from at room ∙ sym (R .is .form)) (omega (arith, inside)) (omega (arith, inside))))

@@ -10,6 +10,7 @@ use Rattle.rules.specs.Query.{Word, word, phrase, term, matchNone}
 use Rattle.rules.specs.Stored.{encode, encodeWords}
 use Rattle.rules.specs.Checked.{Is}
 use Rattle.rules.specs.Rewriting.{phrased}
+use Rattle.rules.proofs.stored.Parts.{cut-from}
 use Rattle.numbers.specs.Laid.{header, Put}
 use Rattle.places.specs.Within.{within, Stands}
 use Rattle.round.specs.Over.{Phrase}
@@ -119,25 +120,30 @@ module _ (room : List ℕ) (at end : ℕ) (f : List ℕ) (ws : List Word) (i : I
           go (v ∷ vs) h = refl
 
 -- what a phrase's record says of its places
-pub phrase-room : {at end to : ℕ} {room : List ℕ} → Phrase at end to room → (end ≤ length room) × (at + 6 ≤ end) × (to + (end - at) ≤ length room) × (end - at < 65536)
-phrase-room {at} {end} {to} {room} P =
-    let f : end ≤ length room = omega (arith, P .below, P .fits) in
-    let l = within-length room at end (P .low) f in
-    let n = phrase-long room at end (P .field) (P .words) (P .is) (P .low) f in
-    omega (arith, P .fits, P .small)
+module _ {at : ℕ} {room : List ℕ} (P : Phrase at room) where
+  -- what is shown of the stretch up to the end of the room is shown of what stands from `at` on
+  pub phrase-at : (f : List ℕ) (ws : List Word) → Is (drop at room) (phrase f ws) → Is (within at (length room) room) (phrase f ws)
+  phrase-at f ws i = record { valid = i .valid; form = i .form ∙ sym (cut-from at room) }
+
+  pub own-phrase : Is (within at (length room) room) (phrase (P .field) (P .words))
+  own-phrase = phrase-at (P .field) (P .words) (P .is)
+
+  pub phrase-room : (at + 6 ≤ length room) × (length room - at < 65536)
+  phrase-room = (omega (arith, phrase-long room at (length room) (P .field) (P .words) own-phrase (P .low) (omega arith)), P .small)
 
 -- the term that was put in the place of a phrase of one word
-pub one-word-stands : (room : List ℕ) (at end : ℕ) (f : List ℕ) (ws : List Word) (i : Is (within at end room) (phrase f ws)) (low : at ≤ end) (fits : end ≤ length room)
-    (w : ℕ) (ew : w ≡ at + 3 + 3 + sizeOf (drop (at + 3) room)) (n : w ≡ end → ⊥) (v : ℕ) → v ≡ w + 3 + sizeOf (drop w room) → v ≡ end
-    → (to : ℕ) → to + (end - at) ≤ length room → {p : ℕ} {room′ : List ℕ}
-    → Put room to (part termTag (within (at + 3) w room ++ part textTag (within (w + 7) end room))) p room′ → Stands to room (p - to) (encode (phrased f ws)) room′
-one-word-stands room at end f ws i low fits w ew n v ev e to space P =
-    let F = first-word room at end f ws i low fits w ew n in
-    let pl = words-place room at end f ws i low fits w ew in
+pub one-word-stands : (room : List ℕ) (at : ℕ) (f : List ℕ) (ws : List Word) (i : Is (within at (length room) room) (phrase f ws)) (low : at ≤ length room)
+    (w : ℕ) (ew : w ≡ at + 3 + 3 + sizeOf (drop (at + 3) room)) (n : w ≡ length room → ⊥) (v : ℕ) → v ≡ w + 3 + sizeOf (drop w room) → v ≡ length room → {p : ℕ} {room′ : List ℕ}
+    → Put room 0 (part termTag (within (at + 3) w room ++ part textTag (within (w + 7) (length room) room))) p room′ → Stands 0 room p (encode (phrased f ws)) room′
+one-word-stands room at f ws i low w ew n v ev e {p} P =
+    let end = length room in
+    let all : end ≤ length room = omega arith in
+    let F = first-word room at end f ws i low all w ew n in
+    let pl = words-place room at end f ws i low all w ew in
     let top = F .top in
     let x = within (at + 3) w room in
     let y = within (w + 7) end room in
     let lx = within-length room (at + 3) w (omega arith) (omega arith) in
-    let ly = within-length room (w + 7) end (omega arith) fits in
+    let ly = within-length room (w + 7) end (omega arith) all in
     let l = length-append x (part textTag y) in
-    rw (one-word room at end f ws i low fits w ew F v ev e) (stands-put P _ (omega (arith, P .place)) (omega (arith, P .place)))
+    rw (one-word room at end f ws i low all w ew F v ev e) (stands-put P p (omega (arith, P .place)) (omega (arith, P .place)))

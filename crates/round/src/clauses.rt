@@ -1,4 +1,8 @@
 // What a row of stored clauses shows: which kinds it has, and whether it is one clause.
+use names::FILTER_TAG;
+use names::MUST_NOT_TAG;
+use names::MUST_TAG;
+use names::SHOULD_TAG;
 use parts::part::rest;
 ghost use mathlib.Core.Path.{_≡_};
 ghost use mathlib.Core.Bool.{true};
@@ -13,7 +17,7 @@ ghost use Rattle.round.specs.Clauses.{isOneClause};
 pub fn is_needed(k: u8) -> bool
     ensures { λ r. ⌜ ((j : Kind) → kindTag j ≡ k → r ≡ isNeeded j) ⌝ }
 {
-    if k == 0x20 { true } else { k == 0x23 }
+    if k == MUST_TAG { true } else { k == FILTER_TAG }
 }
 
 // Are all the clauses MustNot?
@@ -23,7 +27,7 @@ pub fn only_must_not(s: &[u8]) -> bool
 {
     let mut t = s;
     while t.len() > 0 {
-        if t[0] != 0x22 {
+        if t[0] != MUST_NOT_TAG {
             return false;
         }
         let u = rest(t);
@@ -51,7 +55,7 @@ fn counted(k: u8, n: usize) -> usize
     requires { ⌜ n < 18446744073709551615 ⌝ }
     ensures { λ r. ⌜ ((j : Kind) → kindTag j ≡ k → r ≡ n + ifShould j) × (r ≤ n + 1) ⌝ }
 {
-    if k == 0x21 { n + 1 } else { n }
+    if k == SHOULD_TAG { n + 1 } else { n }
 }
 
 // Is it one clause?

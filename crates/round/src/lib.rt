@@ -1,4 +1,4 @@
-// One round of the rewriter: a stored query is rewritten once, children first, behind itself in one lent room.
+// One round of the rewriter: a stored query is rewritten once, children first, in place.
 mod clauses;
 pub mod once;
 mod over;

@@ -1,5 +1,6 @@
-// One round, children first: what stands below `to` is read and never changed, and the result is laid at `to`.
-// Each nested query is rewritten into its own stretch, a few bytes further up, and finished there in place.
+// One round, children first, in place: the query stands at the end of the lent room, and its rewriting is laid at the front.
+// What is laid never passes what is still to be read: there is a byte of space before the query for each of its clauses, and a round
+// raises bytes and clauses together never. A nested query is lent its own stretch, from where its rewriting goes up to where it ends.
 use crate::clauses::is_needed;
 use crate::over::boost_over;
 use crate::over::phrase_over;
@@ -7,78 +8,90 @@ use crate::over::put_none;
 use crate::over::rewrite_boolean;
 use crate::over::score_over;
 use floats::sums::is_one_bits;
+use names::BOOLEAN_FRONT;
+use names::BOOLEAN_TAG;
+use names::BOOST_FRONT;
+use names::BOOST_TAG;
+use names::CONSTANT_SCORE_TAG;
+use names::HEADER;
+use names::MATCH_NONE_TAG;
+use names::PHRASE_TAG;
 use numbers::big2;
 use numbers::big4;
 use parts::write::put_header;
 use places::ends::end_of;
 use places::place::shift;
-ghost use Prim.Native.Nat.{_-_};
+ghost use lib.ListN.{drop};
 ghost use Rattle.rules.specs.Query.{Query, Clauses};
 ghost use Rattle.rules.specs.Stored.{encode};
 ghost use Rattle.rules.specs.Checked.{Is, Are};
 ghost use Rattle.rules.specs.Rewriting.{rewriteOnce};
-ghost use Rattle.places.specs.Within.{within, Stands};
+ghost use Rattle.places.specs.Within.{Stands};
 ghost use Rattle.round.specs.Once.{Room, Rooms, Rewritten};
+
+// Where a Boolean's minimum stands.
+const LEAST: usize = HEADER + HEADER;
 
 enum Kept {
     Dead,
     Upto(usize),
 }
 
-// The clauses from `at` up to `end`, each after its own round, without those that are MatchNone.
-fn rewrite_clauses(room: &mut [u8], at: usize, end: usize, to: usize) -> Kept
-    requires { ⌜ Rooms at end to (now room) ⌝ }
-    ensures { λ r. ⌜ ((cs : Clauses) → Are (within at end (now (room .entry))) cs → Rewritten to (now (room .entry)) r (now (room .exit)) cs) ⌝ }
+// The clauses from `at` on, each after its own round, without those that are MatchNone.
+fn rewrite_clauses(room: &mut [u8], at: usize) -> Kept
+    requires { ⌜ Rooms at (now room) ⌝ }
+    ensures { λ r. ⌜ ((cs : Clauses) → Are (drop at (now (room .entry))) cs → Rewritten (now (room .entry)) r (now (room .exit)) cs) ⌝ }
 {
     let mut t = at;
-    let mut w = to;
-    while t < end {
+    let mut w = 0;
+    while t < room.len() {
         let k = room[t];
         let e = end_of(room, t);
-        let n = rewrite_once(room, t + 3, e, w + 3);
-        if room[w + 3] == 7 {
+        let n = rewrite_once(&mut room[w + HEADER..e], t - w);
+        if room[w + HEADER] == MATCH_NONE_TAG {
             if is_needed(k) {
                 return Kept::Dead;
             }
         } else {
             put_header(room, w, k, n);
-            w = w + 3 + n;
+            w = w + HEADER + n;
         }
         t = e;
     }
     Kept::Upto(w)
 }
 
-pub fn rewrite_once(room: &mut [u8], at: usize, end: usize, to: usize) -> usize
-    requires { ⌜ Room at end to (now room) ⌝ }
-    ensures { λ r. ⌜ ((q : Query) → Is (within at end (now (room .entry))) q → Stands to (now (room .entry)) r (encode (rewriteOnce q)) (now (room .exit))) ⌝ }
+// The query from `at` on.
+pub fn rewrite_once(room: &mut [u8], at: usize) -> usize
+    requires { ⌜ Room at (now room) ⌝ }
+    ensures { λ r. ⌜ ((q : Query) → Is (drop at (now (room .entry))) q → Stands 0 (now (room .entry)) r (encode (rewriteOnce q)) (now (room .exit))) ⌝ }
 {
     let tag = room[at];
     match tag {
-        2 => phrase_over(room, at, end, to),
-        3 => {
-            let least = big2(&room[at + 6..]);
-            let r = rewrite_clauses(room, at + 8, end, to + 8);
+        PHRASE_TAG => phrase_over(room, at),
+        BOOLEAN_TAG => {
+            let least = big2(&room[at + LEAST..]);
+            let r = rewrite_clauses(&mut room[BOOLEAN_FRONT..], at);
             match r {
-                Kept::Dead => put_none(room, to),
-                Kept::Upto(w) => rewrite_boolean(room, to, w, least),
+                Kept::Dead => put_none(room),
+                Kept::Upto(w) => rewrite_boolean(room, BOOLEAN_FRONT + w, least),
             }
         }
-        4 => {
-            let b = big4(&room[at + 3..]);
+        BOOST_TAG => {
+            let b = big4(&room[at + HEADER..]);
             if is_one_bits(b) {
-                return rewrite_once(room, at + 7, end, to);
+                return rewrite_once(room, at + BOOST_FRONT);
             }
-            let n = rewrite_once(room, at + 7, end, to + 7);
-            boost_over(room, to, n, b)
+            let n = rewrite_once(&mut room[BOOST_FRONT..], at);
+            boost_over(room, n, b)
         }
-        5 => {
-            let n = rewrite_once(room, at + 3, end, to + 3);
-            score_over(room, to, n)
+        CONSTANT_SCORE_TAG => {
+            let n = rewrite_once(&mut room[HEADER..], at);
+            score_over(room, n)
         }
         _ => {
-            let n = end - at;
-            shift(room, to, at, n);
+            let n = room.len() - at;
+            shift(room, 0, at, n);
             n
         }
     }

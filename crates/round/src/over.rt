@@ -1,10 +1,24 @@
-// What one round makes of a query whose inside had its own round, and stands at its place behind `to`.
-// No function here calls itself: each finishes in place what a nested call laid a few bytes further up.
+// What one round makes of a query whose inside had its own round, and stands a few bytes behind the front of the room.
+// No function here calls itself: each lays at the front what a nested call laid further up.
 use crate::clauses::is_single;
 use crate::clauses::only_must_not;
 use crate::clauses::should_count;
 use floats::sums::product;
 use merging::merge::merge_clauses;
+use names::BOOLEAN_FRONT;
+use names::BOOLEAN_TAG;
+use names::BOOST_BYTES;
+use names::BOOST_FRONT;
+use names::BOOST_TAG;
+use names::CONSTANT_SCORE_TAG;
+use names::FILTER_TAG;
+use names::HEADER;
+use names::MATCH_NONE_TAG;
+use names::MINIMUM_BYTES;
+use names::MUST_NOT_TAG;
+use names::POSITION_BYTES;
+use names::TERM_TAG;
+use names::TEXT_TAG;
 use numbers::big4;
 use numbers::put_big4;
 use parts::write::put_header;
@@ -20,143 +34,151 @@ ghost use Rattle.rules.specs.Query.{Word, Kind, Query, phrase, boolean, matchNo
 ghost use Rattle.rules.specs.Stored.{encode};
 ghost use Rattle.rules.specs.Checked.{Is, Are};
 ghost use Rattle.rules.specs.Rewriting.{boosted, scored, phrased, lone, ofLive};
-ghost use Rattle.rules.specs.ByPlace.{mergedByPlace};
+ghost use Rattle.rules.specs.Eating.{mergedClauses};
 ghost use Rattle.numbers.specs.Laid.{Put};
 ghost use Rattle.places.specs.Within.{within, Stands};
 ghost use Rattle.round.specs.Over.{Inner, Phrase, Live, Lone};
 
-pub fn put_none(room: &mut [u8], to: usize) -> usize
-    requires { ⌜ to + 3 ≤ length (now room) ⌝ }
-    ensures { λ r. ⌜ Stands to (now (room .entry)) r (encode matchNone) (now (room .exit)) ⌝ }
+// Where the bits of a boost stand that was laid under a boost, and what a boost under a constant score holds.
+const INNER_BITS: usize = BOOST_FRONT + HEADER;
+
+// What stands before a word's text, before the query of a lone clause, and before one that is scored 0; a minimum with its header.
+const WORD_FRONT: usize = HEADER + POSITION_BYTES;
+
+const LONE_FRONT: usize = BOOLEAN_FRONT + HEADER;
+
+const SCORED_FRONT: usize = BOOST_FRONT + HEADER;
+
+const MINIMUM: usize = HEADER + MINIMUM_BYTES;
+
+pub fn put_none(room: &mut [u8]) -> usize
+    requires { ⌜ 3 ≤ length (now room) ⌝ }
+    ensures { λ r. ⌜ Stands 0 (now (room .entry)) r (encode matchNone) (now (room .exit)) ⌝ }
 {
-    put_header(room, to, 7, 0);
-    3
+    put_header(room, 0, MATCH_NONE_TAG, 0)
 }
 
-// Boost b of the query of n bytes at to + 7. A nested boost is one product.
-pub fn boost_over(room: &mut [u8], to: usize, n: usize, b: u32) -> usize
-    requires { ⌜ Inner 7 (to + 7) n (now room) ⌝ }
-    ensures { λ r. ⌜ ((q : Query) → Is (take n (drop (to + 7) (now (room .entry)))) q → Stands to (now (room .entry)) r (encode (boosted b q)) (now (room .exit))) ⌝ }
+// Boost b of the query of n bytes at 7. A nested boost is one product.
+pub fn boost_over(room: &mut [u8], n: usize, b: u32) -> usize
+    requires { ⌜ Inner 7 n (now room) ⌝ }
+    ensures { λ r. ⌜ ((q : Query) → Is (take n (drop 7 (now (room .entry)))) q → Stands 0 (now (room .entry)) r (encode (boosted b q)) (now (room .exit))) ⌝ }
 {
-    let tag = room[to + 7];
-    if tag == 7 {
-        return put_none(room, to);
+    let tag = room[BOOST_FRONT];
+    if tag == MATCH_NONE_TAG {
+        return put_none(room);
     }
-    if tag == 4 {
-        let c = big4(&room[to + 10..]);
-        shift(room, to, to + 7, n);
-        put_big4(room, to + 3, product(c, b));
+    if tag == BOOST_TAG {
+        let c = big4(&room[INNER_BITS..]);
+        shift(room, 0, BOOST_FRONT, n);
+        put_big4(room, HEADER, product(c, b));
         return n;
     }
-    let p = put_header(room, to, 4, 4 + n);
+    let p = put_header(room, 0, BOOST_TAG, BOOST_BYTES + n);
     put_big4(room, p, b);
-    7 + n
+    BOOST_FRONT + n
 }
 
-// ConstantScore of the query of n bytes at to + 3.
-pub fn score_over(room: &mut [u8], to: usize, n: usize) -> usize
-    requires { ⌜ Inner 3 (to + 3) n (now room) ⌝ }
-    ensures { λ r. ⌜ ((q : Query) → Is (take n (drop (to + 3) (now (room .entry)))) q → Stands to (now (room .entry)) r (encode (scored q)) (now (room .exit))) ⌝ }
+// ConstantScore of the query of n bytes at 3.
+pub fn score_over(room: &mut [u8], n: usize) -> usize
+    requires { ⌜ Inner 3 n (now room) ⌝ }
+    ensures { λ r. ⌜ ((q : Query) → Is (take n (drop 3 (now (room .entry)))) q → Stands 0 (now (room .entry)) r (encode (scored q)) (now (room .exit))) ⌝ }
 {
-    let tag = room[to + 3];
-    if tag == 7 {
-        return put_none(room, to);
+    let tag = room[HEADER];
+    if tag == MATCH_NONE_TAG {
+        return put_none(room);
     }
-    if tag == 5 {
-        shift(room, to, to + 3, n);
+    if tag == CONSTANT_SCORE_TAG {
+        shift(room, 0, HEADER, n);
         return n;
     }
-    if tag == 4 {
-        shift(room, to + 3, to + 10, n - 7);
-        put_header(room, to, 5, n - 7);
-        return n - 4;
+    if tag == BOOST_TAG {
+        shift(room, HEADER, INNER_BITS, n - BOOST_FRONT);
+        put_header(room, 0, CONSTANT_SCORE_TAG, n - BOOST_FRONT);
+        return n - BOOST_BYTES;
     }
-    put_header(room, to, 5, n);
-    3 + n
+    put_header(room, 0, CONSTANT_SCORE_TAG, n);
+    HEADER + n
 }
 
 // The term with the field part from `field` up to `word`, and the text of the word that stands from there up to the end.
-fn term_over(room: &mut [u8], field: usize, word: usize, end: usize, to: usize) -> usize
-    requires { ⌜ (field ≤ word) × (word + 7 ≤ end) × (end ≤ to) × (to + 6 + (word - field) + (end - (word + 7)) ≤ length (now room)) × (3 + (word - field) + (end - (word + 7)) < 65536) ⌝ }
-    ensures { λ r. ⌜ Put (now (room .entry)) to (part termTag (within field word (now (room .entry)) ++ part textTag (within (word + 7) end (now (room .entry))))) r (now (room .exit)) ⌝ }
+fn term_over(room: &mut [u8], field: usize, word: usize) -> usize
+    requires { ⌜ (3 ≤ field) × (field ≤ word) × (word + 7 ≤ length (now room)) × (3 + (word - field) + (length (now room) - (word + 7)) < 65536) ⌝ }
+    ensures { λ r. ⌜ Put (now (room .entry)) 0 (part termTag (within field word (now (room .entry)) ++ part textTag (within (word + 7) (length (now (room .entry))) (now (room .entry))))) r (now (room .exit)) ⌝ }
 {
     let f = word - field;
-    let from = word + 7;
-    let t = end - from;
-    let p = put_header(room, to, 1, f + 3 + t);
+    let from = word + WORD_FRONT;
+    let t = room.len() - from;
+    let p = put_header(room, 0, TERM_TAG, f + HEADER + t);
     let q = shift(room, p, field, f);
-    let r = put_header(room, q, 0x11, t);
+    let r = put_header(room, q, TEXT_TAG, t);
     shift(room, r, from, t)
 }
 
-// A phrase of no word is MatchNone, and one of one word a term.
-pub fn phrase_over(room: &mut [u8], at: usize, end: usize, to: usize) -> usize
-    requires { ⌜ Phrase at end to (now room) ⌝ }
-    ensures { λ r. ⌜ ((f : List ℕ) (ws : List Word) → Is (within at end (now (room .entry))) (phrase f ws) → Stands to (now (room .entry)) r (encode (phrased f ws)) (now (room .exit))) ⌝ }
+// The phrase from `at` on: one of no word is MatchNone, and one of one word a term.
+pub fn phrase_over(room: &mut [u8], at: usize) -> usize
+    requires { ⌜ Phrase at (now room) ⌝ }
+    ensures { λ r. ⌜ ((f : List ℕ) (ws : List Word) → Is (drop at (now (room .entry))) (phrase f ws) → Stands 0 (now (room .entry)) r (encode (phrased f ws)) (now (room .exit))) ⌝ }
 {
-    let words = end_of(room, at + 3);
+    let end = room.len();
+    let words = end_of(room, at + HEADER);
     if words == end {
-        return put_none(room, to);
+        return put_none(room);
     }
     if end_of(room, words) == end {
-        let e = term_over(room, at + 3, words, end, to);
-        return e - to;
+        return term_over(room, at + HEADER, words);
     }
     let n = end - at;
-    shift(room, to, at, n);
+    shift(room, 0, at, n);
     n
 }
 
-// One clause, from to + 8 up to the end, with a minimum of at most 1.
-fn put_lone(room: &mut [u8], to: usize, end: usize) -> usize
-    requires { ⌜ Lone to end (now room) ⌝ }
-    ensures { λ r. ⌜ ((k : Kind) (q : Query) → Are (within (to + 8) end (now (room .entry))) (clause k q none) → Stands to (now (room .entry)) r (encode (lone k q)) (now (room .exit))) ⌝ }
+// One clause, from 8 up to the end, with a minimum of at most 1.
+fn put_lone(room: &mut [u8], end: usize) -> usize
+    requires { ⌜ Lone end (now room) ⌝ }
+    ensures { λ r. ⌜ ((k : Kind) (q : Query) → Are (within 8 end (now (room .entry))) (clause k q none) → Stands 0 (now (room .entry)) r (encode (lone k q)) (now (room .exit))) ⌝ }
 {
-    let k = room[to + 8];
-    let from = to + 11;
-    let n = end - from;
-    if k == 0x22 {
-        return put_none(room, to);
+    let k = room[BOOLEAN_FRONT];
+    let n = end - LONE_FRONT;
+    if k == MUST_NOT_TAG {
+        return put_none(room);
     }
-    if k == 0x23 {
-        shift(room, to + 10, from, n);
-        put_header(room, to + 7, 5, n);
-        put_big4(room, to + 3, 0);
-        put_header(room, to, 4, 7 + n);
-        return 10 + n;
+    if k == FILTER_TAG {
+        shift(room, SCORED_FRONT, LONE_FRONT, n);
+        put_header(room, BOOST_FRONT, CONSTANT_SCORE_TAG, n);
+        put_big4(room, HEADER, 0);
+        put_header(room, 0, BOOST_TAG, BOOST_FRONT + n);
+        return SCORED_FRONT + n;
     }
-    shift(room, to, from, n);
+    shift(room, 0, LONE_FRONT, n);
     n
 }
 
-fn put_merged_boolean(room: &mut [u8], to: usize, end: usize, least: usize) -> usize
-    requires { ⌜ Live (to + 8) end least (now room) ⌝ }
-    ensures { λ r. ⌜ ((cs : Clauses) → Are (within (to + 8) end (now (room .entry))) cs → Stands to (now (room .entry)) r (encode (boolean least (mergedByPlace least none cs))) (now (room .exit))) ⌝ }
+fn put_merged_boolean(room: &mut [u8], end: usize, least: usize) -> usize
+    requires { ⌜ Live end least (now room) ⌝ }
+    ensures { λ r. ⌜ ((cs : Clauses) → Are (within 8 end (now (room .entry))) cs → Stands 0 (now (room .entry)) r (encode (boolean least (mergedClauses least cs))) (now (room .exit))) ⌝ }
 {
-    let n = merge_clauses(room, to + 8, end, least);
-    shift(room, to + 8, end, n);
-    put_minimum(room, to + 3, least);
-    put_header(room, to, 3, 5 + n);
-    8 + n
+    let n = merge_clauses(&mut room[BOOLEAN_FRONT..], end - BOOLEAN_FRONT, least);
+    put_minimum(room, HEADER, least);
+    put_header(room, 0, BOOLEAN_TAG, MINIMUM + n);
+    BOOLEAN_FRONT + n
 }
 
-// A Boolean, of clauses after their own round, from to + 8 up to the end.
-pub fn rewrite_boolean(room: &mut [u8], to: usize, end: usize, least: usize) -> usize
-    requires { ⌜ Live (to + 8) end least (now room) ⌝ }
-    ensures { λ r. ⌜ ((cs : Clauses) → Are (within (to + 8) end (now (room .entry))) cs → Stands to (now (room .entry)) r (encode (ofLive least cs)) (now (room .exit))) ⌝ }
+// A Boolean, of clauses after their own round, from 8 up to the end.
+pub fn rewrite_boolean(room: &mut [u8], end: usize, least: usize) -> usize
+    requires { ⌜ Live end least (now room) ⌝ }
+    ensures { λ r. ⌜ ((cs : Clauses) → Are (within 8 end (now (room .entry))) cs → Stands 0 (now (room .entry)) r (encode (ofLive least cs)) (now (room .exit))) ⌝ }
 {
-    let from = to + 8;
-    if only_must_not(&room[from..end]) {
-        return put_none(room, to);
+    if only_must_not(&room[BOOLEAN_FRONT..end]) {
+        return put_none(room);
     }
-    if should_count(&room[from..end]) < least {
-        return put_none(room, to);
+    if should_count(&room[BOOLEAN_FRONT..end]) < least {
+        return put_none(room);
     }
     if least > 1 {
-        return put_merged_boolean(room, to, end, least);
+        return put_merged_boolean(room, end, least);
     }
-    if is_single(&room[from..end]) {
-        return put_lone(room, to, end);
+    if is_single(&room[BOOLEAN_FRONT..end]) {
+        return put_lone(room, end);
     }
-    put_merged_boolean(room, to, end, least)
+    put_merged_boolean(room, end, least)
 }

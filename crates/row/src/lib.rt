@@ -1,4 +1,4 @@
-// The row of tokens in the room, for who parses it: kind, place, text and note of a token, and the field in force.
+// The row of tokens in the room, for who parses it: kind, text and note of a token, and the field in force.
 use names::END_KIND;
 use names::TEXT_MOST;
 ghost use mathlib.Core.Path.{_≡_};
@@ -54,14 +54,6 @@ pub fn kind_at(room: &[u8], n: usize, i: usize) -> u8
     } else {
         END_KIND
     }
-}
-
-// Where the token at i of n starts in the text.
-pub fn place_at(room: &[u8], n: usize, i: usize) -> usize
-    requires { ⌜ (i < n) × (n ≤ textMost) × (roomLeast ≤ length (now room)) ⌝ }
-    ensures { λ r. ⌜ r ≡ tokenOf (tokensOf (now (room .entry)) n) i .place ⌝ }
-{
-    start_at(room, i)
 }
 
 // The unescaped text of the token at i.

@@ -9,6 +9,6 @@ pub mod Weights
 pub mod Merging
 pub mod Tidiness
 pub mod Truth
-pub mod Places
+pub mod Eating
 pub mod Worked
 pub mod Spans

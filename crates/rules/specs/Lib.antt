@@ -14,7 +14,7 @@ pub mod Parsing
 pub mod Floats
 pub mod Rewriting
 pub mod Tidy
-pub mod ByPlace
+pub mod Eating
 pub mod Lists
 pub mod Matching
 pub mod Show

@@ -44,7 +44,7 @@ abbrev pub parseRoom : ℕ
 parseRoom = 5120
 
 abbrev pub rewriteRoom : ℕ
-rewriteRoom = 114687
+rewriteRoom = 38229
 
 abbrev pub selectRoom : ℕ
 selectRoom = 0

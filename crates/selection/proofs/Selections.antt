@@ -1,31 +1,35 @@
 -- From what selection's parts say to its own contracts: what was checked, one record after the other, and rows as they fill.
 use mathlib.Core.Path.{_≡_, refl, sym, ap, _∙_}
-use Prim.Native.Nat.{ℕ, suc, _+_, _*_, _/_, _≤_, _<_}
+use Prim.Native.Nat.{ℕ, zero, suc, _+_, _-_, _*_, _/_, _≤_, _<_}
 use mathlib.Core.List.{List, [], _∷_, _++_, append-nil, append-assoc}
 use mathlib.Core.Bool.{Bool, true, false, cond}
 use native.Mathlib.Omega.{arith}
 use native.Mathlib.Numerals.{add-one}
-use lib.ListN.{length, take, drop, set, length-append, length-drop, take-append-drop}
+use lib.ListN.{length, getD, take, drop, set, replicate, length-append, length-drop, length-replicate, take-append-drop}
 use lib.Seq.{take-at, drop-at, drop-drop, set-split}
 use lib.Dec.{leb}
 use borrow.Author.Tests.{le-leb, leb-true}
 use Rattle.rules.specs.Numbers.{recordTag, listMost, longAnswer, selectionBytes, selectionDepth, Read, got, refused, number, onRead, andThen}
-use Rattle.rules.specs.Bytes.{Bytes, big, bodyOf, restOf, wholeOf, isPart, every, each}
+use Rattle.rules.specs.Bytes.{Bytes, big, bodyOf, restOf, wholeOf, isPart, every, each, some}
 use Rattle.rules.specs.Query.{Query}
 use Rattle.rules.specs.Reading.{numberOf, readForSelection}
 use Rattle.rules.specs.Checked.{Is}
-use Rattle.rules.specs.Lists.{isEntry, entryOf, isRecord, recordOf, readList}
+use Rattle.rules.specs.Lists.{Entry, isEntry, entryOf, isRecord, recordOf, readList}
 use Rattle.rules.specs.Matching.{bit, matches, chosenFrom, chosen}
 use Rattle.rules.specs.Answers.{Left, zeros, leave, fitting, call, selected, rowBytes, rowsReply, selectLeft}
 use Rattle.rules.proofs.Bools.{alike, and-l, and-r}
 use Rattle.rules.proofs.stored.Refusals.{number-got, number-not, number-some, on-number}
 use Rattle.rules.proofs.stored.Bigs.{length-big}
-use Rattle.rules.proofs.stored.Parts.{part-is, less-empty, more-empty, rest-shorter}
+use Rattle.rules.proofs.stored.Parts.{part-is, less-empty, more-empty, rest-shorter, length-whole}
 use Rattle.rules.proofs.stored.Rows.{first, others, each-done, each-next, Row, done, next, row}
 use Rattle.rules.proofs.stored.Accepted.{Accepted, accepted, Listed, listed as list-accepted}
 use Rattle.rules.proofs.choosing.Choices.{selection, selected-is, chosen-few}
 use Rattle.numbers.specs.Laid.{laid, Put}
 use Rattle.selection.specs.declared.select.Selected.the-variants.{Refused, Chosen}
+use Rattle.entries.specs.Slots.{slotsMany, hashOf, Before}
+use Rattle.wanted.specs.Wanted.{callsBy}
+use Rattle.wanted.specs.Marks.{isMarked, Marks}
+use Rattle.wanted.proofs.Occurring.{unwanted-empty}
 use Rattle.matching.specs.Truth.{Truth, StoredFor}
 use Rattle.selection.specs.Select.{listed, within, answerOf, rowsAfter, Selects, told, SelectsBytes}
 
@@ -121,6 +125,37 @@ module _ {s l : List ℕ} (R : Ready s l) where
 
   pub listed-most : length (listed (selected s l)) ≤ listMost
   listed-most = let k = R .list .long in omega (arith, listed-few, records-few l (R .list .records))
+
+-- ---- a record in which nothing is wanted
+
+pub bare-truth : {s w : List ℕ} {r : Bool} (bare : Bool) → Marks s w r → Truth s [] bare → (es : List Entry)
+    → some (callsBy hashOf (isMarked w) (λ f. r)) es ≡ false → Truth s es bare
+unfolding Truth
+bare-truth bare M T es z q i = T q i ∙ sym (unwanted-empty M q i es z)
+
+-- ---- slots before a record
+
+-- where the entries of the record at t, in the list l, begin
+abbrev pub front : List ℕ → List ℕ → ℕ
+front l t = length l - length t + 3
+
+zeros-at : (n i : ℕ) → getD (replicate {A = ℕ} n 0) i 0 ≡ 0
+zeros-at zero i = refl
+zeros-at (suc n) zero = refl
+zeros-at (suc n) (suc i) = zeros-at n i
+
+pub before-all : (l : List ℕ) → Before (replicate slotsMany 0) (front l l)
+before-all l = record { many = length-replicate {A = ℕ} slotsMany 0; below = λ i. omega (arith, zeros-at slotsMany i) }
+
+pub before-more : {slots : List ℕ} {n m : ℕ} → Before slots n → n ≤ m → Before slots m
+before-more B h = record { many = B .many; below = λ i. omega (arith, B .below i) }
+
+module _ (l t : List ℕ) {b : List ℕ} (eb : b ≡ bodyOf t) (w : wholeOf t ≡ true) (within : length t ≤ length l) where
+  pub record-fits : length l ≤ listMost → front l t + length b ≤ listMost
+  record-fits h = let k = ap length eb in omega (arith, length-whole t w)
+
+  pub before-next : {slots u : List ℕ} → u ≡ restOf t → Before slots (front l t + length b) → Before slots (front l u)
+  before-next eu B = let k = ap length eb in let j = ap length eu in before-more B (omega (arith, length-whole t w))
 
 -- ---- counting
 

@@ -1,7 +1,11 @@
 // Selection: the numbers, from 0, of the records that a query is true of, into rows that the caller lends. The query and the list are checked
 // once. Whether the rows are long enough is known at once where they hold every record; only else is it counted before anything is written.
+use super::ask::is_chosen;
+use super::ask::prepare;
+use entries::slots::SLOTS;
 use lists::check_list;
-use matching::truth::holds;
+use names::LONG_ANSWER;
+use names::SELECTION_DEPTH;
 use numbers::put_big4;
 use parts::part::body;
 use parts::part::rest;
@@ -62,11 +66,15 @@ fn count(query: &[u8], list: &[u8]) -> usize
     requires { ⌜ numberOf (selected (now query) (now list)) ≡ 0 ⌝ }
     ensures { λ r. ⌜ r ≡ length (listed (selected (now (query .entry)) (now (list .entry)))) ⌝ }
 {
-    let mut row = [0u64; 192];
+    let mut row = [0u64; SELECTION_DEPTH];
+    let mut slots = [0u16; SLOTS];
+    let mut wanted = [0u8; SLOTS];
+    let plan = prepare(query, &mut wanted, &slots, &mut row);
     let mut n: usize = 0;
     let mut t = list;
     while t.len() > 0 {
-        n += one(holds(query, body(t), &mut row));
+        let from = list.len() - t.len() + 3;
+        n += one(is_chosen(query, body(t), from, plan, &wanted, &mut slots, &mut row));
         let u = rest(t);
         t = u;
     }
@@ -107,12 +115,16 @@ fn fill(query: &[u8], list: &[u8], rows: &mut [u32]) -> usize
     ensures { λ r. ⌜ (r ≡ length (listed (selected (now (query .entry)) (now (list .entry)))))
         × (now (rows .exit) ≡ listed (selected (now (query .entry)) (now (list .entry))) ++ drop r (now (rows .entry))) ⌝ }
 {
-    let mut row = [0u64; 192];
+    let mut row = [0u64; SELECTION_DEPTH];
+    let mut slots = [0u16; SLOTS];
+    let mut wanted = [0u8; SLOTS];
+    let plan = prepare(query, &mut wanted, &slots, &mut row);
     let mut w: usize = 0;
     let mut i = FIRST;
     let mut t = list;
     while t.len() > 0 {
-        let y = holds(query, body(t), &mut row);
+        let from = list.len() - t.len() + 3;
+        let y = is_chosen(query, body(t), from, plan, &wanted, &mut slots, &mut row);
         w = put(rows, w, i, y);
         i += 1;
         let u = rest(t);
@@ -129,7 +141,7 @@ pub fn select(query: &[u8], list: &[u8], rows: &mut [u32]) -> Selected
         return Selected::Refused(n);
     }
     if !fits(query, list, rows.len()) {
-        return Selected::Refused(18);
+        return Selected::Refused(LONG_ANSWER);
     }
     let k = fill(query, list, rows);
     Selected::Chosen(k)
@@ -149,12 +161,16 @@ fn fill_bytes(query: &[u8], list: &[u8], rows: &mut [u8]) -> usize
     ensures { λ r. ⌜ (r ≡ length (rowBytes (listed (selected (now (query .entry)) (now (list .entry))))))
         × (now (rows .exit) ≡ rowBytes (listed (selected (now (query .entry)) (now (list .entry)))) ++ drop r (now (rows .entry))) ⌝ }
 {
-    let mut row = [0u64; 192];
+    let mut row = [0u64; SELECTION_DEPTH];
+    let mut slots = [0u16; SLOTS];
+    let mut wanted = [0u8; SLOTS];
+    let plan = prepare(query, &mut wanted, &slots, &mut row);
     let mut w: usize = 0;
     let mut i = FIRST;
     let mut t = list;
     while t.len() > 0 {
-        let y = holds(query, body(t), &mut row);
+        let from = list.len() - t.len() + 3;
+        let y = is_chosen(query, body(t), from, plan, &wanted, &mut slots, &mut row);
         w = put_bytes(rows, w, i, y);
         i += 1;
         let u = rest(t);
@@ -173,7 +189,7 @@ pub fn select_bytes(query: &[u8], list: &[u8], rows: &mut [u8], room: &mut [u8])
         return Selected::Refused(n);
     }
     if !fits(query, list, rows.len() / 4) {
-        return Selected::Refused(18);
+        return Selected::Refused(LONG_ANSWER);
     }
     let w = fill_bytes(query, list, rows);
     Selected::Chosen(w / 4)

@@ -296,11 +296,8 @@ cleared s out room h = rw (le-leb rewriteRoom (length room) h) (by (leb (length 
 
 pub whole-left : (s out room : List ℕ) → rewriteRoom ≤ length room → (r : Shown) (t out′ room′ : List ℕ) → leftOf r out′ [] ≡ delivered t out [] → t ≡ showText s
     → room′ ≡ zeros room → leftOf r out′ room′ ≡ showLeft s out room
-whole-left s out room h r t out′ room′ D e z = by r ∙ rw (D, e, z) (cleared s out room h)
-  where
-    by : (q : Shown) → leftOf q out′ room′ ≡ record { answer = leftOf q out′ [] .answer; output = leftOf q out′ [] .output; room = room′ }
-    by (shown.Refused n) = refl
-    by (shown.Bytes n) = refl
+whole-left s out room h r t out′ room′ D e z =
+    ap (λ (x : Left). record { answer = x .answer; output = x .output; room = room′ }) D ∙ rw (e, z) (cleared s out room h)
 
 pub short-left : (s out room room′ : List ℕ) → length room < rewriteRoom → room′ ≡ zeros room → leftOf (shown.Refused 32) out room′ ≡ showLeft s out room
 unfolding showLeft call

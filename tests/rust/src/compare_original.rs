@@ -173,6 +173,10 @@ fn query(r: &mut Random) -> Vec<u8> {
         let clauses = if r.one_in(50) { 2_500 } else { 60 };
         return wide(r, clauses);
     }
+    if r.one_in(50) {
+        let bytes = if r.one_in(50) { REWRITER.0 } else { 60 + r.below(500) };
+        return pile(r, bytes);
+    }
     if r.one_in(4) {
         let setup = random_text::setup(&mut numbers);
         let text = random_text::text(&mut numbers, limits::TEXT);
@@ -228,4 +232,34 @@ fn wide(r: &mut Random, clauses: usize) -> Vec<u8> {
     }
     let minimum = r.pick(&[0, 0, 1, 2]);
     queries::stored(&Tree::Boolean(minimum, inner))
+}
+
+/// MatchAll beside MatchAll, in one kind or in several, filled to the byte: two of them take 12 bytes, and one with the sum
+/// of their boosts takes 13. Some stand in Booleans of their own, beside a word, so that the whole grows by a byte for each.
+fn pile(r: &mut Random, bytes: usize) -> Vec<u8> {
+    let all = [Kind::Must, Kind::Should, Kind::MustNot, Kind::Filter];
+    let one = r.pick(&all);
+    let kind = |r: &mut Random| if r.one_in(8) { r.pick(&all) } else { one };
+    let pairs = r.one_in(3);
+    let mut clauses = Vec::new();
+    let mut left = bytes - 8;
+    while left > 60 {
+        let clause = if pairs {
+            let word = Tree::Term(Vec::new(), vec![b'a' + u8::try_from(left % 26).expect("a letter")]);
+            let inside = vec![
+                (Kind::Should, Tree::MatchAll),
+                (Kind::Should, Tree::MatchAll),
+                (Kind::Must, word),
+            ];
+            Tree::Boolean(0, inside)
+        } else {
+            Tree::MatchAll
+        };
+        let clause = (kind(r), clause);
+        left -= 3 + queries::stored(&clause.1).len();
+        clauses.push(clause);
+    }
+    let rest = Tree::Term(Vec::new(), vec![b'a'; left - 12]);
+    clauses.push((kind(r), rest));
+    queries::stored(&Tree::Boolean(r.pick(&[0, 0, 1, 2]), clauses))
 }

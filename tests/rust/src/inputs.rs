@@ -85,7 +85,7 @@ fn place(field: &[u8], position: u32, text: &[u8]) -> Entry {
     Entry::Place(field.to_vec(), position, text.to_vec())
 }
 
-/// A file as the example `night` catalogues it.
+/// A file as the command catalogues it.
 fn file(number: usize) -> Record {
     let kind = ["settings", "shows", "media", "cache"][number % 4].as_bytes();
     let word = ["evening", "show", "timings", "lamp", "stage"][number % 5].as_bytes();

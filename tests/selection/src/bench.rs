@@ -86,19 +86,47 @@ fn selectors() -> Vec<(&'static str, Query)> {
                 (Kind::Should, Query::ConstantScore(Box::new(large()))),
             ]),
         ),
+        ("seventy names", boolean((0..70).map(|i| (Kind::Should, term("name", &format!("file{}", 37 * i)))).collect())),
+        ("seventy clauses", boolean((0..70).map(|i| seventieth(i, &term)).collect())),
         ("everything", Query::MatchAll),
+    ]
+}
+
+/// One of seventy clauses, as a selector for a whole site has them: names, places and endings to take, and some to leave out.
+fn seventieth(i: usize, term: &dyn Fn(&str, &str) -> Query) -> (Kind, Query) {
+    let places = ["show", "cue", "light", "organ", "foyer", "balcony", "cellar"];
+    match i % 7 {
+        0 => (Kind::Should, term("path", places[i / 7 % 7])),
+        1 => (Kind::MustNot, term("ext", &format!("bak{i}"))),
+        _ => (Kind::Should, term("name", &format!("file{}", 37 * i))),
+    }
+}
+
+/// What costs most: as many terms as a query holds, and phrases that are nearly found at every entry of one long record.
+fn worst(catalogue: &[u8]) -> Vec<(&'static str, Vec<u8>, Vec<u8>)> {
+    let letter = |n: usize| (n % 128) as u8;
+    let terms = (0..4367).map(|i| (Kind::Should, Query::Term(b"f".into(), vec![letter(i / 128), letter(i)]))).collect();
+    let words = |ps: &[u32]| Query::Phrase(b"f".into(), ps.iter().map(|p| (*p, b"ab".to_vec())).collect());
+    let even = list_bytes(&[(0..3447).map(|p| Entry::Text(b"f".into(), 2 * p, b"ab".into())).collect::<Record>()]);
+    let colliding: Vec<Record> = (0..230).map(|i| (0..10).map(|k| Entry::Text(b"name".into(), k, format!("f{}{k}same", 100 + i).into_bytes())).collect()).collect();
+    let collisions = (0..70).map(|i| (Kind::Should, Query::Term(b"name".into(), format!("f{}0same", 500 + i).into_bytes()))).collect();
+    vec![
+        ("4,367 terms", query_bytes(&Query::Boolean(0, terms)), catalogue.to_vec()),
+        ("a phrase in one record", query_bytes(&words(&[0, 2, 4, 6, 8, 9])), even),
+        ("seventy terms that collide", query_bytes(&Query::Boolean(0, collisions)), list_bytes(&colliding)),
     ]
 }
 
 /// The least time of one call, in nanoseconds, over many rounds.
 fn time(mut call: impl FnMut() -> usize, want: usize) -> f64 {
-    let mut least = f64::MAX;
-    for _ in 0..40 {
+    let (mut least, begin) = (f64::MAX, Instant::now());
+    for round in 0..200 {
         let start = Instant::now();
-        for _ in 0..5 {
-            assert!(black_box(call()) == want);
+        assert!(black_box(call()) == want);
+        least = least.min(start.elapsed().as_nanos() as f64);
+        if round >= 4 && begin.elapsed().as_millis() > 500 {
+            break;
         }
-        least = least.min(start.elapsed().as_nanos() as f64 / 5.0);
     }
     least
 }
@@ -124,27 +152,36 @@ fn painted(call: &mut dyn FnMut() -> usize) -> usize {
     DEPTH - clean
 }
 
+/// Both calls and the trees in turn, so that all meet the same machine; how many times as fast the call in bytes is.
+fn row(name: &str, query: &[u8], list: &[u8], turns: usize) -> (f64, f64) {
+    let want = trees(query, list);
+    let mut rows = vec![0; list.len()];
+    let mut numbers = vec![0; list.len() / 3];
+    let (mut a, mut b, mut c) = (f64::MAX, f64::MAX, f64::MAX);
+    for _ in 0..turns {
+        a = a.min(time(|| ours(query, black_box(list), &mut rows), want));
+        b = b.min(time(|| trees(query, black_box(list)), want));
+        c = c.min(time(|| ours_rows(query, black_box(list), &mut numbers), want));
+    }
+    println!("{name:30} {want:4} chosen: bytes {:8.1} us, numbers {:8.1} us, trees {:8.1} us, {:.1} times as fast", a / 1e3, c / 1e3, b / 1e3, b / a);
+    (a, b)
+}
+
 fn main() {
     let records = catalogue();
     let list = list_bytes(&records);
     println!("a list of {} bytes: {} records, {} entries", list.len(), records.len(), records.iter().map(Vec::len).sum::<usize>());
-    let mut rows = vec![0; 4 * records.len()];
-    let mut numbers = vec![0; records.len()];
-    let mut worst = f64::MAX;
+    let (mut ours_all, mut trees_all) = (0.0, 0.0);
     for (name, q) in selectors() {
-        let bytes = query_bytes(&q);
-        let want = trees(&bytes, &list);
-        let (mut a, mut b, mut c) = (f64::MAX, f64::MAX, f64::MAX);
-        // in turn, so that all meet the same machine
-        for _ in 0..3 {
-            a = a.min(time(|| ours(&bytes, black_box(&list), &mut rows), want));
-            b = b.min(time(|| trees(&bytes, black_box(&list)), want));
-            c = c.min(time(|| ours_rows(&bytes, black_box(&list), &mut numbers), want));
-        }
-        worst = worst.min(b / a);
-        println!("{name:30} {want:4} chosen: bytes {:6.1} us, numbers {:6.1} us, trees {:7.1} us, {:.1} times as fast", a / 1e3, c / 1e3, b / 1e3, b / a);
+        let (a, b) = row(name, &query_bytes(&q), &list, 3);
+        ours_all += a;
+        trees_all += b;
     }
-    println!("at least {worst:.1} times as fast");
+    println!("the mean: {:.1} times as fast", trees_all / ours_all);
+    for (name, query, list) in worst(&list) {
+        row(name, &query, &list, 1);
+    }
+    let mut rows = vec![0; 4 * records.len()];
     let mut deep = Query::Phrase(b"path".into(), vec![(0, b"show".to_vec()), (1, b"cue".to_vec())]);
     for _ in 1..192 {
         deep = Query::Boolean(0, vec![(Kind::Must, deep), (Kind::MustNot, Query::MatchNone)]);

@@ -27,8 +27,8 @@ impl Random {
     }
 }
 
-const FIELDS: [&[u8]; 4] = [b"f", b"note", b"", b"ff"];
-const WORDS: [&[u8]; 6] = [b"a", b"b", b"red", b"fox", b"", b"ab"];
+const FIELDS: [&[u8]; 5] = [b"f", b"note", b"", b"ff", b"fg"];
+const WORDS: [&[u8]; 8] = [b"a", b"b", b"red", b"fox", b"", b"ab", b"1same", b"2same"];
 const WHOLES: [u64; 12] = [0, 1, 2, 7, 1 << 62, i64::MAX as u64, 1 << 63, (1 << 63) + 1, u64::MAX, u64::MAX - 1, u64::MAX - 6, 1 << 40];
 
 fn floats() -> [u64; 16] {
@@ -114,6 +114,44 @@ fn entry(r: &mut Random) -> Entry {
 pub fn records(r: &mut Random, most: usize) -> Vec<Record> {
     let n = r.below(most + 1);
     (0..n).map(|_| { let k = r.below(9); (0..k).map(|_| entry(r)).collect() }).collect()
+}
+
+/// One of some hundred texts, a third of which share their length and their last four bytes with others.
+fn rare(r: &mut Random) -> Vec<u8> {
+    let n = r.below(300);
+    match n % 3 {
+        0 => format!("{n:03}tail").into_bytes(),
+        1 => format!("w{n}").into_bytes(),
+        _ => vec![b'a' + (n % 26) as u8; n % 7],
+    }
+}
+
+/// A query of many clauses, few of which are true of a record.
+pub fn wide_query(r: &mut Random) -> Query {
+    let clauses = 12 + r.below(60);
+    let clause = |r: &mut Random| {
+        let kind = *r.pick(&[Kind::Should, Kind::Should, Kind::Should, Kind::Should, Kind::Should, Kind::MustNot]);
+        let query = match r.below(24) {
+            0 => Query::Phrase(field(r), (0..1 + r.below(3)).map(|_| (position(r), rare(r))).collect()),
+            1 => Query::Phrase(field(r), Vec::new()),
+            2 => Query::Boost(boost(r), Box::new(Query::Term(field(r), rare(r)))),
+            3 if r.one_in(4) => Query::Whole(field(r), bound(r, &WHOLES), bound(r, &WHOLES)),
+            _ => Query::Term(field(r), rare(r)),
+        };
+        (kind, query)
+    };
+    let mut cs: Vec<(Kind, Query)> = (0..clauses).map(|_| clause(r)).collect();
+    if r.one_in(4) {
+        cs.push((Kind::Filter, Query::MatchAll));
+    }
+    Query::Boolean(r.below(2) as u16, cs)
+}
+
+/// Records whose texts are mostly others than a query's.
+pub fn wide_records(r: &mut Random, most: usize) -> Vec<Record> {
+    let entry = |r: &mut Random| if r.one_in(8) { entry(r) } else { Entry::Text(field(r), position(r), rare(r)) };
+    let n = r.below(most + 1);
+    (0..n).map(|_| { let k = r.below(12); (0..k).map(|_| entry(r)).collect() }).collect()
 }
 
 /// A byte changed, taken away or put in, a stretch cut off or a length made wrong.

@@ -4,7 +4,7 @@ mod cases;
 mod tree;
 mod truth;
 
-use cases::{Random, damaged, query, records};
+use cases::{Random, damaged, query, records, wide_query, wide_records};
 use tree::{Entry, Kind, Query, Record, list_bytes, query_bytes, read_list, read_query};
 use truth::{Shifts, chosen};
 
@@ -46,6 +46,15 @@ struct Run {
     /// cases that a phrase's start of 0 or more, and a selector that writes nothing, would get wrong
     starts: usize,
     silent: usize,
+    /// long queries that are sound, over lists with a record in which two texts of one length end alike
+    alike: usize,
+}
+
+/// Whether two entries have different texts of one length, or different fields, and the same last four bytes and first byte of the field.
+fn ends_alike(record: &Record) -> bool {
+    let key = |f: &[u8], t: &[u8]| (f.len(), f.first().copied(), t.len(), t[t.len().saturating_sub(4)..].to_vec());
+    let texts: Vec<(&Vec<u8>, &Vec<u8>)> = record.iter().filter_map(|e| if let Entry::Text(f, _, t) = e { Some((f, t)) } else { None }).collect();
+    texts.iter().enumerate().any(|(i, (f, t))| texts[..i].iter().any(|(g, u)| (f, t) != (g, u) && key(f, t) == key(g, u)))
 }
 
 impl Run {
@@ -81,14 +90,16 @@ impl Run {
             self.records += list.len();
             self.starts += usize::from(chosen(&query, &list, Shifts::StartAtZero) != *ns);
             self.silent += usize::from(!ns.is_empty());
+            self.alike += usize::from(q.len() >= 256 && list.iter().any(ends_alike));
         }
     }
 
     fn random(&mut self, r: &mut Random, n: usize) {
-        for _ in 0..n {
+        for i in 0..n {
             let deep = r.below(5);
-            let mut q = query_bytes(&query(r, deep));
-            let rs = records(r, 6);
+            let wide = i % 8 == 0;
+            let mut q = query_bytes(&if wide { wide_query(r) } else { query(r, deep) });
+            let rs = if wide { wide_records(r, 12) } else { records(r, 6) };
             let mut l = list_bytes(&rs);
             if r.one_in(6) {
                 q = damaged(r, &q);
@@ -140,6 +151,16 @@ impl Run {
         self.case(&query_bytes(&Query::MatchAll), &[], 0, 0);
     }
 
+    /// A long query over a long list whose texts all have one length and one end.
+    fn colliding(&mut self) {
+        let text = |n: usize| format!("{n:04}same").into_bytes();
+        let list: Vec<Record> = (0..200).map(|i| (0..12).map(|k| Entry::Text(b"f".to_vec(), k, text(12 * i + k as usize))).collect()).collect();
+        for from in [0, 1000, 2390, 5000] {
+            let clause = |i: usize| (if i % 5 == 4 { Kind::MustNot } else { Kind::Should }, Query::Term(b"f".to_vec(), text(from + 7 * i)));
+            self.case(&query_bytes(&Query::Boolean(0, (0..70).map(clause).collect())), &list_bytes(&list), list.len(), 1);
+        }
+    }
+
     /// Answers written by hand.
     fn by_hand(&mut self) {
         let text = |p, t: &str| Entry::Text(b"f".to_vec(), p, t.as_bytes().to_vec());
@@ -172,11 +193,13 @@ fn main() {
     let mut run = Run::default();
     run.by_hand();
     run.limits();
+    run.colliding();
     run.random(&mut Random(number(2, 7)), number(1, 300_000) as usize);
     println!("{} pairs, {} records matched; refusals 18: {}, 19: {}, 20: {}, 21: {}, 22: {}, 23: {}", run.cases, run.records,
         run.by_refusal[18], run.by_refusal[19], run.by_refusal[20], run.by_refusal[21], run.by_refusal[22], run.by_refusal[23]);
-    println!("a phrase's start of 0 or more would differ on {}, a selector that writes nothing on {}", run.starts, run.silent);
-    assert!(run.starts > 0 && run.silent > 0 && (18..24).all(|r| run.by_refusal[r] > 0), "the cases miss something");
+    println!("a phrase's start of 0 or more would differ on {}, a selector that writes nothing on {}; long queries over texts that end alike: {}", run.starts,
+        run.silent, run.alike);
+    assert!(run.starts > 0 && run.silent > 0 && run.alike > 0 && (18..24).all(|r| run.by_refusal[r] > 0), "the cases miss something");
     if run.wrong > 0 {
         println!("{} pairs differ", run.wrong);
         std::process::exit(1);

@@ -47,14 +47,22 @@ same-length c = c .before .before .before .before .before .token-at .kept .1 .1 
 
 returns : tie.Need-returns Inv-loop μ-loop
 unfolding classes
-returns c = lexing-refused (c .before .before .before .before .before .before .before .before .before .before .before .before .before .before .before .before .args .text .now) (c .before .before .before .before .before .before .before .before .before .before .before .before .before .loop .inv) (c .before .before .before .before .before .before .before .before .before .before .before .before .loop-test .taken) (no-space-told (getD (c .before .before .before .before .before .before .before .before .before .before .before .before .before .before .before .before .args .text .now) (c .before .before .before .before .before .before .before .before .before .before .before .before .before .loop .i) 0) (text-byte (c .before .before .before .before .before .before .before .before .before .before .before .before .before .before .before .before .args .text .now) (c .before .before .before .before .before .before .before .before .before .before .before .before .before .loop .i) (c .before .before .before .before .before .before .before .before .before .before .before .before .before .before .before .before .pre .2)) (c .before .before .before .before .before .before .before .before .before .class-at .ensures) refl (c .before .before .before .before .before .before .before .before .if1 .left)) (c .before .before .before .before .before .token-at .last .1 .1 .1 .0) (c .before .before .before .before .before .token-at .result) (c .before .before .before .before .before .token-at .ensures .1) _ (c .before .f .given .1)
+returns c =
+    let args = c .before .before .before .before .before .before .before .before .before .before .before .before .before .before .before .before .args in
+    let loop = c .before .before .before .before .before .before .before .before .before .before .before .before .before .loop in
+    let token-at = c .before .before .before .before .before .token-at in
+    lexing-refused (args .text .now) (loop .inv) (c .before .before .before .before .before .before .before .before .before .before .before .before .loop-test .taken) (no-space-told (getD (args .text .now) (loop .i) 0) (text-byte (args .text .now) (loop .i) (c .before .before .before .before .before .before .before .before .before .before .before .before .before .before .before .before .pre .2)) (c .before .before .before .before .before .before .before .before .before .class-at .ensures) refl (c .before .before .before .before .before .before .before .before .if1 .left)) (token-at .last .1 .1 .1 .0) (token-at .result) (token-at .ensures .1) _ (c .before .f .given .1)
 
 enum-known-kind : tie.Need-enum-known-kind Inv-loop μ-loop
 enum-known-kind c = search needs
 
 put-token-requires : tie.Need-put-token-requires Inv-loop μ-loop
 unfolding classes
-put-token-requires c κs = let e = ends-behind (c .before .before .before .before .before .before .before .before .before .before .before .before .before .before .before .before .before .args .text .now) (c .before .before .before .before .before .before .before .before .before .before .before .before .before .before .loop .inv) (c .before .before .before .before .before .before .before .before .before .before .before .before .before .loop-test .taken) (no-space-told (getD (c .before .before .before .before .before .before .before .before .before .before .before .before .before .before .before .before .before .args .text .now) (c .before .before .before .before .before .before .before .before .before .before .before .before .before .before .loop .i) 0) (text-byte (c .before .before .before .before .before .before .before .before .before .before .before .before .before .before .before .before .before .args .text .now) (c .before .before .before .before .before .before .before .before .before .before .before .before .before .before .loop .i) (c .before .before .before .before .before .before .before .before .before .before .before .before .before .before .before .before .before .pre .2)) (c .before .before .before .before .before .before .before .before .before .before .class-at .ensures) refl (c .before .before .before .before .before .before .before .before .before .if1 .left)) (c .before .before .before .before .before .before .token-at .last .1 .1 .1 .0) (c .before .before .before .before .before .before .token-at .result) (c .before .before .before .before .before .before .token-at .ensures .1) _ _ _ _ (c .before .before .kind .given .1) in
+put-token-requires c κs =
+    let args = c .before .before .before .before .before .before .before .before .before .before .before .before .before .before .before .before .before .args in
+    let loop = c .before .before .before .before .before .before .before .before .before .before .before .before .before .before .loop in
+    let token-at = c .before .before .before .before .before .before .token-at in
+    let e = ends-behind (args .text .now) (loop .inv) (c .before .before .before .before .before .before .before .before .before .before .before .before .before .loop-test .taken) (no-space-told (getD (args .text .now) (loop .i) 0) (text-byte (args .text .now) (loop .i) (c .before .before .before .before .before .before .before .before .before .before .before .before .before .before .before .before .before .pre .2)) (c .before .before .before .before .before .before .before .before .before .before .class-at .ensures) refl (c .before .before .before .before .before .before .before .before .before .if1 .left)) (token-at .last .1 .1 .1 .0) (token-at .result) (token-at .ensures .1) _ _ _ _ (c .before .before .kind .given .1) in
     omega (arith, e .0, e .1, e .2, e .3, c .before .before .before .before .before .before .before .before .before .before .before .before .before .before .loop .inv .few, c .before .before .before .before .before .before .before .before .before .before .before .before .before .before .before .before .before .pre .0, c .before .before .before .before .before .before .before .before .before .before .before .before .before .before .before .before .before .pre .1, c .before .before .before .before .before .before .before .before .before .before .before .before .before .loop-test .taken, c .before .before .before .before .before .before .token-at .kept .1 .1 .1 .0, c .before .before .before .before .before .before .before .before .before .before .before .before .before .before .loop .inv .as-long)
 
 add-n : tie.Need-add-n Inv-loop μ-loop
@@ -62,12 +70,22 @@ add-n c = omega (arith, c .before .before .before .before .before .before .befor
 
 loop-less-2 : tie.Need-loop-less-2 Inv-loop μ-loop
 unfolding classes
-loop-less-2 c = let e = ends-behind (c .before .before .before .before .before .before .before .before .before .before .before .before .before .before .before .before .before .before .before .before .args .text .now) (c .before .before .before .before .before .before .before .before .before .before .before .before .before .before .before .before .before .loop .inv) (c .before .before .before .before .before .before .before .before .before .before .before .before .before .before .before .before .loop-test .taken) (no-space-told (getD (c .before .before .before .before .before .before .before .before .before .before .before .before .before .before .before .before .before .before .before .before .args .text .now) (c .before .before .before .before .before .before .before .before .before .before .before .before .before .before .before .before .before .loop .i) 0) (text-byte (c .before .before .before .before .before .before .before .before .before .before .before .before .before .before .before .before .before .before .before .before .args .text .now) (c .before .before .before .before .before .before .before .before .before .before .before .before .before .before .before .before .before .loop .i) (c .before .before .before .before .before .before .before .before .before .before .before .before .before .before .before .before .before .before .before .before .pre .2)) (c .before .before .before .before .before .before .before .before .before .before .before .before .before .class-at .ensures) refl (c .before .before .before .before .before .before .before .before .before .before .before .before .if1 .left)) (c .before .before .before .before .before .before .before .before .before .token-at .last .1 .1 .1 .0) (c .before .before .before .before .before .before .before .before .before .token-at .result) (c .before .before .before .before .before .before .before .before .before .token-at .ensures .1) _ _ _ _ (c .before .before .before .before .before .kind .given .1) in
+loop-less-2 c =
+    let args = c .before .before .before .before .before .before .before .before .before .before .before .before .before .before .before .before .before .before .before .before .args in
+    let loop = c .before .before .before .before .before .before .before .before .before .before .before .before .before .before .before .before .before .loop in
+    let token-at = c .before .before .before .before .before .before .before .before .before .token-at in
+    let e = ends-behind (args .text .now) (loop .inv) (c .before .before .before .before .before .before .before .before .before .before .before .before .before .before .before .before .loop-test .taken) (no-space-told (getD (args .text .now) (loop .i) 0) (text-byte (args .text .now) (loop .i) (c .before .before .before .before .before .before .before .before .before .before .before .before .before .before .before .before .before .before .before .before .pre .2)) (c .before .before .before .before .before .before .before .before .before .before .before .before .before .class-at .ensures) refl (c .before .before .before .before .before .before .before .before .before .before .before .before .if1 .left)) (token-at .last .1 .1 .1 .0) (token-at .result) (token-at .ensures .1) _ _ _ _ (c .before .before .before .before .before .kind .given .1) in
     omega (arith, e .0, c .before .before .before .before .before .before .before .before .before .before .before .before .before .before .before .before .loop-test .taken)
 
 loop-again-2 : tie.Need-loop-again-2 Inv-loop μ-loop
 unfolding classes
-loop-again-2 c = lexing-token (c .before .before .before .before .before .before .before .before .before .before .before .before .before .before .before .before .before .before .before .before .args .text .now) (c .before .before .before .before .before .before .before .before .before .before .before .before .before .before .before .before .before .loop .inv) (c .before .before .before .before .before .before .before .before .before .before .before .before .before .before .before .before .loop-test .taken) (no-space-told (getD (c .before .before .before .before .before .before .before .before .before .before .before .before .before .before .before .before .before .before .before .before .args .text .now) (c .before .before .before .before .before .before .before .before .before .before .before .before .before .before .before .before .before .loop .i) 0) (text-byte (c .before .before .before .before .before .before .before .before .before .before .before .before .before .before .before .before .before .before .before .before .args .text .now) (c .before .before .before .before .before .before .before .before .before .before .before .before .before .before .before .before .before .loop .i) (c .before .before .before .before .before .before .before .before .before .before .before .before .before .before .before .before .before .before .before .before .pre .2)) (c .before .before .before .before .before .before .before .before .before .before .before .before .before .class-at .ensures) refl (c .before .before .before .before .before .before .before .before .before .before .before .before .if1 .left)) (c .before .before .before .before .before .before .before .before .before .token-at .last .1 .1 .1 .0) (c .before .before .before .before .before .before .before .before .before .token-at .result) (c .before .before .before .before .before .before .before .before .before .token-at .ensures .1) _ _ _ _ (c .before .before .before .before .before .kind .given .1) (c .before .before .before .before .before .before .before .before .before .before .before .before .before .before .before .before .before .before .before .before .pre .0) (c .before .before .before .before .before .before .before .before .before .before .before .before .before .before .before .before .before .before .before .before .pre .1) (c .before .before .before .before .before .before .before .before .before .token-at .kept .1 .1 .1 .0) (c .before .before .before .before .before .before .before .before .before .token-at .ensures .0) (c .before .before .put-token .last .0) (c .before .before .put-token .kept .0) (c .before .before .put-token .ensures)
+loop-again-2 c =
+    let pre = c .before .before .before .before .before .before .before .before .before .before .before .before .before .before .before .before .before .before .before .before .pre in
+    let args = c .before .before .before .before .before .before .before .before .before .before .before .before .before .before .before .before .before .before .before .before .args in
+    let loop = c .before .before .before .before .before .before .before .before .before .before .before .before .before .before .before .before .before .loop in
+    let token-at = c .before .before .before .before .before .before .before .before .before .token-at in
+    let put-token = c .before .before .put-token in
+    lexing-token (args .text .now) (loop .inv) (c .before .before .before .before .before .before .before .before .before .before .before .before .before .before .before .before .loop-test .taken) (no-space-told (getD (args .text .now) (loop .i) 0) (text-byte (args .text .now) (loop .i) (pre .2)) (c .before .before .before .before .before .before .before .before .before .before .before .before .before .class-at .ensures) refl (c .before .before .before .before .before .before .before .before .before .before .before .before .if1 .left)) (token-at .last .1 .1 .1 .0) (token-at .result) (token-at .ensures .1) _ _ _ _ (c .before .before .before .before .before .kind .given .1) (pre .0) (pre .1) (token-at .kept .1 .1 .1 .0) (token-at .ensures .0) (put-token .last .0) (put-token .kept .0) (put-token .ensures)
 
 same-length-2 : tie.Need-same-length-2 Inv-loop μ-loop
 same-length-2 c = c .before .loop .inv .as-long

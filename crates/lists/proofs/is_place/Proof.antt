@@ -6,11 +6,11 @@ use borrow.Author.Needs.{needs}
 use Rattle.lists.proofs.is_place.Statement.{statement}
 use Rattle.lists.proofs.is_place.Tie as tie
 
-is-plain-requires : tie.Need-is-plain-requires
-is-plain-requires c κs = search needs
+is-lean-requires : tie.Need-is-lean-requires
+is-lean-requires c κs = search needs
 
 returns : tie.Need-returns
-returns c = sym (lister.plain-place (now (c .before .before .before .args .b)) (c .before .is-plain .ensures (c .if1 .taken)))
+returns c = sym (lister.plain-place (now (c .before .before .before .args .b)) (c .before .is-lean .ensures (c .if1 .taken)))
 
 is-fielded-requires : tie.Need-is-fielded-requires
 is-fielded-requires c κs = search needs
@@ -19,4 +19,4 @@ returns-2 : tie.Need-returns-2
 returns-2 c = search needs
 
 pub is-place-spec : {M : Type 1} → statement M
-is-place-spec = tie.close (tie.spec is-plain-requires returns is-fielded-requires returns-2)
+is-place-spec = tie.close (tie.spec is-lean-requires returns is-fielded-requires returns-2)

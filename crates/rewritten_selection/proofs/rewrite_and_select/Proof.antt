@@ -27,7 +27,10 @@ same-length-2 : tie.Need-same-length-2
 same-length-2 c = search needs
 
 returns : tie.Need-returns
-returns c = choosing.concluded (now (c .before .before .before .before .before .before .before .before .before .before .before .before .before .before .before .args .query)) (now (c .before .before .before .before .before .before .before .before .before .before .before .before .before .before .before .args .list)) (now (c .before .before .before .before .before .before .before .before .before .before .before .before .before .before .before .args .rows)) (now (c .before .before .before .before .before .before .before .before .before .before .before .before .before .before .before .args .held)) (now (c .before .before .before .before .before .before .before .before .before .before .before .before .before .before .before .args .room)) (λ i. omega (arith, c .before .before .before .before .before .before .before .before .before .before .before .before .before .before .shared-slice-known .given i)) (c .refuse .ensures .0) (c .refuse .ensures .1) (c .refuse .ensures .2) (c .before .before .before .before .before .before .before .clear .ensures) (c .before .before .before .clear2 .ensures) (choosing.short-held (now (c .before .before .before .before .before .before .before .before .before .before .before .before .before .before .before .args .query)) (now (c .before .before .before .before .before .before .before .before .before .before .before .before .before .before .before .args .list)) (now (c .before .before .before .before .before .before .before .before .before .before .before .before .before .before .before .args .rows)) (now (c .before .before .before .before .before .before .before .before .before .before .before .before .before .before .before .args .held)) (now (c .before .before .before .before .before .before .before .before .before .before .before .before .before .before .before .args .room)) (c .before .before .before .before .before .before .before .before .before .if1 .taken))
+returns c =
+    let args = c .before .before .before .before .before .before .before .before .before .before .before .before .before .before .before .args in
+    let refuse = c .refuse in
+    choosing.concluded (now (args .query)) (now (args .list)) (now (args .rows)) (now (args .held)) (now (args .room)) (λ i. omega (arith, c .before .before .before .before .before .before .before .before .before .before .before .before .before .before .shared-slice-known .given i)) (refuse .ensures .0) (refuse .ensures .1) (refuse .ensures .2) (c .before .before .before .before .before .before .before .clear .ensures) (c .before .before .before .clear2 .ensures) (choosing.short-held (now (args .query)) (now (args .list)) (now (args .rows)) (now (args .held)) (now (args .room)) (c .before .before .before .before .before .before .before .before .before .if1 .taken))
 
 rewrite-requires : tie.Need-rewrite-requires
 rewrite-requires c κs = search needs
@@ -45,7 +48,12 @@ same-length-4 : tie.Need-same-length-4
 same-length-4 c = search needs
 
 returns-2 : tie.Need-returns-2
-returns-2 c = choosing.concluded (now (c .before .before .before .before .before .before .before .before .before .before .before .before .before .before .before .before .before .before .before .before .args .query)) (now (c .before .before .before .before .before .before .before .before .before .before .before .before .before .before .before .before .before .before .before .before .args .list)) (now (c .before .before .before .before .before .before .before .before .before .before .before .before .before .before .before .before .before .before .before .before .args .rows)) (now (c .before .before .before .before .before .before .before .before .before .before .before .before .before .before .before .before .before .before .before .before .args .held)) (now (c .before .before .before .before .before .before .before .before .before .before .before .before .before .before .before .before .before .before .before .before .args .room)) (λ i. omega (arith, c .before .before .before .before .before .before .before .before .before .before .before .before .before .before .before .before .before .before .before .shared-slice-known .given i)) (c .refuse2 .ensures .0) (c .refuse2 .ensures .1) (c .refuse2 .ensures .2) (c .before .before .before .clear3 .ensures ∙ ap (λ (n : ℕ). replicate n 0) (c .before .before .before .before .before .before .before .before .before .before .before .rewrite .kept .1 .0)) refl (choosing.refused-query (now (c .before .before .before .before .before .before .before .before .before .before .before .before .before .before .before .before .before .before .before .before .args .query)) (now (c .before .before .before .before .before .before .before .before .before .before .before .before .before .before .before .before .before .before .before .before .args .list)) (now (c .before .before .before .before .before .before .before .before .before .before .before .before .before .before .before .before .before .before .before .before .args .rows)) (now (c .before .before .before .before .before .before .before .before .before .before .before .before .before .before .before .before .before .before .before .before .args .held)) (now (c .before .before .before .before .before .before .before .before .before .before .before .before .before .before .before .before .before .before .before .before .args .room)) (λ i. omega (arith, c .before .before .before .before .before .before .before .before .before .before .before .before .before .before .before .before .before .before .before .shared-slice-known .given i)) (c .before .before .before .before .before .before .before .before .before .before .before .before .before .before .if1 .left) (c .before .before .before .before .before .before .before .before .before .before .before .rewrite .ensures) (c .before .before .before .before .before .if2 .taken))
+returns-2 c =
+    let args = c .before .before .before .before .before .before .before .before .before .before .before .before .before .before .before .before .before .before .before .before .args in
+    let shared-slice-known = c .before .before .before .before .before .before .before .before .before .before .before .before .before .before .before .before .before .before .before .shared-slice-known in
+    let rewrite = c .before .before .before .before .before .before .before .before .before .before .before .rewrite in
+    let refuse2 = c .refuse2 in
+    choosing.concluded (now (args .query)) (now (args .list)) (now (args .rows)) (now (args .held)) (now (args .room)) (λ i. omega (arith, shared-slice-known .given i)) (refuse2 .ensures .0) (refuse2 .ensures .1) (refuse2 .ensures .2) (c .before .before .before .clear3 .ensures ∙ ap (λ (n : ℕ). replicate n 0) (rewrite .kept .1 .0)) refl (choosing.refused-query (now (args .query)) (now (args .list)) (now (args .rows)) (now (args .held)) (now (args .room)) (λ i. omega (arith, shared-slice-known .given i)) (c .before .before .before .before .before .before .before .before .before .before .before .before .before .before .if1 .left) (rewrite .ensures) (c .before .before .before .before .before .if2 .taken))
 
 sub-select : tie.Need-sub-select
 sub-select c = search needs
@@ -54,7 +62,9 @@ part-select-start : tie.Need-part-select-start
 part-select-start c = search needs
 
 part-select-end : tie.Need-part-select-end
-part-select-end c = choosing.held-long (now (c .before .before .before .before .before .before .before .before .before .before .before .before .before .before .before .before .args .query)) (now (c .before .before .before .before .before .before .before .before .before .before .before .before .before .before .before .before .args .list)) (now (c .before .before .before .before .before .before .before .before .before .before .before .before .before .before .before .before .args .rows)) (now (c .before .before .before .before .before .before .before .before .before .before .before .before .before .before .before .before .args .held)) (now (c .before .before .before .before .before .before .before .before .before .before .before .before .before .before .before .before .args .room)) (λ i. omega (arith, c .before .before .before .before .before .before .before .before .before .before .before .before .before .before .before .shared-slice-known .given i)) (c .before .before .before .before .before .before .before .before .before .before .if1 .left) (c .before .before .before .before .before .before .before .rewrite .ensures) (c .before .if2 .left)
+part-select-end c =
+    let args = c .before .before .before .before .before .before .before .before .before .before .before .before .before .before .before .before .args in
+    choosing.held-long (now (args .query)) (now (args .list)) (now (args .rows)) (now (args .held)) (now (args .room)) (λ i. omega (arith, c .before .before .before .before .before .before .before .before .before .before .before .before .before .before .before .shared-slice-known .given i)) (c .before .before .before .before .before .before .before .before .before .before .if1 .left) (c .before .before .before .before .before .before .before .rewrite .ensures) (c .before .if2 .left)
 
 select-requires : tie.Need-select-requires
 select-requires c κs = search needs
@@ -81,7 +91,20 @@ same-length-7 : tie.Need-same-length-7
 same-length-7 c = search needs
 
 returns-3 : tie.Need-returns-3
-returns-3 c = choosing.concluded (now (c .before .before .before .before .before .before .before .before .before .before .before .before .before .before .before .before .before .before .before .before .before .before .before .before .before .before .before .before .before .args .query)) (now (c .before .before .before .before .before .before .before .before .before .before .before .before .before .before .before .before .before .before .before .before .before .before .before .before .before .before .before .before .before .args .list)) (now (c .before .before .before .before .before .before .before .before .before .before .before .before .before .before .before .before .before .before .before .before .before .before .before .before .before .before .before .before .before .args .rows)) (now (c .before .before .before .before .before .before .before .before .before .before .before .before .before .before .before .before .before .before .before .before .before .before .before .before .before .before .before .before .before .args .held)) (now (c .before .before .before .before .before .before .before .before .before .before .before .before .before .before .before .before .before .before .before .before .before .before .before .before .before .before .before .before .before .args .room)) (λ i. omega (arith, c .before .before .before .before .before .before .before .before .before .before .before .before .before .before .before .before .before .before .before .before .before .before .before .before .before .before .before .before .shared-slice-known .given i)) (c .refuse3 .ensures .0) (c .refuse3 .ensures .1) (c .refuse3 .ensures .2) (c .before .before .before .before .before .before .clear4 .ensures ∙ ap (λ (n : ℕ). replicate n 0) (c .before .before .before .before .before .before .before .before .before .before .before .before .before .before .before .before .before .before .before .before .rewrite .kept .1 .0)) refl (ap (λ (r : Selected). choosing.answered r (c .before .before .before .before .before .before .before .before .before .before .before .before .before .before .before .before .before .before .before .before .rewrite .result .rounds) (c .before .before .before .before .before .before .before .before .before .before .select .last .1 .1 .0) (zeros (now (c .before .before .before .before .before .before .before .before .before .before .before .before .before .before .before .before .before .before .before .before .before .before .before .before .before .before .before .before .before .args .held))) (c .before .before .before .before .before .before .before .before .before .before .before .before .before .before .before .before .before .before .before .before .rewrite .last .1 .1 .0)) (sym (c .before .before .c .given .1)) ∙ choosing.selects (now (c .before .before .before .before .before .before .before .before .before .before .before .before .before .before .before .before .before .before .before .before .before .before .before .before .before .before .before .before .before .args .query)) (now (c .before .before .before .before .before .before .before .before .before .before .before .before .before .before .before .before .before .before .before .before .before .before .before .before .before .before .before .before .before .args .list)) (now (c .before .before .before .before .before .before .before .before .before .before .before .before .before .before .before .before .before .before .before .before .before .before .before .before .before .before .before .before .before .args .rows)) (now (c .before .before .before .before .before .before .before .before .before .before .before .before .before .before .before .before .before .before .before .before .before .before .before .before .before .before .before .before .before .args .held)) (now (c .before .before .before .before .before .before .before .before .before .before .before .before .before .before .before .before .before .before .before .before .before .before .before .before .before .before .before .before .before .args .room)) (λ i. omega (arith, c .before .before .before .before .before .before .before .before .before .before .before .before .before .before .before .before .before .before .before .before .before .before .before .before .before .before .before .before .shared-slice-known .given i)) (c .before .before .before .before .before .before .before .before .before .before .before .before .before .before .before .before .before .before .before .before .before .before .before .if1 .left) (c .before .before .before .before .before .before .before .before .before .before .before .before .before .before .before .before .before .before .before .before .rewrite .ensures) (c .before .before .before .before .before .before .before .before .before .before .before .before .before .before .if2 .left) (c .before .before .before .before .before .before .before .before .before .before .select .ensures))
+returns-3 c =
+    let args = c .before .before .before .before .before .before .before .before .before .before .before .before .before .before .before .before .before .before .before .before .before .before .before .before .before .before .before .before .before .args in
+    let shared-slice-known = c .before .before .before .before .before .before .before .before .before .before .before .before .before .before .before .before .before .before .before .before .before .before .before .before .before .before .before .before .shared-slice-known in
+    let rewrite = c .before .before .before .before .before .before .before .before .before .before .before .before .before .before .before .before .before .before .before .before .rewrite in
+    let select = c .before .before .before .before .before .before .before .before .before .before .select in
+    let refuse3 = c .refuse3 in
+    choosing.concluded
+    (now (args .query)) (now (args .list)) (now (args .rows)) (now (args .held)) (now (args .room)) (λ i. omega (arith, shared-slice-known .given i)) (refuse3 .ensures .0) (refuse3 .ensures .1) (refuse3 .ensures .2)
+    (c .before .before .before .before .before .before .clear4 .ensures ∙ ap (λ (n : ℕ). replicate n 0) (rewrite .kept .1 .0)) refl
+    (ap (λ (r : Selected). choosing.answered r (rewrite .result .rounds) (select .last .1 .1 .0) (zeros (now (args .held))) (rewrite .last .1 .1 .0)) (sym (c .before .before .c .given .1))
+    ∙ choosing.selects
+    (now (args .query)) (now (args .list)) (now (args .rows)) (now (args .held)) (now (args .room)) (λ i. omega (arith, shared-slice-known .given i))
+    (c .before .before .before .before .before .before .before .before .before .before .before .before .before .before .before .before .before .before .before .before .before .before .before .if1 .left) (rewrite .ensures)
+    (c .before .before .before .before .before .before .before .before .before .before .before .before .before .before .if2 .left) (select .ensures))
 
 same-length-8 : tie.Need-same-length-8
 same-length-8 c = search needs
@@ -93,7 +116,12 @@ same-length-10 : tie.Need-same-length-10
 same-length-10 c = search needs
 
 returns-4 : tie.Need-returns-4
-returns-4 c = choosing.concluded (now (c .before .before .before .before .before .before .before .before .before .before .before .before .before .before .before .before .before .before .before .before .before .before .before .before .before .before .before .before .args .query)) (now (c .before .before .before .before .before .before .before .before .before .before .before .before .before .before .before .before .before .before .before .before .before .before .before .before .before .before .before .before .args .list)) (now (c .before .before .before .before .before .before .before .before .before .before .before .before .before .before .before .before .before .before .before .before .before .before .before .before .before .before .before .before .args .rows)) (now (c .before .before .before .before .before .before .before .before .before .before .before .before .before .before .before .before .before .before .before .before .before .before .before .before .before .before .before .before .args .held)) (now (c .before .before .before .before .before .before .before .before .before .before .before .before .before .before .before .before .before .before .before .before .before .before .before .before .before .before .before .before .args .room)) (λ i. omega (arith, c .before .before .before .before .before .before .before .before .before .before .before .before .before .before .before .before .before .before .before .before .before .before .before .before .before .before .before .shared-slice-known .given i)) refl refl refl (c .before .before .before .before .before .clear4 .ensures ∙ ap (λ (n : ℕ). replicate n 0) (c .before .before .before .before .before .before .before .before .before .before .before .before .before .before .before .before .before .before .before .rewrite .kept .1 .0)) refl (ap (λ (r : Selected). choosing.answered r (c .before .before .before .before .before .before .before .before .before .before .before .before .before .before .before .before .before .before .before .rewrite .result .rounds) (c .before .before .before .before .before .before .before .before .before .select .last .1 .1 .0) (zeros (now (c .before .before .before .before .before .before .before .before .before .before .before .before .before .before .before .before .before .before .before .before .before .before .before .before .before .before .before .before .args .held))) (c .before .before .before .before .before .before .before .before .before .before .before .before .before .before .before .before .before .before .before .rewrite .last .1 .1 .0)) (sym (c .before .c2 .given .1)) ∙ choosing.selects (now (c .before .before .before .before .before .before .before .before .before .before .before .before .before .before .before .before .before .before .before .before .before .before .before .before .before .before .before .before .args .query)) (now (c .before .before .before .before .before .before .before .before .before .before .before .before .before .before .before .before .before .before .before .before .before .before .before .before .before .before .before .before .args .list)) (now (c .before .before .before .before .before .before .before .before .before .before .before .before .before .before .before .before .before .before .before .before .before .before .before .before .before .before .before .before .args .rows)) (now (c .before .before .before .before .before .before .before .before .before .before .before .before .before .before .before .before .before .before .before .before .before .before .before .before .before .before .before .before .args .held)) (now (c .before .before .before .before .before .before .before .before .before .before .before .before .before .before .before .before .before .before .before .before .before .before .before .before .before .before .before .before .args .room)) (λ i. omega (arith, c .before .before .before .before .before .before .before .before .before .before .before .before .before .before .before .before .before .before .before .before .before .before .before .before .before .before .before .shared-slice-known .given i)) (c .before .before .before .before .before .before .before .before .before .before .before .before .before .before .before .before .before .before .before .before .before .before .if1 .left) (c .before .before .before .before .before .before .before .before .before .before .before .before .before .before .before .before .before .before .before .rewrite .ensures) (c .before .before .before .before .before .before .before .before .before .before .before .before .before .if2 .left) (c .before .before .before .before .before .before .before .before .before .select .ensures))
+returns-4 c =
+    let args = c .before .before .before .before .before .before .before .before .before .before .before .before .before .before .before .before .before .before .before .before .before .before .before .before .before .before .before .before .args in
+    let shared-slice-known = c .before .before .before .before .before .before .before .before .before .before .before .before .before .before .before .before .before .before .before .before .before .before .before .before .before .before .before .shared-slice-known in
+    let rewrite = c .before .before .before .before .before .before .before .before .before .before .before .before .before .before .before .before .before .before .before .rewrite in
+    let select = c .before .before .before .before .before .before .before .before .before .select in
+    choosing.concluded (now (args .query)) (now (args .list)) (now (args .rows)) (now (args .held)) (now (args .room)) (λ i. omega (arith, shared-slice-known .given i)) refl refl refl (c .before .before .before .before .before .clear4 .ensures ∙ ap (λ (n : ℕ). replicate n 0) (rewrite .kept .1 .0)) refl (ap (λ (r : Selected). choosing.answered r (rewrite .result .rounds) (select .last .1 .1 .0) (zeros (now (args .held))) (rewrite .last .1 .1 .0)) (sym (c .before .c2 .given .1)) ∙ choosing.selects (now (args .query)) (now (args .list)) (now (args .rows)) (now (args .held)) (now (args .room)) (λ i. omega (arith, shared-slice-known .given i)) (c .before .before .before .before .before .before .before .before .before .before .before .before .before .before .before .before .before .before .before .before .before .before .if1 .left) (rewrite .ensures) (c .before .before .before .before .before .before .before .before .before .before .before .before .before .if2 .left) (select .ensures))
 
 pub rewrite-and-select-spec : {M : Type 1} → statement M
 rewrite-and-select-spec =

@@ -6,20 +6,12 @@ use lib.Ieee.{Float}
 use Rattle.rules.specs.Query.{Kind, Query, Clauses, none, clause, equal}
 use Rattle.rules.specs.Floats.{one, plus}
 use Rattle.rules.specs.Rewriting.{summable, standsFor, base, boostOf, Merged, empty, merged, put, addMerged, mergeOnto}
-use Rattle.rules.specs.ByPlace.{held}
+use Rattle.rules.specs.Eating.{held, eats, fed}
 use Rattle.rules.proofs.Bools.{clash, both}
 use Rattle.rules.proofs.stored.Equal.{equal-refl}
 use Rattle.rules.proofs.rewriting.Kinds.{stands-self}
 
 -- ---- a clause is added
-
--- a merged clause of kind j that holds h takes up the clause of kind k and query q
-abbrev pub takes : ℕ → Kind → Query → Kind → Query → Bool
-takes m j h k q = standsFor j k && equal h (held m k q)
-
--- its sum from then on
-abbrev pub raised : ℕ → Kind → Query → Float → Float
-raised m k q t = cond (summable m k) (plus t (boostOf q)) t
 
 module _ (m : ℕ) (k : Kind) (q : Query) where
   pub add-empty : addMerged m k q empty ≡ merged k (held m k q) (cond (summable m k) (boostOf q) one) empty
@@ -31,7 +23,7 @@ module _ (m : ℕ) (k : Kind) (q : Query) where
       go false = refl
 
   module _ (j : Kind) (h : Query) (t : Float) (ms : Merged) where
-    pub add-merged : addMerged m k q (merged j h t ms) ≡ cond (takes m j h k q) (merged j h (raised m k q t) ms) (merged j h t (addMerged m k q ms))
+    pub add-merged : addMerged m k q (merged j h t ms) ≡ cond (eats m j h k q) (merged j h (fed m k q t) ms) (merged j h t (addMerged m k q ms))
     unfolding addMerged put
     add-merged = go (summable m k) (put (λ s. plus s (boostOf q)) (boostOf q) k (base q) ms) (put (λ s. s) one k q ms)
       where
@@ -43,12 +35,12 @@ module _ (m : ℕ) (k : Kind) (q : Query) where
         go false x y = refl
 
     -- by what is added: it is taken up here, or goes on
-    pub add-by : (P : Merged → Type 0) → (takes m j h k q ≡ true → P (merged j h (raised m k q t) ms))
-        → (takes m j h k q ≡ false → P (merged j h t (addMerged m k q ms))) → P (addMerged m k q (merged j h t ms))
-    add-by P yes-taken not-taken = rw add-merged (go (takes m j h k q) yes-taken not-taken)
+    pub add-by : (P : Merged → Type 0) → (eats m j h k q ≡ true → P (merged j h (fed m k q t) ms))
+        → (eats m j h k q ≡ false → P (merged j h t (addMerged m k q ms))) → P (addMerged m k q (merged j h t ms))
+    add-by P yes-taken not-taken = rw add-merged (go (eats m j h k q) yes-taken not-taken)
       where
-        go : (b : Bool) → (b ≡ true → P (merged j h (raised m k q t) ms)) → (b ≡ false → P (merged j h t (addMerged m k q ms)))
-            → P (cond b (merged j h (raised m k q t) ms) (merged j h t (addMerged m k q ms)))
+        go : (b : Bool) → (b ≡ true → P (merged j h (fed m k q t) ms)) → (b ≡ false → P (merged j h t (addMerged m k q ms)))
+            → P (cond b (merged j h (fed m k q t) ms) (merged j h t (addMerged m k q ms)))
         go true f g = f refl
         go false f g = g refl
 
@@ -63,7 +55,7 @@ AllOther m empty = Unit {0}
 AllOther m (merged k q t ms) = (summable m k ≡ true → Other k q ms) × AllOther m ms
 
 module _ (m : ℕ) (k : Kind) (q : Query) where
-  other-add : (j : Kind) (p : Query) → takes m j p k q ≡ false → (ms : Merged) → Other j p ms → Other j p (addMerged m k q ms)
+  other-add : (j : Kind) (p : Query) → eats m j p k q ≡ false → (ms : Merged) → Other j p ms → Other j p (addMerged m k q ms)
   unfolding Other
   other-add j p n empty h = rw add-empty (apart, tt)
     where

@@ -9,11 +9,11 @@ use lib.Ieee.{Float}
 use Rattle.rules.specs.Query.{Word, word, Kind, must, should, mustNot, filter, Query, term, phrase, boolean, boost, constantScore, matchAll, matchNone, range, Clauses, none, clause, equal}
 use Rattle.rules.specs.Floats.{one, widened, narrowed, plus, isOne}
 use Rattle.rules.specs.Rewriting.{weight, isNone, boosted, scored, phrased, scores, summable, standsFor, base, boostOf, Merged, empty, merged, addMerged, mergeOnto, reboosted, clausesOf, mergedBoolean, lone, loneOrMerged, shouldCount, onlyMustNot, ofLive, isDead, live, rewriteBoolean, rewriteOnce, rewriteEach, rounds, rewrite, resultOf}
-use Rattle.rules.specs.ByPlace.{held}
+use Rattle.rules.specs.Eating.{held, eats, fed}
 use Rattle.rules.specs.Tidy.{Apart, Distinct, Tidy, Tidies}
 use Rattle.rules.proofs.Bools.{clash, and-l}
 use Rattle.rules.proofs.rewriting.Kinds.{stands-same}
-use Rattle.rules.proofs.rewriting.Merging.{raised, add-empty, add-by, Other, AllOther, all-other-merge}
+use Rattle.rules.proofs.rewriting.Merging.{add-empty, add-by, Other, AllOther, all-other-merge}
 use Rattle.rules.proofs.rewriting.Rounds.{result-once}
 use Rattle.rules.proofs.rewriting.Weights.{one-weight}
 
@@ -76,7 +76,7 @@ held-fit m k q (B, T) = go (summable m k) refl
     go true e = (base-tidy q T, inl (e, B))
     go false e = (T, inr (e, refl))
 
-raised-fit : (m : ℕ) (k : Kind) (q : Query) (j : Kind) (p : Query) (t : Float) → standsFor j k ≡ true → Fit m j p t → Fit m j p (raised m k q t)
+raised-fit : (m : ℕ) (k : Kind) (q : Query) (j : Kind) (p : Query) (t : Float) → standsFor j k ≡ true → Fit m j p t → Fit m j p (fed m k q t)
 raised-fit m k q j p t c (inl g) = inl g
 raised-fit m k q j p t c (inr g) = inr (g .0, go (summable m k) refl)
   where

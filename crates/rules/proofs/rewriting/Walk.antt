@@ -19,6 +19,10 @@ abbrev pub join : Clauses → Clauses → Clauses
 join none ds = ds
 join (clause k q cs) ds = clause k q (join cs ds)
 
+abbrev pub snoc : Clauses → Kind → Query → Clauses
+snoc none k q = clause k q none
+snoc (clause j p cs) k q = clause j p (snoc cs k q)
+
 pub join-none : (cs : Clauses) → join cs none ≡ cs
 join-none none = refl
 join-none (clause k q cs) = ap (clause k q) (join-none cs)

@@ -23,7 +23,9 @@ same-length : tie.Need-same-length
 same-length c = omega (arith, c .before .before .before .before .before .before .put-header .kept .0, c .before .before .put-term .kept .0)
 
 returns : tie.Need-returns
-returns c = put-body (c .before .before .before .before .before .before .put-header .ensures) (c .before .before .put-term .ensures) (omega (arith, length-term (c .before .before .before .before .before .before .before .before .before .before .before .args .field .now) (spelled (c .before .before .before .before .before .before .before .before .before .before .before .args .analyzer) (c .before .before .before .before .before .before .before .before .before .before .before .args .s .now)), spelled-length (c .before .before .before .before .before .before .before .before .before .before .before .args .analyzer) (c .before .before .before .before .before .before .before .before .before .before .before .args .s .now))) (omega (arith, length-term (c .before .before .before .before .before .before .before .before .before .before .before .args .field .now) (spelled (c .before .before .before .before .before .before .before .before .before .before .before .args .analyzer) (c .before .before .before .before .before .before .before .before .before .before .before .args .s .now)), spelled-length (c .before .before .before .before .before .before .before .before .before .before .before .args .analyzer) (c .before .before .before .before .before .before .before .before .before .before .before .args .s .now), c .before .before .before .before .before .before .before .before .before .before .before .pre .0))
+returns c =
+    let args = c .before .before .before .before .before .before .before .before .before .before .before .args in
+    put-body (c .before .before .before .before .before .before .put-header .ensures) (c .before .before .put-term .ensures) (omega (arith, length-term (args .field .now) (spelled (args .analyzer) (args .s .now)), spelled-length (args .analyzer) (args .s .now))) (omega (arith, length-term (args .field .now) (spelled (args .analyzer) (args .s .now)), spelled-length (args .analyzer) (args .s .now), c .before .before .before .before .before .before .before .before .before .before .before .pre .0))
 
 pub put-clause-spec : {M : Type 1} → statement M
 put-clause-spec =

@@ -45,7 +45,15 @@ part-put-clause-end : tie.Need-part-put-clause-end Inv-loop μ-loop
 part-put-clause-end c = omega (arith, (c .before .before .before .before .next-token .ensures) .within, c .before .before .before .before .before .loop .inv .1, c .before .before .if1 .left)
 
 put-clause-requires : tie.Need-put-clause-requires Inv-loop μ-loop
-put-clause-requires c κs = let r = row-here (c .before .before .before .before .before .next-token .ensures) (c .before .before .before .before .before .before .before .before .before .before .args .tag) (c .before .before .before .before .before .before .before .before .before .before .args .field .now) (c .before .before .before .if1 .left) in let l = laying-fits (c .before .before .before .before .before .before .loop .inv .0) (part (c .before .before .before .before .before .before .before .before .before .before .args .tag) (encode (term (c .before .before .before .before .before .before .before .before .before .before .args .field .now) (spelled (c .before .before .before .before .before .before .before .before .before .before .args .analyzer) (take ((c .before .before .before .before .before .next-token .result .start) + (c .before .before .before .before .before .next-token .result .len) - (c .before .before .before .before .before .next-token .result .start)) (drop (c .before .before .before .before .before .next-token .result .start) (c .before .before .before .before .before .before .before .before .before .before .args .text .now))))))) (termRow (c .before .before .before .before .before .before .before .before .before .before .args .tag) (c .before .before .before .before .before .before .before .before .before .before .args .field .now) (restWords (c .before .before .before .before .before .before .before .before .before .before .args .analyzer) (c .before .before .before .before .before .before .before .before .before .before .args .text .now) ((c .before .before .before .before .before .next-token .result .start) + (c .before .before .before .before .before .next-token .result .len)) (c .before .before .before .before .before .next-token .result .position + 1))) r (c .before .before .before .before .before .before .before .before .before .before .pre .0) in let n = slice-length (c .before .before .before .before .before .before .before .before .before .before .args .text .now) (c .before .before .before .before .before .next-token .result .start) (c .before .before .before .before .before .next-token .result .len) (omega (arith, (c .before .before .before .before .before .next-token .ensures) .within, c .before .before .before .before .before .before .loop .inv .1)) in (clause-room (c .before .before .before .before .before .before .before .before .before .before .args .field .now) (take ((c .before .before .before .before .before .next-token .result .start) + (c .before .before .before .before .before .next-token .result .len) - (c .before .before .before .before .before .next-token .result .start)) (drop (c .before .before .before .before .before .next-token .result .start) (c .before .before .before .before .before .before .before .before .before .before .args .text .now))) (c .before .before .before .before .before .before .loop .out) (c .before .before .before .before .before .before .before .before .before .before .args .analyzer) (c .before .before .before .before .before .before .loop .w) (c .before .before .before .before .before .before .before .before .before .before .args .tag) l, c .before .before .before .before .before .before .before .before .before .before .pre .1, omega (arith, (c .before .before .before .before .before .next-token .ensures) .within, c .before .before .before .before .before .before .loop .inv .1, c .before .before .before .before .before .before .before .before .before .before .pre .2))
+put-clause-requires c κs =
+    let next-token = c .before .before .before .before .before .next-token in
+    let args = c .before .before .before .before .before .before .before .before .before .before .args in
+    let loop = c .before .before .before .before .before .before .loop in
+    let pre = c .before .before .before .before .before .before .before .before .before .before .pre in
+    let r = row-here (next-token .ensures) (args .tag) (args .field .now) (c .before .before .before .if1 .left) in
+    let l = laying-fits (loop .inv .0) (part (args .tag) (encode (term (args .field .now) (spelled (args .analyzer) (take ((next-token .result .start) + (next-token .result .len) - (next-token .result .start)) (drop (next-token .result .start) (args .text .now))))))) (termRow (args .tag) (args .field .now) (restWords (args .analyzer) (args .text .now) ((next-token .result .start) + (next-token .result .len)) (next-token .result .position + 1))) r (pre .0) in
+    let n = slice-length (args .text .now) (next-token .result .start) (next-token .result .len) (omega (arith, (next-token .ensures) .within, loop .inv .1)) in
+    (clause-room (args .field .now) (take ((next-token .result .start) + (next-token .result .len) - (next-token .result .start)) (drop (next-token .result .start) (args .text .now))) (loop .out) (args .analyzer) (loop .w) (args .tag) l, pre .1, omega (arith, (next-token .ensures) .within, loop .inv .1, pre .2))
 
 add-position : tie.Need-add-position Inv-loop μ-loop
 add-position c = omega (arith, c .before .before .before .before .before .before .before .before .before .before .before .before .before .before .pre .2, c .before .before .before .before .before .before .before .before .before .next-token .ensures .few, c .before .before .before .before .before .before .before .before .before .next-token .ensures .within, c .before .before .before .before .before .before .before .before .before .before .loop .inv .1, c .before .before .before .before .before .before .before .before .before .before .loop .inv .2, c .before .before .before .before .before .before .before .if1 .left)
@@ -54,7 +62,13 @@ loop-less : tie.Need-loop-less Inv-loop μ-loop
 loop-less c = omega (arith, (c .before .before .before .before .before .before .before .before .before .next-token .ensures) .within, c .before .before .before .before .before .before .before .before .before .before .loop .inv .1, (c .before .before .before .before .before .before .before .before .before .next-token .ensures) .onward, c .before .before .before .before .before .before .before .if1 .left)
 
 loop-again : tie.Need-loop-again Inv-loop μ-loop
-loop-again c = (laying-on (c .before .before .before .before .before .before .before .before .before .before .loop .inv .0) _ _ (row-here (c .before .before .before .before .before .before .before .before .before .next-token .ensures) (c .before .before .before .before .before .before .before .before .before .before .before .before .before .before .args .tag) (c .before .before .before .before .before .before .before .before .before .before .before .before .before .before .args .field .now) (c .before .before .before .before .before .before .before .if1 .left)) (c .before .before .before .before .before .before .before .before .before .before .before .before .before .before .pre .0) (c .before .before .before .put-clause .ensures) (c .before .before .before .put-clause .kept .0), omega (arith, (c .before .before .before .before .before .before .before .before .before .next-token .ensures) .within, c .before .before .before .before .before .before .before .before .before .before .loop .inv .1, c .before .before .before .before .before .before .before .if1 .left), omega (arith, (c .before .before .before .before .before .before .before .before .before .next-token .ensures) .few, c .before .before .before .before .before .before .before .before .before .before .loop .inv .2, c .before .before .before .before .before .before .before .if1 .left))
+loop-again c =
+    let loop = c .before .before .before .before .before .before .before .before .before .before .loop in
+    let next-token = c .before .before .before .before .before .before .before .before .before .next-token in
+    let args = c .before .before .before .before .before .before .before .before .before .before .before .before .before .before .args in
+    let if1 = c .before .before .before .before .before .before .before .if1 in
+    let put-clause = c .before .before .before .put-clause in
+    (laying-on (loop .inv .0) _ _ (row-here (next-token .ensures) (args .tag) (args .field .now) (if1 .left)) (c .before .before .before .before .before .before .before .before .before .before .before .before .before .before .pre .0) (put-clause .ensures) (put-clause .kept .0), omega (arith, (next-token .ensures) .within, loop .inv .1, if1 .left), omega (arith, (next-token .ensures) .few, loop .inv .2, if1 .left))
 
 pub put-clauses-spec : {M : Type 1} → statement M
 put-clauses-spec =

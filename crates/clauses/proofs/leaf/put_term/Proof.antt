@@ -28,7 +28,11 @@ same-length : tie.Need-same-length
 same-length c = omega (arith, c .before .before .before .before .before .before .before .before .before .before .before .before .before .before .put-header .kept .0, c .before .before .before .before .before .before .before .before .before .before .put-part .kept .0, c .before .before .before .before .before .before .put-header2 .kept .0, c .before .before .put-spelled .kept .0)
 
 returns : tie.Need-returns
-returns c = term-put (c .before .before .before .before .before .before .before .before .before .before .before .before .before .before .put-header .ensures) (c .before .before .before .before .before .before .before .before .before .before .put-part .ensures) (c .before .before .before .before .before .before .put-header2 .ensures) (c .before .before .put-spelled .ensures) (omega (arith, spelled-length (c .before .before .before .before .before .before .before .before .before .before .before .before .before .before .before .before .before .before .before .args .analyzer) (c .before .before .before .before .before .before .before .before .before .before .before .before .before .before .before .before .before .before .before .args .s .now))) (omega (arith, spelled-length (c .before .before .before .before .before .before .before .before .before .before .before .before .before .before .before .before .before .before .before .args .analyzer) (c .before .before .before .before .before .before .before .before .before .before .before .before .before .before .before .before .before .before .before .args .s .now))) (omega (arith, spelled-length (c .before .before .before .before .before .before .before .before .before .before .before .before .before .before .before .before .before .before .before .args .analyzer) (c .before .before .before .before .before .before .before .before .before .before .before .before .before .before .before .before .before .before .before .args .s .now), c .before .before .before .before .before .before .before .before .before .before .before .before .before .before .before .before .before .before .before .pre .0)) (c .before .before .before .before .before .before .before .before .before .before .before .before .before .before .put-header .kept .0) (c .before .before .before .before .before .before .before .before .before .before .put-part .kept .0 ∙ c .before .before .before .before .before .before .before .before .before .before .before .before .before .before .put-header .kept .0)
+returns c =
+    let args = c .before .before .before .before .before .before .before .before .before .before .before .before .before .before .before .before .before .before .before .args in
+    let put-header = c .before .before .before .before .before .before .before .before .before .before .before .before .before .before .put-header in
+    let put-part = c .before .before .before .before .before .before .before .before .before .before .put-part in
+    term-put (put-header .ensures) (put-part .ensures) (c .before .before .before .before .before .before .put-header2 .ensures) (c .before .before .put-spelled .ensures) (omega (arith, spelled-length (args .analyzer) (args .s .now))) (omega (arith, spelled-length (args .analyzer) (args .s .now))) (omega (arith, spelled-length (args .analyzer) (args .s .now), c .before .before .before .before .before .before .before .before .before .before .before .before .before .before .before .before .before .before .before .pre .0)) (put-header .kept .0) (put-part .kept .0 ∙ put-header .kept .0)
 
 pub put-term-spec : {M : Type 1} → statement M
 put-term-spec =

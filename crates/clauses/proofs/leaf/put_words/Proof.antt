@@ -53,7 +53,17 @@ part-put-word-end : tie.Need-part-put-word-end Inv-loop μ-loop
 part-put-word-end c = omega (arith, (c .before .before .before .before .before .next-token2 .ensures) .within, c .before .before .before .before .before .before .loop .inv .1, c .before .before .before .if1 .left)
 
 put-word-requires : tie.Need-put-word-requires Inv-loop μ-loop
-put-word-requires c κs = let r = words-here (c .before .before .before .before .before .before .next-token2 .ensures) (c .before .before .before .before .before .before .before .before .next-token .result .position) (c .before .offset .ensures) (c .before .before .before .before .if1 .left) in let l = laying-fits (c .before .before .before .before .before .before .before .loop .inv .0) (part wordTag (big 4 (c .before .offset .result) ++ spelled (c .before .before .before .before .before .before .before .before .before .before .before .args .analyzer) (take ((c .before .before .before .before .before .before .next-token2 .result .start) + (c .before .before .before .before .before .before .next-token2 .result .len) - (c .before .before .before .before .before .before .next-token2 .result .start)) (drop (c .before .before .before .before .before .before .next-token2 .result .start) (c .before .before .before .before .before .before .before .before .before .before .before .args .text .now))))) (encodeWords (countedFrom (c .before .before .before .before .before .before .before .before .next-token .result .position) (restWords (c .before .before .before .before .before .before .before .before .before .before .before .args .analyzer) (c .before .before .before .before .before .before .before .before .before .before .before .args .text .now) ((c .before .before .before .before .before .before .next-token2 .result .start) + (c .before .before .before .before .before .before .next-token2 .result .len)) (c .before .before .before .before .before .before .next-token2 .result .position + 1)))) r (c .before .before .before .before .before .before .before .before .before .before .before .pre .0) in let n = slice-length (c .before .before .before .before .before .before .before .before .before .before .before .args .text .now) (c .before .before .before .before .before .before .next-token2 .result .start) (c .before .before .before .before .before .before .next-token2 .result .len) (omega (arith, (c .before .before .before .before .before .before .next-token2 .ensures) .within, c .before .before .before .before .before .before .before .loop .inv .1)) in (word-room (take ((c .before .before .before .before .before .before .next-token2 .result .start) + (c .before .before .before .before .before .before .next-token2 .result .len) - (c .before .before .before .before .before .before .next-token2 .result .start)) (drop (c .before .before .before .before .before .before .next-token2 .result .start) (c .before .before .before .before .before .before .before .before .before .before .before .args .text .now))) (c .before .before .before .before .before .before .before .loop .out) (c .before .before .before .before .before .before .before .before .before .before .before .args .analyzer) (c .before .before .before .before .before .before .before .loop .w) (c .before .offset .result) l, omega (arith, (c .before .before .before .before .before .before .next-token2 .ensures) .within, c .before .before .before .before .before .before .before .loop .inv .1, c .before .before .before .before .before .before .before .before .before .before .before .pre .1))
+put-word-requires c κs =
+    let next-token2 = c .before .before .before .before .before .before .next-token2 in
+    let next-token = c .before .before .before .before .before .before .before .before .next-token in
+    let offset = c .before .offset in
+    let loop = c .before .before .before .before .before .before .before .loop in
+    let args = c .before .before .before .before .before .before .before .before .before .before .before .args in
+    let pre = c .before .before .before .before .before .before .before .before .before .before .before .pre in
+    let r = words-here (next-token2 .ensures) (next-token .result .position) (offset .ensures) (c .before .before .before .before .if1 .left) in
+    let l = laying-fits (loop .inv .0) (part wordTag (big 4 (offset .result) ++ spelled (args .analyzer) (take ((next-token2 .result .start) + (next-token2 .result .len) - (next-token2 .result .start)) (drop (next-token2 .result .start) (args .text .now))))) (encodeWords (countedFrom (next-token .result .position) (restWords (args .analyzer) (args .text .now) ((next-token2 .result .start) + (next-token2 .result .len)) (next-token2 .result .position + 1)))) r (pre .0) in
+    let n = slice-length (args .text .now) (next-token2 .result .start) (next-token2 .result .len) (omega (arith, (next-token2 .ensures) .within, loop .inv .1)) in
+    (word-room (take ((next-token2 .result .start) + (next-token2 .result .len) - (next-token2 .result .start)) (drop (next-token2 .result .start) (args .text .now))) (loop .out) (args .analyzer) (loop .w) (offset .result) l, omega (arith, (next-token2 .ensures) .within, loop .inv .1, pre .1))
 
 add-position : tie.Need-add-position Inv-loop μ-loop
 add-position c = omega (arith, c .before .before .before .before .before .before .before .before .before .before .before .before .before .before .before .pre .1, c .before .before .before .before .before .before .before .before .before .before .next-token2 .ensures .few, c .before .before .before .before .before .before .before .before .before .before .next-token2 .ensures .within, c .before .before .before .before .before .before .before .before .before .before .before .loop .inv .1, c .before .before .before .before .before .before .before .before .before .before .before .loop .inv .2, c .before .before .before .before .before .before .before .before .if1 .left)
@@ -62,7 +72,13 @@ loop-less : tie.Need-loop-less Inv-loop μ-loop
 loop-less c = omega (arith, (c .before .before .before .before .before .before .before .before .before .before .next-token2 .ensures) .within, c .before .before .before .before .before .before .before .before .before .before .before .loop .inv .1, (c .before .before .before .before .before .before .before .before .before .before .next-token2 .ensures) .onward, c .before .before .before .before .before .before .before .before .if1 .left)
 
 loop-again : tie.Need-loop-again Inv-loop μ-loop
-loop-again c = (laying-on (c .before .before .before .before .before .before .before .before .before .before .before .loop .inv .0) _ _ (words-here (c .before .before .before .before .before .before .before .before .before .before .next-token2 .ensures) (c .before .before .before .before .before .before .before .before .before .before .before .before .next-token .result .position) (c .before .before .before .before .before .offset .ensures) (c .before .before .before .before .before .before .before .before .if1 .left)) (c .before .before .before .before .before .before .before .before .before .before .before .before .before .before .before .pre .0) (c .before .before .before .put-word .ensures) (c .before .before .before .put-word .kept .0), omega (arith, (c .before .before .before .before .before .before .before .before .before .before .next-token2 .ensures) .within, c .before .before .before .before .before .before .before .before .before .before .before .loop .inv .1, c .before .before .before .before .before .before .before .before .if1 .left), omega (arith, (c .before .before .before .before .before .before .before .before .before .before .next-token2 .ensures) .few, c .before .before .before .before .before .before .before .before .before .before .before .loop .inv .2, c .before .before .before .before .before .before .before .before .if1 .left), omega (arith, c .before .before .before .before .before .before .before .before .before .before .next-token2 .ensures .counted, c .before .before .before .before .before .before .before .before .before .before .before .loop .inv .3))
+loop-again c =
+    let loop = c .before .before .before .before .before .before .before .before .before .before .before .loop in
+    let next-token2 = c .before .before .before .before .before .before .before .before .before .before .next-token2 in
+    let next-token = c .before .before .before .before .before .before .before .before .before .before .before .before .next-token in
+    let if1 = c .before .before .before .before .before .before .before .before .if1 in
+    let put-word = c .before .before .before .put-word in
+    (laying-on (loop .inv .0) _ _ (words-here (next-token2 .ensures) (next-token .result .position) (c .before .before .before .before .before .offset .ensures) (if1 .left)) (c .before .before .before .before .before .before .before .before .before .before .before .before .before .before .before .pre .0) (put-word .ensures) (put-word .kept .0), omega (arith, (next-token2 .ensures) .within, loop .inv .1, if1 .left), omega (arith, (next-token2 .ensures) .few, loop .inv .2, if1 .left), omega (arith, next-token2 .ensures .counted, loop .inv .3))
 
 pub put-words-spec : {M : Type 1} → statement M
 put-words-spec =

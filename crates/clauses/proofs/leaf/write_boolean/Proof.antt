@@ -38,7 +38,11 @@ same-length : tie.Need-same-length
 same-length c = c .before .before .put-minimum .kept .0 ∙ c .before .before .before .before .before .before .put-header .kept .0 ∙ c .before .before .before .before .before .before .before .before .before .before .put-clauses .kept .0
 
 returns : tie.Need-returns
-returns c = let P = rw (c .before .before .before .before .before .before .before .before .before .before .before .operator-tag .ensures) at (c .before .before .before .before .before .before .before .before .before .before .put-clauses .ensures) in boolean-put (c .before .before .before .before .before .before .before .before .before .before .before .before .before .before .before .before .args .operator) (c .before .before .before .before .before .before .before .before .before .before .before .before .before .before .before .before .args .field .now) (c .before .before .before .before .before .before .before .before .before .before .before .before .before .before .before .before .args .analyzer) (c .before .before .before .before .before .before .before .before .before .before .before .before .before .before .before .before .args .text .now) (c .before .before .before .before .before .before .before .before .before .before .put-clauses .result - c .before .before .before .before .before .before .before .before .before .before .before .before .before .before .before .before .args .at - 3) P (c .before .before .before .before .before .before .put-header .ensures) (c .before .before .put-minimum .ensures) refl (c .before .before .before .before .before .before .before .before .before .before .before .before .before .before .before .before .pre .0) (c .before .before .before .before .before .before .before .before .before .before .put-clauses .kept .0)
+returns c =
+    let args = c .before .before .before .before .before .before .before .before .before .before .before .before .before .before .before .before .args in
+    let put-clauses = c .before .before .before .before .before .before .before .before .before .before .put-clauses in
+    let P = rw (c .before .before .before .before .before .before .before .before .before .before .before .operator-tag .ensures) at (put-clauses .ensures) in
+    boolean-put (args .operator) (args .field .now) (args .analyzer) (args .text .now) (put-clauses .result - args .at - 3) P (c .before .before .before .before .before .before .put-header .ensures) (c .before .before .put-minimum .ensures) refl (c .before .before .before .before .before .before .before .before .before .before .before .before .before .before .before .before .pre .0) (put-clauses .kept .0)
 
 pub write-boolean-spec : {M : Type 1} → statement M
 write-boolean-spec =

@@ -30,13 +30,22 @@ sub-put-header-2 : tie.Need-sub-put-header-2
 sub-put-header-2 c = omega (arith, c .before .before .before .before .before .before .before .put-part .ensures .place, c .before .before .before .put-words .ensures .place)
 
 put-header-requires : tie.Need-put-header-requires
-put-header-requires c κs = let z = length-phrase (c .before .before .before .before .before .before .before .before .before .before .before .before .args .field .now) (fromFirst (tokenize (c .before .before .before .before .before .before .before .before .before .before .before .before .args .analyzer) (c .before .before .before .before .before .before .before .before .before .before .before .before .args .text .now))) in (omega (arith, z, c .before .before .before .before .before .before .before .before .before .before .before .before .pre .0, c .before .before .before .before .before .before .before .put-part .kept .0, c .before .before .before .put-words .kept .0), omega (arith, z, c .before .before .before .before .before .before .before .before .before .before .before .before .pre .0, c .before .before .before .before .before .before .before .before .before .before .before .before .pre .3, c .before .before .before .before .before .before .before .put-part .ensures .place, c .before .before .before .put-words .ensures .place))
+put-header-requires c κs =
+    let pre = c .before .before .before .before .before .before .before .before .before .before .before .before .pre in
+    let args = c .before .before .before .before .before .before .before .before .before .before .before .before .args in
+    let put-part = c .before .before .before .before .before .before .before .put-part in
+    let put-words = c .before .before .before .put-words in
+    let z = length-phrase (args .field .now) (fromFirst (tokenize (args .analyzer) (args .text .now))) in
+    (omega (arith, z, pre .0, put-part .kept .0, put-words .kept .0), omega (arith, z, pre .0, pre .3, put-part .ensures .place, put-words .ensures .place))
 
 same-length : tie.Need-same-length
 same-length c = c .before .before .put-header .kept .0 ∙ c .before .before .before .before .before .before .put-words .kept .0 ∙ c .before .before .before .before .before .before .before .before .before .before .put-part .kept .0
 
 returns : tie.Need-returns
-returns c = phrase-put (c .before .before .before .before .before .before .before .before .before .before .before .before .before .before .before .args .field .now) (c .before .before .before .before .before .before .before .before .before .before .before .before .before .before .before .args .analyzer) (c .before .before .before .before .before .before .before .before .before .before .before .before .before .before .before .args .text .now) (c .before .before .before .before .before .before .put-words .result - c .before .before .before .before .before .before .before .before .before .before .before .before .before .before .before .args .at - 3) (c .before .before .before .before .before .before .before .before .before .before .put-part .ensures) (c .before .before .before .before .before .before .put-words .ensures) (c .before .before .put-header .ensures) refl (c .before .before .before .before .before .before .before .before .before .before .before .before .before .before .before .pre .0)
+returns c =
+    let args = c .before .before .before .before .before .before .before .before .before .before .before .before .before .before .before .args in
+    let put-words = c .before .before .before .before .before .before .put-words in
+    phrase-put (args .field .now) (args .analyzer) (args .text .now) (put-words .result - args .at - 3) (c .before .before .before .before .before .before .before .before .before .before .put-part .ensures) (put-words .ensures) (c .before .before .put-header .ensures) refl (c .before .before .before .before .before .before .before .before .before .before .before .before .before .before .before .pre .0)
 
 pub write-phrase-spec : {M : Type 1} → statement M
 write-phrase-spec =

@@ -14,7 +14,11 @@ use Rattle.clauses.proofs.leaf.write_text.Tie as tie
 use Rattle.clauses.proofs.leaf.write_text.Statement.{statement}
 
 put-term-requires : tie.Need-put-term-requires
-put-term-requires c κs = let e = leaf-one (c .before .before .before .before .before .args .operator) (c .before .before .before .before .before .args .field .now) (c .before .before .before .before .before .args .plain) (c .before .before .before .before .before .pre .4 (c .before .if1 .taken)) in (omega (arith, made-room (c .before .before .before .before .before .args .at) (length (c .before .before .before .before .before .args .out .now)) e (c .before .before .before .before .before .pre .0), length-term (c .before .before .before .before .before .args .field .now) (spelled (c .before .before .before .before .before .args .analyzer) (c .before .before .before .before .before .args .text .now)), spelled-length (c .before .before .before .before .before .args .analyzer) (c .before .before .before .before .before .args .text .now)), c .before .before .before .before .before .pre .1, c .before .before .before .before .before .pre .2)
+put-term-requires c κs =
+    let args = c .before .before .before .before .before .args in
+    let pre = c .before .before .before .before .before .pre in
+    let e = leaf-one (args .operator) (args .field .now) (args .plain) (pre .4 (c .before .if1 .taken)) in
+    (omega (arith, made-room (args .at) (length (args .out .now)) e (pre .0), length-term (args .field .now) (spelled (args .analyzer) (args .text .now)), spelled-length (args .analyzer) (args .text .now)), pre .1, pre .2)
 
 same-length : tie.Need-same-length
 same-length c = c .before .before .put-term .kept .0
@@ -47,16 +51,31 @@ part-put-term-end : tie.Need-part-put-term-end
 part-put-term-end c = omega (arith, c .before .before .before .before .before .before .before .before .next-token .ensures .within)
 
 put-term-requires-2 : tie.Need-put-term-requires-2
-put-term-requires-2 c κs = let e = leaf-one (c .before .before .before .before .before .before .before .before .before .before .before .before .before .before .args .operator) (c .before .before .before .before .before .before .before .before .before .before .before .before .before .before .args .field .now) (c .before .before .before .before .before .before .before .before .before .before .before .before .before .before .args .plain) (text-one (c .before .before .before .before .before .before .before .before .before .next-token .ensures) (c .before .before .before .before .before .before .before .if2 .left) (c .before .before .before .before .next-token2 .ensures) (c .before .before .if3 .taken)) in let n = slice-length (c .before .before .before .before .before .before .before .before .before .before .before .before .before .before .args .text .now) (c .before .before .before .before .before .before .before .before .before .next-token .result .start) (c .before .before .before .before .before .before .before .before .before .next-token .result .len) (omega (arith, c .before .before .before .before .before .before .before .before .before .next-token .ensures .within)) in (omega (arith, made-room (c .before .before .before .before .before .before .before .before .before .before .before .before .before .before .args .at) (length (c .before .before .before .before .before .before .before .before .before .before .before .before .before .before .args .out .now)) e (c .before .before .before .before .before .before .before .before .before .before .before .before .before .before .pre .0), length-term (c .before .before .before .before .before .before .before .before .before .before .before .before .before .before .args .field .now) (spelled (c .before .before .before .before .before .before .before .before .before .before .before .before .before .before .args .analyzer) (take (c .before .before .before .before .before .before .before .before .before .next-token .result .start + c .before .before .before .before .before .before .before .before .before .next-token .result .len - c .before .before .before .before .before .before .before .before .before .next-token .result .start) (drop (c .before .before .before .before .before .before .before .before .before .next-token .result .start) (c .before .before .before .before .before .before .before .before .before .before .before .before .before .before .args .text .now)))), spelled-length (c .before .before .before .before .before .before .before .before .before .before .before .before .before .before .args .analyzer) (take (c .before .before .before .before .before .before .before .before .before .next-token .result .start + c .before .before .before .before .before .before .before .before .before .next-token .result .len - c .before .before .before .before .before .before .before .before .before .next-token .result .start) (drop (c .before .before .before .before .before .before .before .before .before .next-token .result .start) (c .before .before .before .before .before .before .before .before .before .before .before .before .before .before .args .text .now))), n), c .before .before .before .before .before .before .before .before .before .before .before .before .before .before .pre .1, omega (arith, n, c .before .before .before .before .before .before .before .before .before .next-token .ensures .within, c .before .before .before .before .before .before .before .before .before .before .before .before .before .before .pre .2))
+put-term-requires-2 c κs =
+    let args = c .before .before .before .before .before .before .before .before .before .before .before .before .before .before .args in
+    let next-token = c .before .before .before .before .before .before .before .before .before .next-token in
+    let pre = c .before .before .before .before .before .before .before .before .before .before .before .before .before .before .pre in
+    let e = leaf-one (args .operator) (args .field .now) (args .plain) (text-one (next-token .ensures) (c .before .before .before .before .before .before .before .if2 .left) (c .before .before .before .before .next-token2 .ensures) (c .before .before .if3 .taken)) in
+    let n = slice-length (args .text .now) (next-token .result .start) (next-token .result .len) (omega (arith, next-token .ensures .within)) in
+    (omega (arith, made-room (args .at) (length (args .out .now)) e (pre .0), length-term (args .field .now) (spelled (args .analyzer) (take (next-token .result .start + next-token .result .len - next-token .result .start) (drop (next-token .result .start) (args .text .now)))), spelled-length (args .analyzer) (take (next-token .result .start + next-token .result .len - next-token .result .start) (drop (next-token .result .start) (args .text .now))), n), pre .1, omega (arith, n, next-token .ensures .within, pre .2))
 
 same-length-2 : tie.Need-same-length-2
 same-length-2 c = c .before .before .put-term2 .kept .0
 
 returns-3 : tie.Need-returns-3
-returns-3 c = let e = leaf-one (c .before .before .before .before .before .before .before .before .before .before .before .before .before .before .before .before .before .args .operator) (c .before .before .before .before .before .before .before .before .before .before .before .before .before .before .before .before .before .args .field .now) (c .before .before .before .before .before .before .before .before .before .before .before .before .before .before .before .before .before .args .plain) (text-one (c .before .before .before .before .before .before .before .before .before .before .before .before .next-token .ensures) (c .before .before .before .before .before .before .before .before .before .before .if2 .left) (c .before .before .before .before .before .before .before .next-token2 .ensures) (c .before .before .before .before .before .if3 .taken)) in made-put e (c .before .before .put-term2 .ensures)
+returns-3 c =
+    let args = c .before .before .before .before .before .before .before .before .before .before .before .before .before .before .before .before .before .args in
+    let next-token = c .before .before .before .before .before .before .before .before .before .before .before .before .next-token in
+    let e = leaf-one (args .operator) (args .field .now) (args .plain) (text-one (next-token .ensures) (c .before .before .before .before .before .before .before .before .before .before .if2 .left) (c .before .before .before .before .before .before .before .next-token2 .ensures) (c .before .before .before .before .before .if3 .taken)) in made-put e (c .before .before .put-term2 .ensures)
 
 write-boolean-requires : tie.Need-write-boolean-requires
-write-boolean-requires c κs = let w = text-many (c .before .before .before .before .before .before .before .before .before .next-token .ensures) (c .before .before .before .before .before .before .before .if2 .left) (c .before .before .before .before .next-token2 .ensures) (c .before .before .if3 .left) in let e = leaf-boolean (c .before .before .before .before .before .before .before .before .before .before .before .before .before .before .args .operator) (c .before .before .before .before .before .before .before .before .before .before .before .before .before .before .args .field .now) (c .before .if4 .taken) (w .3) in (made-room (c .before .before .before .before .before .before .before .before .before .before .before .before .before .before .args .at) (length (c .before .before .before .before .before .before .before .before .before .before .before .before .before .before .args .out .now)) e (c .before .before .before .before .before .before .before .before .before .before .before .before .before .before .pre .0), c .before .before .before .before .before .before .before .before .before .before .before .before .before .before .pre .1, c .before .before .before .before .before .before .before .before .before .before .before .before .before .before .pre .2, c .before .before .before .before .before .before .before .before .before .before .before .before .before .before .pre .3)
+write-boolean-requires c κs =
+    let next-token = c .before .before .before .before .before .before .before .before .before .next-token in
+    let args = c .before .before .before .before .before .before .before .before .before .before .before .before .before .before .args in
+    let pre = c .before .before .before .before .before .before .before .before .before .before .before .before .before .before .pre in
+    let w = text-many (next-token .ensures) (c .before .before .before .before .before .before .before .if2 .left) (c .before .before .before .before .next-token2 .ensures) (c .before .before .if3 .left) in
+    let e = leaf-boolean (args .operator) (args .field .now) (c .before .if4 .taken) (w .3) in
+    (made-room (args .at) (length (args .out .now)) e (pre .0), pre .1, pre .2, pre .3)
 
 same-length-3 : tie.Need-same-length-3
 same-length-3 c = c .before .before .write-boolean .kept .1 .1 .1 .1 .0
@@ -65,7 +84,13 @@ returns-4 : tie.Need-returns-4
 returns-4 c = let w = text-many (c .before .before .before .before .before .before .before .before .before .before .before .before .next-token .ensures) (c .before .before .before .before .before .before .before .before .before .before .if2 .left) (c .before .before .before .before .before .before .before .next-token2 .ensures) (c .before .before .before .before .before .if3 .left) in let e = leaf-boolean (c .before .before .before .before .before .before .before .before .before .before .before .before .before .before .before .before .before .args .operator) (c .before .before .before .before .before .before .before .before .before .before .before .before .before .before .before .before .before .args .field .now) (c .before .before .before .before .if4 .taken) (w .3) in made-put e (c .before .before .write-boolean .ensures)
 
 write-phrase-requires : tie.Need-write-phrase-requires
-write-phrase-requires c κs = let w = text-many (c .before .before .before .before .before .before .before .before .before .next-token .ensures) (c .before .before .before .before .before .before .before .if2 .left) (c .before .before .before .before .next-token2 .ensures) (c .before .before .if3 .left) in let e = leaf-phrase (c .before .before .before .before .before .before .before .before .before .before .before .before .before .before .args .operator) (c .before .before .before .before .before .before .before .before .before .before .before .before .before .before .args .field .now) (c .before .if4 .left) (w .3) in (made-room (c .before .before .before .before .before .before .before .before .before .before .before .before .before .before .args .at) (length (c .before .before .before .before .before .before .before .before .before .before .before .before .before .before .args .out .now)) e (c .before .before .before .before .before .before .before .before .before .before .before .before .before .before .pre .0), c .before .before .before .before .before .before .before .before .before .before .before .before .before .before .pre .1, c .before .before .before .before .before .before .before .before .before .before .before .before .before .before .pre .2, c .before .before .before .before .before .before .before .before .before .before .before .before .before .before .pre .3)
+write-phrase-requires c κs =
+    let next-token = c .before .before .before .before .before .before .before .before .before .next-token in
+    let args = c .before .before .before .before .before .before .before .before .before .before .before .before .before .before .args in
+    let pre = c .before .before .before .before .before .before .before .before .before .before .before .before .before .before .pre in
+    let w = text-many (next-token .ensures) (c .before .before .before .before .before .before .before .if2 .left) (c .before .before .before .before .next-token2 .ensures) (c .before .before .if3 .left) in
+    let e = leaf-phrase (args .operator) (args .field .now) (c .before .if4 .left) (w .3) in
+    (made-room (args .at) (length (args .out .now)) e (pre .0), pre .1, pre .2, pre .3)
 
 same-length-4 : tie.Need-same-length-4
 same-length-4 c = c .before .before .write-phrase .kept .1 .1 .1 .0

@@ -93,7 +93,13 @@ measure-clause-measure-leaf-requires : (t : ℕ) → measure-clause-lts.Need-mea
 measure-clause-measure-leaf-requires t c κs = let S1 = rw (c .before .before .before .from .given .1) at (c .before .before .before .before .before .clause-start .ensures) in (c .before .before .before .before .before .before .before .before .pre .1 .0, S1 .fielded (c .before .before .before .before .before .before .before .before .args .default .now) (c .before .before .before .before .before .before .before .before .pre .1 .1), leaf-at (tokensOf (c .before .before .before .before .before .before .before .before .args .room .now) (c .before .before .before .before .before .before .before .before .args .p .n)) (c .before .before .before .from .given .0 .1 .1 .0) _ (c .before .kind-at .ensures) (⊎-elim (λ w. inl (w .taken)) (λ w. inr (eqb-true _ _ (w .1 .taken))) (c .if1 .came)), omega (arith, S1 .high, c .before .before .before .before .before .before .before .before .pre .1 .2))
 
 measure-clause-returns : (t : ℕ) → measure-clause-lts.Need-returns (measure-clause-calls t) (measure-clause-at t) measure-clause.Post
-measure-clause-returns t c = let S1 = rw (c .before .before .before .before .from .given .1) at (c .before .before .before .before .before .before .clause-start .ensures) in ((λ st T. meant-start S1 st (c .before .before .before .before .before .before .before .before .before .args .default .now) (c .before .before .before .before .before .before .before .before .before .args .p .depth) _ (leafAt (eqb (c .before .before .kind-at .result) 1) st (tokensOf (c .before .before .before .before .before .before .before .before .before .args .room .now) (c .before .before .before .before .before .before .before .before .before .args .p .n)) (nameFrom (c .before .before .before .before .before .before .before .before .before .args .room .now) (c .before .before .before .before .before .before .before .before .before .args .default .now) (c .before .before .before .before .from .given .0 .0)) (c .before .before .before .before .from .given .0 .1 .1 .0)) (λ k h. body-leaf st (tokensOf (c .before .before .before .before .before .before .before .before .before .args .room .now) (c .before .before .before .before .before .before .before .before .before .args .p .n)) _ (nameFrom (c .before .before .before .before .before .before .before .before .before .args .room .now) (c .before .before .before .before .before .before .before .before .before .args .default .now) (c .before .before .before .before .from .given .0 .0)) (c .before .before .before .before .before .before .before .before .before .args .p .depth) (c .before .before .before .before .from .given .0 .1 .1 .0) _ (c .before .before .kind-at .ensures) (⊎-elim (λ w. inl (w .taken)) (λ w. inr (eqb-true _ _ (w .1 .taken))) (c .before .if1 .came))) (c .measure-leaf .ensures .0 st (c .before .before .before .before .before .before .before .before .before .args .p .operator) (S1 .tuned st (c .before .before .before .before .before .before .before .before .before .args .p .operator) (c .before .before .before .before .before .before .before .before .before .args .default .now) T))), within-start S1 (c .measure-leaf .result) (c .measure-leaf .ensures .1))
+measure-clause-returns t c =
+    let args = c .before .before .before .before .before .before .before .before .before .args in
+    let from = c .before .before .before .before .from in
+    let kind-at = c .before .before .kind-at in
+    let measure-leaf = c .measure-leaf in
+    let S1 = rw (from .given .1) at (c .before .before .before .before .before .before .clause-start .ensures) in
+    ((λ st T. meant-start S1 st (args .default .now) (args .p .depth) _ (leafAt (eqb (kind-at .result) 1) st (tokensOf (args .room .now) (args .p .n)) (nameFrom (args .room .now) (args .default .now) (from .given .0 .0)) (from .given .0 .1 .1 .0)) (λ k h. body-leaf st (tokensOf (args .room .now) (args .p .n)) _ (nameFrom (args .room .now) (args .default .now) (from .given .0 .0)) (args .p .depth) (from .given .0 .1 .1 .0) _ (kind-at .ensures) (⊎-elim (λ w. inl (w .taken)) (λ w. inr (eqb-true _ _ (w .1 .taken))) (c .before .if1 .came))) (measure-leaf .ensures .0 st (args .p .operator) (S1 .tuned st (args .p .operator) (args .default .now) T))), within-start S1 (measure-leaf .result) (measure-leaf .ensures .1))
 
 measure-clause-add-measure-query : (t : ℕ) → measure-clause-lts.Need-add-measure-query (measure-clause-calls t) (measure-clause-at t) measure-clause.Post
 measure-clause-add-measure-query t c = omega (arith, c .before .before .before .before .before .before .before .before .before .before .before .before .before .pre .1 .3)
@@ -102,25 +108,52 @@ measure-clause-add-measure-query-2 : (t : ℕ) → measure-clause-lts.Need-add-m
 measure-clause-add-measure-query-2 t c = let S1 = rw (c .before .before .before .before .before .before .before .before .from .given .1) at (c .before .before .before .before .before .before .before .before .before .before .clause-start .ensures) in omega (arith, S1 .high, c .before .before .before .before .before .before .before .before .before .before .before .before .before .pre .1 .2)
 
 measure-clause-measure-query-requires : (t : ℕ) → measure-clause-lts.Need-measure-query-requires (measure-clause-calls t) (measure-clause-at t) measure-clause.Post
-measure-clause-measure-query-requires t c κs = let S1 = rw (c .before .before .before .before .before .before .before .before .from .given .1) at (c .before .before .before .before .before .before .before .before .before .before .clause-start .ensures) in let z = kind-in (c .before .before .before .before .before .before .before .before .before .before .before .before .before .args .room .now) (c .before .before .before .before .before .before .before .before .before .before .before .before .before .args .p .n) 9 (c .before .before .before .before .before .before .before .before .from .given .0 .1 .1 .0) (λ z. omega arith) (eq-eqb _ _ (sym (c .before .before .before .before .before .before .kind-at .ensures) ∙ c .before .before .before .if3 .taken)) in (omega (arith, S1 .low, c .before .before .before .before .before .before .before .before .before .before .before .before .before .pre .0), (c .before .before .before .before .before .before .before .before .before .before .before .before .before .pre .1 .0, S1 .fielded (c .before .before .before .before .before .before .before .before .before .before .before .before .before .args .default .now) (c .before .before .before .before .before .before .before .before .before .before .before .before .before .pre .1 .1), omega arith, omega (arith, c .before .if4 .taken)))
+measure-clause-measure-query-requires t c κs =
+    let pre = c .before .before .before .before .before .before .before .before .before .before .before .before .before .pre in
+    let args = c .before .before .before .before .before .before .before .before .before .before .before .before .before .args in
+    let from = c .before .before .before .before .before .before .before .before .from in
+    let S1 = rw (from .given .1) at (c .before .before .before .before .before .before .before .before .before .before .clause-start .ensures) in
+    let z = kind-in (args .room .now) (args .p .n) 9 (from .given .0 .1 .1 .0) (λ z. omega arith) (eq-eqb _ _ (sym (c .before .before .before .before .before .before .kind-at .ensures) ∙ c .before .before .before .if3 .taken)) in
+    (omega (arith, S1 .low, pre .0), (pre .1 .0, S1 .fielded (args .default .now) (pre .1 .1), omega arith, omega (arith, c .before .if4 .taken)))
 
 measure-clause-closing-requires : (t : ℕ) → measure-clause-lts.Need-closing-requires (measure-clause-calls t) (measure-clause-at t) measure-clause.Post
 measure-clause-closing-requires t c κs = (c .before .before .before .before .before .before .before .before .before .before .before .before .before .before .pre .1 .0, (_, c .measure-query .ensures .1))
 
 measure-clause-returns-2 : (t : ℕ) → measure-clause-lts.Need-returns-2 (measure-clause-calls t) (measure-clause-at t) measure-clause.Post
-measure-clause-returns-2 t c = let S1 = rw (c .before .before .before .before .before .before .before .before .before .before .from .given .1) at (c .before .before .before .before .before .before .before .before .before .before .before .before .clause-start .ensures) in let z = kind-in (c .before .before .before .before .before .before .before .before .before .before .before .before .before .before .before .args .room .now) (c .before .before .before .before .before .before .before .before .before .before .before .before .before .before .before .args .p .n) 9 (c .before .before .before .before .before .before .before .before .before .before .from .given .0 .1 .1 .0) (λ z. omega arith) (eq-eqb _ _ (sym (c .before .before .before .before .before .before .before .before .kind-at .ensures) ∙ c .before .before .before .before .before .if3 .taken)) in ((λ st T. let M = c .before .measure-query .ensures .0 st (S1 .tuned st (c .before .before .before .before .before .before .before .before .before .before .before .before .before .before .before .args .p .operator) (c .before .before .before .before .before .before .before .before .before .before .before .before .before .before .before .args .default .now) T) in meant-start S1 st (c .before .before .before .before .before .before .before .before .before .before .before .before .before .before .before .args .default .now) (c .before .before .before .before .before .before .before .before .before .before .before .before .before .before .before .args .p .depth) (c .closing .result) (andThen (onRead queryFound (M .answer)) (closedAt st (tokensOf (c .before .before .before .before .before .before .before .before .before .before .before .before .before .before .before .args .room .now) (c .before .before .before .before .before .before .before .before .before .before .before .before .before .before .before .args .p .n)))) (λ k h. body-open st (tokensOf (c .before .before .before .before .before .before .before .before .before .before .before .before .before .before .before .args .room .now) (c .before .before .before .before .before .before .before .before .before .before .before .before .before .before .before .args .p .n)) _ (nameFrom (c .before .before .before .before .before .before .before .before .before .before .before .before .before .before .before .args .room .now) (c .before .before .before .before .before .before .before .before .before .before .before .before .before .before .before .args .default .now) (c .before .before .before .before .before .before .before .before .before .before .from .given .0 .0)) (c .before .before .before .before .before .before .before .before .before .before .before .before .before .before .before .args .p .depth) (c .before .before .before .before .before .before .before .before .before .before .from .given .0 .1 .1 .0) _ (c .before .before .before .before .before .before .before .before .kind-at .ensures) (c .before .before .before .before .before .before .before .if1 .left) (c .before .before .before .before .before .if3 .taken) (c .before .before .before .if4 .taken) ∙ rw (M .says k (omega arith))) (c .closing .ensures .0 st (M .answer) (M .means))), within-start S1 (c .closing .result) (c .closing .ensures .1 (c .before .before .before .before .before .before .before .before .before .before .from .given .0 .1 .1 .0) z (c .before .measure-query .ensures .1)))
+measure-clause-returns-2 t c =
+    let args = c .before .before .before .before .before .before .before .before .before .before .before .before .before .before .before .args in
+    let from = c .before .before .before .before .before .before .before .before .before .before .from in
+    let kind-at = c .before .before .before .before .before .before .before .before .kind-at in
+    let if3 = c .before .before .before .before .before .if3 in
+    let measure-query′ = c .before .measure-query in
+    let closing = c .closing in
+    let S1 = rw (from .given .1) at (c .before .before .before .before .before .before .before .before .before .before .before .before .clause-start .ensures) in
+    let z = kind-in (args .room .now) (args .p .n) 9 (from .given .0 .1 .1 .0) (λ z. omega arith) (eq-eqb _ _ (sym (kind-at .ensures) ∙ if3 .taken)) in
+    ((λ st T. let M = measure-query′ .ensures .0 st (S1 .tuned st (args .p .operator) (args .default .now) T) in meant-start S1 st (args .default .now) (args .p .depth) (closing .result) (andThen (onRead queryFound (M .answer)) (closedAt st (tokensOf (args .room .now) (args .p .n)))) (λ k h. body-open st (tokensOf (args .room .now) (args .p .n)) _ (nameFrom (args .room .now) (args .default .now) (from .given .0 .0)) (args .p .depth) (from .given .0 .1 .1 .0) _ (kind-at .ensures) (c .before .before .before .before .before .before .before .if1 .left) (if3 .taken) (c .before .before .before .if4 .taken) ∙ rw (M .says k (omega arith))) (closing .ensures .0 st (M .answer) (M .means))), within-start S1 (closing .result) (closing .ensures .1 (from .given .0 .1 .1 .0) z (measure-query′ .ensures .1)))
 
 measure-clause-returns-3 : (t : ℕ) → measure-clause-lts.Need-returns-3 (measure-clause-calls t) (measure-clause-at t) measure-clause.Post
-measure-clause-returns-3 t c = let S1 = rw (c .before .before .before .before .before .before .before .from .given .1) at (c .before .before .before .before .before .before .before .before .before .clause-start .ensures) in ((λ st T. meant-start S1 st (c .before .before .before .before .before .before .before .before .before .before .before .before .args .default .now) (c .before .before .before .before .before .before .before .before .before .before .before .before .args .p .depth) _ (refused manyBrackets) (λ k h. body-deep st (tokensOf (c .before .before .before .before .before .before .before .before .before .before .before .before .args .room .now) (c .before .before .before .before .before .before .before .before .before .before .before .before .args .p .n)) _ (nameFrom (c .before .before .before .before .before .before .before .before .before .before .before .before .args .room .now) (c .before .before .before .before .before .before .before .before .before .before .before .before .args .default .now) (c .before .before .before .before .before .before .before .from .given .0 .0)) (c .before .before .before .before .before .before .before .before .before .before .before .before .args .p .depth) (c .before .before .before .before .before .before .before .from .given .0 .1 .1 .0) _ (c .before .before .before .before .before .kind-at .ensures) (c .before .before .before .before .if1 .left) (c .before .before .if3 .taken) (c .if4 .left)) (manyBrackets, refl, refl)), omega arith)
+measure-clause-returns-3 t c =
+    let args = c .before .before .before .before .before .before .before .before .before .before .before .before .args in
+    let from = c .before .before .before .before .before .before .before .from in
+    let S1 = rw (from .given .1) at (c .before .before .before .before .before .before .before .before .before .clause-start .ensures) in
+    ((λ st T. meant-start S1 st (args .default .now) (args .p .depth) _ (refused manyBrackets) (λ k h. body-deep st (tokensOf (args .room .now) (args .p .n)) _ (nameFrom (args .room .now) (args .default .now) (from .given .0 .0)) (args .p .depth) (from .given .0 .1 .1 .0) _ (c .before .before .before .before .before .kind-at .ensures) (c .before .before .before .before .if1 .left) (c .before .before .if3 .taken) (c .if4 .left)) (manyBrackets, refl, refl)), omega arith)
 
 measure-clause-returns-4 : (t : ℕ) → measure-clause-lts.Need-returns-4 (measure-clause-calls t) (measure-clause-at t) measure-clause.Post
-measure-clause-returns-4 t c = let S1 = rw (c .before .before .before .before .before .before .from .given .1) at (c .before .before .before .before .before .before .before .before .clause-start .ensures) in ((λ st T. meant-start S1 st (c .before .before .before .before .before .before .before .before .before .before .before .args .default .now) (c .before .before .before .before .before .before .before .before .before .before .before .args .p .depth) _ (refused unexpectedEnd) (λ k h. body-end st (tokensOf (c .before .before .before .before .before .before .before .before .before .before .before .args .room .now) (c .before .before .before .before .before .before .before .before .before .before .before .args .p .n)) _ (nameFrom (c .before .before .before .before .before .before .before .before .before .before .before .args .room .now) (c .before .before .before .before .before .before .before .before .before .before .before .args .default .now) (c .before .before .before .before .before .before .from .given .0 .0)) (c .before .before .before .before .before .before .before .before .before .before .before .args .p .depth) (c .before .before .before .before .before .before .from .given .0 .1 .1 .0) _ (c .before .before .before .before .kind-at .ensures) (c .before .before .before .if1 .left) (c .before .if3 .left) (eqb-false _ _ (c .before .before .if2 .left)) (c .if5 .taken)) (unexpectedEnd, refl, refl)), omega arith)
+measure-clause-returns-4 t c =
+    let args = c .before .before .before .before .before .before .before .before .before .before .before .args in
+    let from = c .before .before .before .before .before .before .from in
+    let S1 = rw (from .given .1) at (c .before .before .before .before .before .before .before .before .clause-start .ensures) in
+    ((λ st T. meant-start S1 st (args .default .now) (args .p .depth) _ (refused unexpectedEnd) (λ k h. body-end st (tokensOf (args .room .now) (args .p .n)) _ (nameFrom (args .room .now) (args .default .now) (from .given .0 .0)) (args .p .depth) (from .given .0 .1 .1 .0) _ (c .before .before .before .before .kind-at .ensures) (c .before .before .before .if1 .left) (c .before .if3 .left) (eqb-false _ _ (c .before .before .if2 .left)) (c .if5 .taken)) (unexpectedEnd, refl, refl)), omega arith)
 
 measure-clause-returns-5 : (t : ℕ) → measure-clause-lts.Need-returns-5 (measure-clause-calls t) (measure-clause-at t) measure-clause.Post
 measure-clause-returns-5 t c = let E = rw (c .enum-told .given .1) at (c .before .before .clause-start .ensures) in ((λ st T. record { answer = refused longField; says = λ k h. E st _ _ _; means = (longField, refl, refl) }), omega arith)
 
 measure-clause-returns-6 : (t : ℕ) → measure-clause-lts.Need-returns-6 (measure-clause-calls t) (measure-clause-at t) measure-clause.Post
-measure-clause-returns-6 t c = let S1 = rw (c .before .before .before .before .before .before .from .given .1) at (c .before .before .before .before .before .before .before .before .clause-start .ensures) in ((λ st T. meant-start S1 st (c .before .before .before .before .before .before .before .before .before .before .before .args .default .now) (c .before .before .before .before .before .before .before .before .before .before .before .args .p .depth) _ (refused unexpectedToken) (λ k h. body-other st (tokensOf (c .before .before .before .before .before .before .before .before .before .before .before .args .room .now) (c .before .before .before .before .before .before .before .before .before .before .before .args .p .n)) _ (nameFrom (c .before .before .before .before .before .before .before .before .before .before .before .args .room .now) (c .before .before .before .before .before .before .before .before .before .before .before .args .default .now) (c .before .before .before .before .before .before .from .given .0 .0)) (c .before .before .before .before .before .before .before .before .before .before .before .args .p .depth) (c .before .before .before .before .before .before .from .given .0 .1 .1 .0) _ (c .before .before .before .before .kind-at .ensures) (c .before .before .before .if1 .left) (c .before .if3 .left) (eqb-false _ _ (c .before .before .if2 .left)) (c .if5 .left)) (unexpectedToken, refl, refl)), omega arith)
+measure-clause-returns-6 t c =
+    let args = c .before .before .before .before .before .before .before .before .before .before .before .args in
+    let from = c .before .before .before .before .before .before .from in
+    let S1 = rw (from .given .1) at (c .before .before .before .before .before .before .before .before .clause-start .ensures) in
+    ((λ st T. meant-start S1 st (args .default .now) (args .p .depth) _ (refused unexpectedToken) (λ k h. body-other st (tokensOf (args .room .now) (args .p .n)) _ (nameFrom (args .room .now) (args .default .now) (from .given .0 .0)) (args .p .depth) (from .given .0 .1 .1 .0) _ (c .before .before .before .before .kind-at .ensures) (c .before .before .before .if1 .left) (c .before .if3 .left) (eqb-false _ _ (c .before .before .if2 .left)) (c .if5 .left)) (unexpectedToken, refl, refl)), omega arith)
 
 abbrev measure-query-Inv-loop : measure-query-lts.InvT-loop
 measure-query-Inv-loop room default p at i₀ s₀ i s =
@@ -149,13 +182,29 @@ measure-query-after-requires-2 : (t : ℕ) → measure-query-lts.Need-after-requ
 measure-query-after-requires-2 t c κs = omega (arith, c .before .before .before .before .before .before .loop .inv .0 .upto, c .before .before .before .before .before .before .before .before .before .pre .1 .0 .few, past-one (c .before .before .conjunction-at .result) (c .before .before .before .before .before .before .loop .i) (c .before .after .result) (c .before .after .ensures .0))
 
 measure-query-measure-clause-requires : (t : ℕ) → measure-query-lts.Need-measure-clause-requires (measure-query-calls t) (measure-query-at t) measure-query.Post measure-query-Inv-loop measure-query-μ-loop
-measure-query-measure-clause-requires t c κs = let L = led (c .before .before .before .conjunction-at .result) (c .before .modifier-at .result) (c .before .before .before .before .before .before .before .loop .i) (c .before .before .after .result) (c .after2 .result) (c .before .before .after .ensures .0) (c .after2 .ensures .1) in (omega (arith, L .one, L .two, c .before .before .before .before .before .before .before .loop .inv .0 .from, c .before .before .before .before .before .before .before .before .before .before .pre .0), (c .before .before .before .before .before .before .before .before .before .before .pre .1 .0, c .before .before .before .before .before .before .before .before .before .before .pre .1 .1, omega (arith, L .one, L .two, c .before .before .before .before .before .before .before .loop .inv .0 .upto, c .before .before .before .before .before .before .before .before .before .before .pre .1 .0 .few), c .before .before .before .before .before .before .before .before .before .before .pre .1 .3))
+measure-query-measure-clause-requires t c κs =
+    let pre = c .before .before .before .before .before .before .before .before .before .before .pre in
+    let loop = c .before .before .before .before .before .before .before .loop in
+    let after = c .before .before .after in
+    let after2 = c .after2 in
+    let L = led (c .before .before .before .conjunction-at .result) (c .before .modifier-at .result) (loop .i) (after .result) (after2 .result) (after .ensures .0) (after2 .ensures .1) in
+    (omega (arith, L .one, L .two, loop .inv .0 .from, pre .0), (pre .1 .0, pre .1 .1, omega (arith, L .one, L .two, loop .inv .0 .upto, pre .1 .0 .few), pre .1 .3))
 
 measure-query-enum-known-e : (t : ℕ) → measure-query-lts.Need-enum-known-e (measure-query-calls t) (measure-query-at t) measure-query.Post measure-query-Inv-loop measure-query-μ-loop
 measure-query-enum-known-e t c = search needs
 
 measure-query-returns : (t : ℕ) → measure-query-lts.Need-returns (measure-query-calls t) (measure-query-at t) measure-query.Post measure-query-Inv-loop measure-query-μ-loop
-measure-query-returns t c = let L = led (c .before .before .before .before .before .before .before .conjunction-at .result) (c .before .before .before .before .before .modifier-at .result) (c .before .before .before .before .before .before .before .before .before .before .before .loop .i) (c .before .before .before .before .before .before .after .result) (c .before .before .before .before .after2 .result) (c .before .before .before .before .before .before .after .ensures .0) (c .before .before .before .before .after2 .ensures .1) in ((λ st T. turn-refused (c .before .before .before .before .before .before .before .before .before .before .before .loop .inv .1 st T) (not-true _ (sym (c .before .before .before .before .before .before .before .before .before .before .more-at .ensures) ∙ c .before .before .before .before .before .before .before .before .before .if1 .taken)) (goes-in (c .before .before .before .before .before .before .before .before .before .before .before .before .before .before .args .room .now) (c .before .before .before .before .before .before .before .before .before .before .before .before .before .before .args .p .n) (c .before .before .before .before .before .before .before .before .before .before .before .loop .i) (not-true _ (sym (c .before .before .before .before .before .before .before .before .before .before .more-at .ensures) ∙ c .before .before .before .before .before .before .before .before .before .if1 .taken))) (c .before .before .before .before .before .before .before .conjunction-at .result) (c .before .before .before .before .before .before .after .result) (c .before .before .before .before .before .modifier-at .result) (c .before .before .before .before .after2 .result) (omega (arith, L .one, L .two)) (λ cs e. record { joins = c .before .before .before .before .before .before .before .conjunction-at .ensures cs e; first = c .before .before .before .before .before .before .after .ensures .0; modifies = c .before .before .before .before .before .modifier-at .ensures; second = c .before .before .before .before .after2 .ensures .1 }) (c .before .e .given .1) (c .before .before .before .measure-clause .ensures .0 st T)), omega arith)
+measure-query-returns t c =
+    let args = c .before .before .before .before .before .before .before .before .before .before .before .before .before .before .args in
+    let loop = c .before .before .before .before .before .before .before .before .before .before .before .loop in
+    let more-at = c .before .before .before .before .before .before .before .before .before .before .more-at in
+    let if1 = c .before .before .before .before .before .before .before .before .before .if1 in
+    let conjunction-at = c .before .before .before .before .before .before .before .conjunction-at in
+    let after = c .before .before .before .before .before .before .after in
+    let modifier-at = c .before .before .before .before .before .modifier-at in
+    let after2 = c .before .before .before .before .after2 in
+    let L = led (conjunction-at .result) (modifier-at .result) (loop .i) (after .result) (after2 .result) (after .ensures .0) (after2 .ensures .1) in
+    ((λ st T. turn-refused (loop .inv .1 st T) (not-true _ (sym (more-at .ensures) ∙ if1 .taken)) (goes-in (args .room .now) (args .p .n) (loop .i) (not-true _ (sym (more-at .ensures) ∙ if1 .taken))) (conjunction-at .result) (after .result) (modifier-at .result) (after2 .result) (omega (arith, L .one, L .two)) (λ cs e. record { joins = conjunction-at .ensures cs e; first = after .ensures .0; modifies = modifier-at .ensures; second = after2 .ensures .1 }) (c .before .e .given .1) (c .before .before .before .measure-clause .ensures .0 st T)), omega arith)
 
 measure-query-enum-known-len : (t : ℕ) → measure-query-lts.Need-enum-known-len (measure-query-calls t) (measure-query-at t) measure-query.Post measure-query-Inv-loop measure-query-μ-loop
 measure-query-enum-known-len t c = search needs
@@ -164,10 +213,31 @@ measure-query-added-requires : (t : ℕ) → measure-query-lts.Need-added-requir
 measure-query-added-requires t c κs = let W = rw (c .before .len .given .1) at (c .before .before .before .measure-clause .ensures .1) in let b = bounds-small (c .before .before .before .before .before .before .before .before .before .before .before .before .before .before .pre .1 .0) (c .before .before .before .before .before .before .before .before .before .before .before .loop .inv .0) in (omega (arith, b .1), omega (arith, b .0, clause-small (c .before .before .before .before .before .before .before .before .before .before .before .before .before .before .pre .1 .0) W))
 
 measure-query-loop-less : (t : ℕ) → measure-query-lts.Need-loop-less (measure-query-calls t) (measure-query-at t) measure-query.Post measure-query-Inv-loop measure-query-μ-loop
-measure-query-loop-less t c = let L = led (c .before .before .before .before .before .before .before .before .conjunction-at .result) (c .before .before .before .before .before .before .modifier-at .result) (c .before .before .before .before .before .before .before .before .before .before .before .before .loop .i) (c .before .before .before .before .before .before .before .after .result) (c .before .before .before .before .before .after2 .result) (c .before .before .before .before .before .before .before .after .ensures .0) (c .before .before .before .before .before .after2 .ensures .1) in let W = rw (c .before .before .len .given .1) at (c .before .before .before .before .measure-clause .ensures .1) in omega (arith, L .one, L .two, W .0, (goes-in (c .before .before .before .before .before .before .before .before .before .before .before .before .before .before .before .args .room .now) (c .before .before .before .before .before .before .before .before .before .before .before .before .before .before .before .args .p .n) (c .before .before .before .before .before .before .before .before .before .before .before .before .loop .i) (not-true _ (sym (c .before .before .before .before .before .before .before .before .before .before .before .more-at .ensures) ∙ c .before .before .before .before .before .before .before .before .before .before .if1 .taken))))
+measure-query-loop-less t c =
+    let args = c .before .before .before .before .before .before .before .before .before .before .before .before .before .before .before .args in
+    let loop = c .before .before .before .before .before .before .before .before .before .before .before .before .loop in
+    let after = c .before .before .before .before .before .before .before .after in
+    let after2 = c .before .before .before .before .before .after2 in
+    let L = led (c .before .before .before .before .before .before .before .before .conjunction-at .result) (c .before .before .before .before .before .before .modifier-at .result) (loop .i) (after .result) (after2 .result) (after .ensures .0) (after2 .ensures .1) in
+    let W = rw (c .before .before .len .given .1) at (c .before .before .before .before .measure-clause .ensures .1) in
+    omega (arith, L .one, L .two, W .0, (goes-in (args .room .now) (args .p .n) (loop .i) (not-true _ (sym (c .before .before .before .before .before .before .before .before .before .before .before .more-at .ensures) ∙ c .before .before .before .before .before .before .before .before .before .before .if1 .taken))))
 
 measure-query-loop-again : (t : ℕ) → measure-query-lts.Need-loop-again (measure-query-calls t) (measure-query-at t) measure-query.Post measure-query-Inv-loop measure-query-μ-loop
-measure-query-loop-again t c = let L = led (c .before .before .before .before .before .before .before .before .conjunction-at .result) (c .before .before .before .before .before .before .modifier-at .result) (c .before .before .before .before .before .before .before .before .before .before .before .before .loop .i) (c .before .before .before .before .before .before .before .after .result) (c .before .before .before .before .before .after2 .result) (c .before .before .before .before .before .before .before .after .ensures .0) (c .before .before .before .before .before .after2 .ensures .1) in let W = rw (c .before .before .len .given .1) at (c .before .before .before .before .measure-clause .ensures .1) in (bounds-on (c .before .before .before .before .before .before .before .before .before .before .before .before .before .before .before .pre .1 .0) (c .before .before .before .before .before .before .before .before .before .before .before .before .before .before .before .args .at) (c .before .before .before .before .before .before .before .before .before .before .before .before .loop .i) (c .before .before .before .before .before .before .before .after .result) (c .before .before .before .before .before .after2 .result) (c .before .before .before .before .before .before .before .before .before .before .before .before .loop .s .count) (c .before .before .before .before .before .before .before .before .before .before .before .before .loop .s .bytes) (c .added .result .count) (c .added .result .bytes) (c .before .before .len .given .0 .0) (c .before .before .len .given .0 .1 .0) (c .before .before .before .before .before .before .before .before .before .before .before .before .loop .inv .0) L W (c .added .ensures .1), λ st T. turn-found (c .before .before .before .before .before .before .before .before .before .before .before .before .loop .inv .1 st T) (not-true _ (sym (c .before .before .before .before .before .before .before .before .before .before .before .more-at .ensures) ∙ c .before .before .before .before .before .before .before .before .before .before .if1 .taken)) (goes-in (c .before .before .before .before .before .before .before .before .before .before .before .before .before .before .before .args .room .now) (c .before .before .before .before .before .before .before .before .before .before .before .before .before .before .before .args .p .n) (c .before .before .before .before .before .before .before .before .before .before .before .before .loop .i) (not-true _ (sym (c .before .before .before .before .before .before .before .before .before .before .before .more-at .ensures) ∙ c .before .before .before .before .before .before .before .before .before .before .if1 .taken))) (c .before .before .before .before .before .before .before .before .conjunction-at .result) (c .before .before .before .before .before .before .before .after .result) (c .before .before .before .before .before .before .modifier-at .result) (c .before .before .before .before .before .after2 .result) (omega (arith, L .one, L .two)) (λ cs e. record { joins = c .before .before .before .before .before .before .before .before .conjunction-at .ensures cs e; first = c .before .before .before .before .before .before .before .after .ensures .0; modifies = c .before .before .before .before .before .before .modifier-at .ensures; second = c .before .before .before .before .before .after2 .ensures .1 }) (c .before .before .len .given .1) (c .before .before .before .before .measure-clause .ensures .0 st T) (W .0) (λ cs q s e. rw (T .joins) (c .added .ensures .0 cs q s e)))
+measure-query-loop-again t c =
+    let args = c .before .before .before .before .before .before .before .before .before .before .before .before .before .before .before .args in
+    let loop = c .before .before .before .before .before .before .before .before .before .before .before .before .loop in
+    let more-at = c .before .before .before .before .before .before .before .before .before .before .before .more-at in
+    let if1 = c .before .before .before .before .before .before .before .before .before .before .if1 in
+    let conjunction-at = c .before .before .before .before .before .before .before .before .conjunction-at in
+    let after = c .before .before .before .before .before .before .before .after in
+    let modifier-at = c .before .before .before .before .before .before .modifier-at in
+    let after2 = c .before .before .before .before .before .after2 in
+    let measure-clause′ = c .before .before .before .before .measure-clause in
+    let len = c .before .before .len in
+    let added = c .added in
+    let L = led (conjunction-at .result) (modifier-at .result) (loop .i) (after .result) (after2 .result) (after .ensures .0) (after2 .ensures .1) in
+    let W = rw (len .given .1) at (measure-clause′ .ensures .1) in
+    (bounds-on (c .before .before .before .before .before .before .before .before .before .before .before .before .before .before .before .pre .1 .0) (args .at) (loop .i) (after .result) (after2 .result) (loop .s .count) (loop .s .bytes) (added .result .count) (added .result .bytes) (len .given .0 .0) (len .given .0 .1 .0) (loop .inv .0) L W (added .ensures .1), λ st T. turn-found (loop .inv .1 st T) (not-true _ (sym (more-at .ensures) ∙ if1 .taken)) (goes-in (args .room .now) (args .p .n) (loop .i) (not-true _ (sym (more-at .ensures) ∙ if1 .taken))) (conjunction-at .result) (after .result) (modifier-at .result) (after2 .result) (omega (arith, L .one, L .two)) (λ cs e. record { joins = conjunction-at .ensures cs e; first = after .ensures .0; modifies = modifier-at .ensures; second = after2 .ensures .1 }) (len .given .1) (measure-clause′ .ensures .0 st T) (W .0) (λ cs q s e. rw (T .joins) (added .ensures .0 cs q s e)))
 
 measure-query-returns-2 : (t : ℕ) → measure-query-lts.Need-returns-2 (measure-query-calls t) (measure-query-at t) measure-query.Post measure-query-Inv-loop measure-query-μ-loop
 measure-query-returns-2 t c = let B = c .before .before .loop .inv .0 in ((λ st T. turn-end (c .before .before .loop .inv .1 st T) (not-false _ (sym (c .before .more-at .ensures) ∙ c .if1 .left))), (B .from, B .upto, B .place, B .size, B .least))

@@ -28,7 +28,15 @@ with-boost-requires : tie.Need-with-boost-requires
 with-boost-requires c κs = let W = rw (c .before .before .before .before .g2 .given .1) at (c .before .before .before .before .before .before .before .pre .1 .1) in let z = kind-in (c .before .before .before .before .before .before .before .args .room .now) (c .before .before .before .before .before .before .before .args .n) 10 (c .before .before .before .before .g2 .given .0 .1 .1 .1 .0) (λ z. omega arith) (sym (c .before .before .is-at .ensures) ∙ c .before .if1 .taken) in (c .before .before .before .before .before .before .before .pre .0, omega arith, omega (arith, c .query-len .ensures .1, W .3, place-most (c .before .before .before .before .before .before .before .pre .0) (c .before .before .before .before .g2 .given .0 .1 .1 .1 .0)))
 
 returns : tie.Need-returns
-returns c = let z = kind-in (c .before .before .before .before .before .before .before .before .args .room .now) (c .before .before .before .before .before .before .before .before .args .n) 10 (c .before .before .before .before .before .g2 .given .0 .1 .1 .1 .0) (λ z. omega arith) (sym (c .before .before .before .is-at .ensures) ∙ c .before .before .if1 .taken) in ((λ st o K. let L = rw (c .before .before .before .before .before .g2 .given .1) at K in rw (close-goes st (tokensOf (c .before .before .before .before .before .before .before .before .args .room .now) (c .before .before .before .before .before .before .before .before .args .n)) o (L .1) (sym (c .before .before .before .is-at .ensures) ∙ c .before .before .if1 .taken)) (c .with-boost .ensures .0 st (queryOf (L .0)) (c .before .query-len .ensures .0 (L .0) (L .2)))), λ i l W. bracket-within (c .before .before .before .before .before .before .before .before .pre .0) i (c .before .query-len .result) (c .before .before .before .before .before .g2 .given .0 .0) (c .before .before .before .before .before .g2 .given .0 .1 .0) (c .before .before .before .before .before .g2 .given .0 .1 .1 .0) (c .before .before .before .before .before .g2 .given .0 .1 .1 .1 .0) l z (rw (c .before .before .before .before .before .g2 .given .1) at W) (c .before .query-len .ensures .1) (c .with-boost .result) (c .with-boost .ensures .1))
+returns c =
+    let args = c .before .before .before .before .before .before .before .before .args in
+    let g2 = c .before .before .before .before .before .g2 in
+    let is-at = c .before .before .before .is-at in
+    let if1 = c .before .before .if1 in
+    let query-len = c .before .query-len in
+    let with-boost = c .with-boost in
+    let z = kind-in (args .room .now) (args .n) 10 (g2 .given .0 .1 .1 .1 .0) (λ z. omega arith) (sym (is-at .ensures) ∙ if1 .taken) in
+    ((λ st o K. let L = rw (g2 .given .1) at K in rw (close-goes st (tokensOf (args .room .now) (args .n)) o (L .1) (sym (is-at .ensures) ∙ if1 .taken)) (with-boost .ensures .0 st (queryOf (L .0)) (query-len .ensures .0 (L .0) (L .2)))), λ i l W. bracket-within (c .before .before .before .before .before .before .before .before .pre .0) i (query-len .result) (g2 .given .0 .0) (g2 .given .0 .1 .0) (g2 .given .0 .1 .1 .0) (g2 .given .0 .1 .1 .1 .0) l z (rw (g2 .given .1) at W) (query-len .ensures .1) (with-boost .result) (with-boost .ensures .1))
 
 returns-2 : tie.Need-returns-2
 returns-2 c = ((λ st o K. let L = rw (c .before .g .given .1) at K in (L .0, close-fault st (tokensOf (c .before .before .before .before .args .room .now) (c .before .before .before .before .args .n)) o (L .1), L .2)), λ i l W. omega arith)

@@ -31,7 +31,15 @@ fault-requires : tie.Need-fault-requires
 fault-requires c κs = search needs
 
 returns : tie.Need-returns
-returns c = let z = kind-in (c .before .before .before .before .before .before .before .before .args .room .now) (c .before .before .before .before .before .before .before .before .args .n) 1 (c .before .before .before .before .before .before .before .before .args .i + 1) (λ z. omega arith) (sym (c .before .before .before .before .is-at2 .ensures) ∙ c .before .before .before .if2 .taken) in let a = number-not (numeralBits (c .before .before .text-at .result .now)) (λ e. c .if3 .taken (c .before .fault .ensures ∙ e)) in ((λ st m e. (a .0, boost-refused st (tokensOf (c .before .before .before .before .before .before .before .before .args .room .now) (c .before .before .before .before .before .before .before .before .args .n)) (c .before .before .before .before .before .before .before .before .args .i) m (sym (c .before .before .before .before .before .before .is-at .ensures) ∙ c .before .before .before .before .before .if1 .taken) (sym (c .before .before .before .before .is-at2 .ensures) ∙ c .before .before .before .if2 .taken) (ap numeralBits (text-is (c .before .before .before .before .before .before .before .before .args .room .now) (c .before .before .before .before .before .before .before .before .args .n) (c .before .before .before .before .before .before .before .before .args .i + 1) z ∙ sym (c .before .before .text-at .ensures)) ∙ a .1), c .before .fault .ensures ∙ ap numberOf (a .1))), omega arith)
+returns c =
+    let args = c .before .before .before .before .before .before .before .before .args in
+    let is-at2 = c .before .before .before .before .is-at2 in
+    let if2 = c .before .before .before .if2 in
+    let text-at = c .before .before .text-at in
+    let fault = c .before .fault in
+    let z = kind-in (args .room .now) (args .n) 1 (args .i + 1) (λ z. omega arith) (sym (is-at2 .ensures) ∙ if2 .taken) in
+    let a = number-not (numeralBits (text-at .result .now)) (λ e. c .if3 .taken (fault .ensures ∙ e)) in
+    ((λ st m e. (a .0, boost-refused st (tokensOf (args .room .now) (args .n)) (args .i) m (sym (c .before .before .before .before .before .before .is-at .ensures) ∙ c .before .before .before .before .before .if1 .taken) (sym (is-at2 .ensures) ∙ if2 .taken) (ap numeralBits (text-is (args .room .now) (args .n) (args .i + 1) z ∙ sym (text-at .ensures)) ∙ a .1), fault .ensures ∙ ap numberOf (a .1))), omega arith)
 
 boosted-len-requires : tie.Need-boosted-len-requires
 boosted-len-requires c κs = search needs
@@ -40,7 +48,15 @@ add-t12 : tie.Need-add-t12
 add-t12 c = search needs
 
 returns-2 : tie.Need-returns-2
-returns-2 c = let z = kind-in (c .before .before .before .before .before .before .before .before .before .args .room .now) (c .before .before .before .before .before .before .before .before .before .args .n) 1 (c .before .before .before .before .before .before .before .before .before .args .i + 1) (λ z. omega arith) (sym (c .before .before .before .before .before .is-at2 .ensures) ∙ c .before .before .before .before .if2 .taken) in let a = number-got (numeralBits (c .before .before .before .text-at .result .now)) (sym (c .before .before .fault .ensures) ∙ c .before .if3 .left) in ((λ st m e. (_, boost-got st (tokensOf (c .before .before .before .before .before .before .before .before .before .args .room .now) (c .before .before .before .before .before .before .before .before .before .args .n)) (c .before .before .before .before .before .before .before .before .before .args .i) m (sym (c .before .before .before .before .before .before .before .is-at .ensures) ∙ c .before .before .before .before .before .before .if1 .taken) (sym (c .before .before .before .before .before .is-at2 .ensures) ∙ c .before .before .before .before .if2 .taken) (ap numeralBits (text-is (c .before .before .before .before .before .before .before .before .before .args .room .now) (c .before .before .before .before .before .before .before .before .before .args .n) (c .before .before .before .before .before .before .before .before .before .args .i + 1) z ∙ sym (c .before .before .before .text-at .ensures)) ∙ a .1), boosted-length _ m _ _ e (c .boosted-len .ensures))), (omega arith, omega arith, place-step-two (c .before .before .before .before .before .before .before .before .before .pre .0) (c .before .before .before .before .before .before .before .before .before .args .i), c .boosted-len .ensures .0))
+returns-2 c =
+    let args = c .before .before .before .before .before .before .before .before .before .args in
+    let is-at2 = c .before .before .before .before .before .is-at2 in
+    let if2 = c .before .before .before .before .if2 in
+    let text-at = c .before .before .before .text-at in
+    let boosted-len = c .boosted-len in
+    let z = kind-in (args .room .now) (args .n) 1 (args .i + 1) (λ z. omega arith) (sym (is-at2 .ensures) ∙ if2 .taken) in
+    let a = number-got (numeralBits (text-at .result .now)) (sym (c .before .before .fault .ensures) ∙ c .before .if3 .left) in
+    ((λ st m e. (_, boost-got st (tokensOf (args .room .now) (args .n)) (args .i) m (sym (c .before .before .before .before .before .before .before .is-at .ensures) ∙ c .before .before .before .before .before .before .if1 .taken) (sym (is-at2 .ensures) ∙ if2 .taken) (ap numeralBits (text-is (args .room .now) (args .n) (args .i + 1) z ∙ sym (text-at .ensures)) ∙ a .1), boosted-length _ m _ _ e (boosted-len .ensures))), (omega arith, omega arith, place-step-two (c .before .before .before .before .before .before .before .before .before .pre .0) (args .i), boosted-len .ensures .0))
 
 returns-3 : tie.Need-returns-3
 returns-3 c = ((λ st m e. (_, boost-missing st (tokensOf (c .before .before .before .before .before .args .room .now) (c .before .before .before .before .before .args .n)) (c .before .before .before .before .before .args .i) m (sym (c .before .before .before .is-at .ensures) ∙ c .before .before .if1 .taken) (sym (c .before .is-at2 .ensures) ∙ c .if2 .left), refl)), omega arith)

@@ -131,13 +131,24 @@ write-bracket-add-put-boost : (t : ℕ) → write-bracket-lts.Need-add-put-boost
 write-bracket-add-put-boost t c = let K = rw (c .before .before .before .before .count .given .1) at (c .before .before .before .before .before .before .measure-query .ensures .1) in omega (arith, K .1, c .before .before .before .before .before .before .before .before .before .before .pre .1 .0 .few)
 
 write-bracket-put-boost-requires : (t : ℕ) → write-bracket-lts.Need-put-boost-requires (write-bracket-calls t) (write-bracket-at t) write-bracket.Post
-write-bracket-put-boost-requires t c κs = let k = kind-in (c .before .before .before .before .before .before .before .before .before .before .before .args .room .now) (c .before .before .before .before .before .before .before .before .before .before .before .args .p .n) 10 (c .before .before .before .before .before .count .given .0 .1 .1 .1 .0) (λ y. omega arith) (bracket-closed (c .before .before .before .before .before .before .before .before .before .before .before .pre .1 .6 .3) (c .before .before .before .before .before .before .before .measure-query .ensures .0 (c .before .before .before .before .before .before .before .before .before .before .before .pre .1 .6 .0) ((c .before .before .before .before .before .before .before .before .before .before .before .pre .1 .6 .3) .tuned)) (c .before .before .before .before .before .count .given .1)) in (c .before .before .before .before .before .before .before .before .before .before .before .pre .1 .0, omega (arith, k), ap (λ (x : ℕ). c .before .before .before .before .before .before .before .before .before .before .before .args .at + x) (c .before .before .boost-size .ensures), omega arith, (λ h. absurd (omega arith)), c .before .before .before .before .before .before .before .before .before .before .before .pre .1 .5)
+write-bracket-put-boost-requires t c κs =
+    let pre = c .before .before .before .before .before .before .before .before .before .before .before .pre in
+    let args = c .before .before .before .before .before .before .before .before .before .before .before .args in
+    let count = c .before .before .before .before .before .count in
+    let k = kind-in (args .room .now) (args .p .n) 10 (count .given .0 .1 .1 .1 .0) (λ y. omega arith) (bracket-closed (pre .1 .6 .3) (c .before .before .before .before .before .before .before .measure-query .ensures .0 (pre .1 .6 .0) ((pre .1 .6 .3) .tuned)) (count .given .1)) in
+    (pre .1 .0, omega (arith, k), ap (λ (x : ℕ). args .at + x) (c .before .before .boost-size .ensures), omega arith, (λ h. absurd (omega arith)), pre .1 .5)
 
 write-bracket-same-length : (t : ℕ) → write-bracket-lts.Need-same-length (write-bracket-calls t) (write-bracket-at t) write-bracket.Post
 write-bracket-same-length t c = c .before .before .put-boost .kept .1 .1 .1 .0
 
 write-bracket-returns : (t : ℕ) → write-bracket-lts.Need-returns (write-bracket-calls t) (write-bracket-at t) write-bracket.Post
-write-bracket-returns t c = let K = rw (c .before .before .before .before .before .before .before .before .count .given .1) at (c .before .before .before .before .before .before .before .before .before .before .measure-query .ensures .1) in ((λ st m j W. let l = c .before .before .before .before .before .before .query-len .ensures .0 (bracket-kept W (c .before .before .before .before .before .before .before .before .before .before .measure-query .ensures .0 st (W .tuned)) (c .before .before .before .before .before .before .before .before .count .given .1)) (bracket-sums W (c .before .before .before .before .before .before .before .before .before .before .measure-query .ensures .0 st (W .tuned)) (c .before .before .before .before .before .before .before .before .count .given .1)) in c .before .before .put-boost .ensures .0 st (queryOf (bracket-kept W (c .before .before .before .before .before .before .before .before .before .before .measure-query .ensures .0 st (W .tuned)) (c .before .before .before .before .before .before .before .before .count .given .1))) m j (c .before .before .before .before .before .before .before .before .before .before .before .before .before .before .args .out .now) (bracket-boost W (c .before .before .before .before .before .before .before .before .before .before .measure-query .ensures .0 st (W .tuned)) (c .before .before .before .before .before .before .before .before .count .given .1)) (put-empty (c .before .before .before .before .before .before .before .before .before .before .before .before .before .before .args .out .now) (c .before .before .before .before .before .before .before .before .before .before .before .before .before .before .args .at + c .before .before .before .before .before .boost-size .result) (madeBytes (queryOf (bracket-kept W (c .before .before .before .before .before .before .before .before .before .before .measure-query .ensures .0 st (W .tuned)) (c .before .before .before .before .before .before .before .before .count .given .1)))) (sym l ∙ c .before .before .before .before .if1 .taken)) refl), (omega (arith, K .0, c .before .before .put-boost .ensures .1), c .before .before .put-boost .ensures .1 .1))
+write-bracket-returns t c =
+    let args = c .before .before .before .before .before .before .before .before .before .before .before .before .before .before .args in
+    let measure-query = c .before .before .before .before .before .before .before .before .before .before .measure-query in
+    let count = c .before .before .before .before .before .before .before .before .count in
+    let put-boost = c .before .before .put-boost in
+    let K = rw (count .given .1) at (measure-query .ensures .1) in
+    ((λ st m j W. let l = c .before .before .before .before .before .before .query-len .ensures .0 (bracket-kept W (measure-query .ensures .0 st (W .tuned)) (count .given .1)) (bracket-sums W (measure-query .ensures .0 st (W .tuned)) (count .given .1)) in put-boost .ensures .0 st (queryOf (bracket-kept W (measure-query .ensures .0 st (W .tuned)) (count .given .1))) m j (args .out .now) (bracket-boost W (measure-query .ensures .0 st (W .tuned)) (count .given .1)) (put-empty (args .out .now) (args .at + c .before .before .before .before .before .boost-size .result) (madeBytes (queryOf (bracket-kept W (measure-query .ensures .0 st (W .tuned)) (count .given .1)))) (sym l ∙ c .before .before .before .before .if1 .taken)) refl), (omega (arith, K .0, put-boost .ensures .1), put-boost .ensures .1 .1))
 
 write-bracket-is-alone-requires : (t : ℕ) → write-bracket-lts.Need-is-alone-requires (write-bracket-calls t) (write-bracket-at t) write-bracket.Post
 write-bracket-is-alone-requires t c κs = search needs
@@ -146,28 +157,117 @@ write-bracket-sub-write-query : (t : ℕ) → write-bracket-lts.Need-sub-write-q
 write-bracket-sub-write-query t c = omega arith
 
 write-bracket-part-write-query-start : (t : ℕ) → write-bracket-lts.Need-part-write-query-start (write-bracket-calls t) (write-bracket-at t) write-bracket.Post
-write-bracket-part-write-query-start t c = let l = c .before .before .before .query-len .ensures .0 (bracket-kept (c .before .before .before .before .before .before .before .before .before .before .before .pre .1 .6 .3) (c .before .before .before .before .before .before .before .measure-query .ensures .0 (c .before .before .before .before .before .before .before .before .before .before .before .pre .1 .6 .0) ((c .before .before .before .before .before .before .before .before .before .before .before .pre .1 .6 .3) .tuned)) (c .before .before .before .before .before .count .given .1)) (bracket-sums (c .before .before .before .before .before .before .before .before .before .before .before .pre .1 .6 .3) (c .before .before .before .before .before .before .before .measure-query .ensures .0 (c .before .before .before .before .before .before .before .before .before .before .before .pre .1 .6 .0) ((c .before .before .before .before .before .before .before .before .before .before .before .pre .1 .6 .3) .tuned)) (c .before .before .before .before .before .count .given .1)) in let R = boost-room (c .before .before .before .before .before .before .before .before .before .before .before .pre .1 .6 .0) (tokensOf (c .before .before .before .before .before .before .before .before .before .before .before .args .room .now) (c .before .before .before .before .before .before .before .before .before .before .before .args .p .n)) (queryOf (bracket-kept (c .before .before .before .before .before .before .before .before .before .before .before .pre .1 .6 .3) (c .before .before .before .before .before .before .before .measure-query .ensures .0 (c .before .before .before .before .before .before .before .before .before .before .before .pre .1 .6 .0) ((c .before .before .before .before .before .before .before .before .before .before .before .pre .1 .6 .3) .tuned)) (c .before .before .before .before .before .count .given .1))) ((c .before .before .before .before .before .count .given .0 .1 .1 .1 .0) + 1) (c .before .before .before .before .before .before .before .before .before .before .before .args .at) (length (c .before .before .before .before .before .before .before .before .before .before .before .args .out .now)) (bracket-boost (c .before .before .before .before .before .before .before .before .before .before .before .pre .1 .6 .3) (c .before .before .before .before .before .before .before .measure-query .ensures .0 (c .before .before .before .before .before .before .before .before .before .before .before .pre .1 .6 .0) ((c .before .before .before .before .before .before .before .before .before .before .before .pre .1 .6 .3) .tuned)) (c .before .before .before .before .before .count .given .1)) ((c .before .before .before .before .before .before .before .before .before .before .before .pre .1 .6 .3) .fits) (omega (arith, l, c .before .if1 .left)) in let h : (c .before .before .before .before .before .before .before .before .before .before .before .args .at + c .before .before .boost-size .result) + (c .before .before .before .query-len .result) ≤ length (c .before .before .before .before .before .before .before .before .before .before .before .args .out .now) = omega (arith, R, l, c .before .before .boost-size .ensures) in omega (arith, h)
+write-bracket-part-write-query-start t c =
+    let pre = c .before .before .before .before .before .before .before .before .before .before .before .pre in
+    let args = c .before .before .before .before .before .before .before .before .before .before .before .args in
+    let measure-query = c .before .before .before .before .before .before .before .measure-query in
+    let count = c .before .before .before .before .before .count in
+    let query-len = c .before .before .before .query-len in
+    let boost-size = c .before .before .boost-size in
+    let l = query-len .ensures .0 (bracket-kept (pre .1 .6 .3) (measure-query .ensures .0 (pre .1 .6 .0) ((pre .1 .6 .3) .tuned)) (count .given .1)) (bracket-sums (pre .1 .6 .3) (measure-query .ensures .0 (pre .1 .6 .0) ((pre .1 .6 .3) .tuned)) (count .given .1)) in
+    let R = boost-room (pre .1 .6 .0) (tokensOf (args .room .now) (args .p .n)) (queryOf (bracket-kept (pre .1 .6 .3) (measure-query .ensures .0 (pre .1 .6 .0) ((pre .1 .6 .3) .tuned)) (count .given .1))) ((count .given .0 .1 .1 .1 .0) + 1) (args .at) (length (args .out .now)) (bracket-boost (pre .1 .6 .3) (measure-query .ensures .0 (pre .1 .6 .0) ((pre .1 .6 .3) .tuned)) (count .given .1)) ((pre .1 .6 .3) .fits) (omega (arith, l, c .before .if1 .left)) in
+    let h : (args .at + boost-size .result) + (query-len .result) ≤ length (args .out .now) = omega (arith, R, l, boost-size .ensures) in
+    omega (arith, h)
 
 write-bracket-part-write-query-end : (t : ℕ) → write-bracket-lts.Need-part-write-query-end (write-bracket-calls t) (write-bracket-at t) write-bracket.Post
-write-bracket-part-write-query-end t c = let l = c .before .before .before .query-len .ensures .0 (bracket-kept (c .before .before .before .before .before .before .before .before .before .before .before .pre .1 .6 .3) (c .before .before .before .before .before .before .before .measure-query .ensures .0 (c .before .before .before .before .before .before .before .before .before .before .before .pre .1 .6 .0) ((c .before .before .before .before .before .before .before .before .before .before .before .pre .1 .6 .3) .tuned)) (c .before .before .before .before .before .count .given .1)) (bracket-sums (c .before .before .before .before .before .before .before .before .before .before .before .pre .1 .6 .3) (c .before .before .before .before .before .before .before .measure-query .ensures .0 (c .before .before .before .before .before .before .before .before .before .before .before .pre .1 .6 .0) ((c .before .before .before .before .before .before .before .before .before .before .before .pre .1 .6 .3) .tuned)) (c .before .before .before .before .before .count .given .1)) in let R = boost-room (c .before .before .before .before .before .before .before .before .before .before .before .pre .1 .6 .0) (tokensOf (c .before .before .before .before .before .before .before .before .before .before .before .args .room .now) (c .before .before .before .before .before .before .before .before .before .before .before .args .p .n)) (queryOf (bracket-kept (c .before .before .before .before .before .before .before .before .before .before .before .pre .1 .6 .3) (c .before .before .before .before .before .before .before .measure-query .ensures .0 (c .before .before .before .before .before .before .before .before .before .before .before .pre .1 .6 .0) ((c .before .before .before .before .before .before .before .before .before .before .before .pre .1 .6 .3) .tuned)) (c .before .before .before .before .before .count .given .1))) ((c .before .before .before .before .before .count .given .0 .1 .1 .1 .0) + 1) (c .before .before .before .before .before .before .before .before .before .before .before .args .at) (length (c .before .before .before .before .before .before .before .before .before .before .before .args .out .now)) (bracket-boost (c .before .before .before .before .before .before .before .before .before .before .before .pre .1 .6 .3) (c .before .before .before .before .before .before .before .measure-query .ensures .0 (c .before .before .before .before .before .before .before .before .before .before .before .pre .1 .6 .0) ((c .before .before .before .before .before .before .before .before .before .before .before .pre .1 .6 .3) .tuned)) (c .before .before .before .before .before .count .given .1)) ((c .before .before .before .before .before .before .before .before .before .before .before .pre .1 .6 .3) .fits) (omega (arith, l, c .before .if1 .left)) in let h : (c .before .before .before .before .before .before .before .before .before .before .before .args .at + c .before .before .boost-size .result) + (c .before .before .before .query-len .result) ≤ length (c .before .before .before .before .before .before .before .before .before .before .before .args .out .now) = omega (arith, R, l, c .before .before .boost-size .ensures) in omega (arith, h)
+write-bracket-part-write-query-end t c =
+    let pre = c .before .before .before .before .before .before .before .before .before .before .before .pre in
+    let args = c .before .before .before .before .before .before .before .before .before .before .before .args in
+    let measure-query = c .before .before .before .before .before .before .before .measure-query in
+    let count = c .before .before .before .before .before .count in
+    let query-len = c .before .before .before .query-len in
+    let boost-size = c .before .before .boost-size in
+    let l = query-len .ensures .0 (bracket-kept (pre .1 .6 .3) (measure-query .ensures .0 (pre .1 .6 .0) ((pre .1 .6 .3) .tuned)) (count .given .1)) (bracket-sums (pre .1 .6 .3) (measure-query .ensures .0 (pre .1 .6 .0) ((pre .1 .6 .3) .tuned)) (count .given .1)) in
+    let R = boost-room (pre .1 .6 .0) (tokensOf (args .room .now) (args .p .n)) (queryOf (bracket-kept (pre .1 .6 .3) (measure-query .ensures .0 (pre .1 .6 .0) ((pre .1 .6 .3) .tuned)) (count .given .1))) ((count .given .0 .1 .1 .1 .0) + 1) (args .at) (length (args .out .now)) (bracket-boost (pre .1 .6 .3) (measure-query .ensures .0 (pre .1 .6 .0) ((pre .1 .6 .3) .tuned)) (count .given .1)) ((pre .1 .6 .3) .fits) (omega (arith, l, c .before .if1 .left)) in
+    let h : (args .at + boost-size .result) + (query-len .result) ≤ length (args .out .now) = omega (arith, R, l, boost-size .ensures) in
+    omega (arith, h)
 
 write-bracket-write-query-requires : (t : ℕ) → write-bracket-lts.Need-write-query-requires (write-bracket-calls t) (write-bracket-at t) write-bracket.Post
-write-bracket-write-query-requires t c κs = let l = c .before .before .before .before .query-len .ensures .0 (bracket-kept (c .before .before .before .before .before .before .before .before .before .before .before .before .pre .1 .6 .3) (c .before .before .before .before .before .before .before .before .measure-query .ensures .0 (c .before .before .before .before .before .before .before .before .before .before .before .before .pre .1 .6 .0) ((c .before .before .before .before .before .before .before .before .before .before .before .before .pre .1 .6 .3) .tuned)) (c .before .before .before .before .before .before .count .given .1)) (bracket-sums (c .before .before .before .before .before .before .before .before .before .before .before .before .pre .1 .6 .3) (c .before .before .before .before .before .before .before .before .measure-query .ensures .0 (c .before .before .before .before .before .before .before .before .before .before .before .before .pre .1 .6 .0) ((c .before .before .before .before .before .before .before .before .before .before .before .before .pre .1 .6 .3) .tuned)) (c .before .before .before .before .before .before .count .given .1)) in let R = boost-room (c .before .before .before .before .before .before .before .before .before .before .before .before .pre .1 .6 .0) (tokensOf (c .before .before .before .before .before .before .before .before .before .before .before .before .args .room .now) (c .before .before .before .before .before .before .before .before .before .before .before .before .args .p .n)) (queryOf (bracket-kept (c .before .before .before .before .before .before .before .before .before .before .before .before .pre .1 .6 .3) (c .before .before .before .before .before .before .before .before .measure-query .ensures .0 (c .before .before .before .before .before .before .before .before .before .before .before .before .pre .1 .6 .0) ((c .before .before .before .before .before .before .before .before .before .before .before .before .pre .1 .6 .3) .tuned)) (c .before .before .before .before .before .before .count .given .1))) ((c .before .before .before .before .before .before .count .given .0 .1 .1 .1 .0) + 1) (c .before .before .before .before .before .before .before .before .before .before .before .before .args .at) (length (c .before .before .before .before .before .before .before .before .before .before .before .before .args .out .now)) (bracket-boost (c .before .before .before .before .before .before .before .before .before .before .before .before .pre .1 .6 .3) (c .before .before .before .before .before .before .before .before .measure-query .ensures .0 (c .before .before .before .before .before .before .before .before .before .before .before .before .pre .1 .6 .0) ((c .before .before .before .before .before .before .before .before .before .before .before .before .pre .1 .6 .3) .tuned)) (c .before .before .before .before .before .before .count .given .1)) ((c .before .before .before .before .before .before .before .before .before .before .before .before .pre .1 .6 .3) .fits) (omega (arith, l, c .before .before .if1 .left)) in let h : (c .before .before .before .before .before .before .before .before .before .before .before .before .args .at + c .before .before .before .boost-size .result) + (c .before .before .before .before .query-len .result) ≤ length (c .before .before .before .before .before .before .before .before .before .before .before .before .args .out .now) = omega (arith, R, l, c .before .before .before .boost-size .ensures) in let r = slice-length (c .before .before .before .before .before .before .before .before .before .before .before .before .args .out .now) (c .before .before .before .before .before .before .before .before .before .before .before .before .args .at + c .before .before .before .boost-size .result) (c .before .before .before .before .query-len .result) (omega (arith, h)) in (omega (arith, c .before .before .before .before .before .before .before .before .before .before .before .before .pre .0), (c .before .before .before .before .before .before .before .before .before .before .before .before .pre .1 .0, c .before .before .before .before .before .before .before .before .before .before .before .before .pre .1 .1, c .before .before .before .before .before .before .before .before .before .before .before .before .pre .1 .2, c .before .before .before .before .before .before .before .before .before .before .before .before .pre .1 .3, omega (arith, r, c .before .before .if1 .left), omega (arith, r, h, c .before .before .before .before .before .before .before .before .before .before .before .before .pre .1 .5), ((c .before .before .before .before .before .before .before .before .before .before .before .before .pre .1 .6 .0), bracket-kept (c .before .before .before .before .before .before .before .before .before .before .before .before .pre .1 .6 .3) (c .before .before .before .before .before .before .before .before .measure-query .ensures .0 (c .before .before .before .before .before .before .before .before .before .before .before .before .pre .1 .6 .0) ((c .before .before .before .before .before .before .before .before .before .before .before .before .pre .1 .6 .3) .tuned)) (c .before .before .before .before .before .before .count .given .1), (c .before .before .before .before .before .before .count .given .0 .1 .1 .1 .0), (bracket-query (c .before .before .before .before .before .before .before .before .before .before .before .before .pre .1 .6 .3) (c .before .before .before .before .before .before .before .before .measure-query .ensures .0 (c .before .before .before .before .before .before .before .before .before .before .before .before .pre .1 .6 .0) ((c .before .before .before .before .before .before .before .before .before .before .before .before .pre .1 .6 .3) .tuned)) (c .before .before .before .before .before .before .count .given .1) (c .before .is-alone .result) _ (c .before .is-alone .ensures (bracket-kept (c .before .before .before .before .before .before .before .before .before .before .before .before .pre .1 .6 .3) (c .before .before .before .before .before .before .before .before .measure-query .ensures .0 (c .before .before .before .before .before .before .before .before .before .before .before .before .pre .1 .6 .0) ((c .before .before .before .before .before .before .before .before .before .before .before .before .pre .1 .6 .3) .tuned)) (c .before .before .before .before .before .before .count .given .1)) (c .before .before .before .before .before .before .count .given .0 .1 .1 .0) (bracket-sums (c .before .before .before .before .before .before .before .before .before .before .before .before .pre .1 .6 .3) (c .before .before .before .before .before .before .before .before .measure-query .ensures .0 (c .before .before .before .before .before .before .before .before .before .before .before .before .pre .1 .6 .0) ((c .before .before .before .before .before .before .before .before .before .before .before .before .pre .1 .6 .3) .tuned)) (c .before .before .before .before .before .before .count .given .1))) (r ∙ l)))))
+write-bracket-write-query-requires t c κs =
+    let pre = c .before .before .before .before .before .before .before .before .before .before .before .before .pre in
+    let args = c .before .before .before .before .before .before .before .before .before .before .before .before .args in
+    let measure-query = c .before .before .before .before .before .before .before .before .measure-query in
+    let count = c .before .before .before .before .before .before .count in
+    let query-len = c .before .before .before .before .query-len in
+    let boost-size = c .before .before .before .boost-size in
+    let if1 = c .before .before .if1 in
+    let is-alone = c .before .is-alone in
+    let l = query-len .ensures .0 (bracket-kept (pre .1 .6 .3) (measure-query .ensures .0 (pre .1 .6 .0) ((pre .1 .6 .3) .tuned)) (count .given .1)) (bracket-sums (pre .1 .6 .3) (measure-query .ensures .0 (pre .1 .6 .0) ((pre .1 .6 .3) .tuned)) (count .given .1)) in
+    let R = boost-room (pre .1 .6 .0) (tokensOf (args .room .now) (args .p .n)) (queryOf (bracket-kept (pre .1 .6 .3) (measure-query .ensures .0 (pre .1 .6 .0) ((pre .1 .6 .3) .tuned)) (count .given .1))) ((count .given .0 .1 .1 .1 .0) + 1) (args .at) (length (args .out .now)) (bracket-boost (pre .1 .6 .3) (measure-query .ensures .0 (pre .1 .6 .0) ((pre .1 .6 .3) .tuned)) (count .given .1)) ((pre .1 .6 .3) .fits) (omega (arith, l, if1 .left)) in
+    let h : (args .at + boost-size .result) + (query-len .result) ≤ length (args .out .now) = omega (arith, R, l, boost-size .ensures) in
+    let r = slice-length (args .out .now) (args .at + boost-size .result) (query-len .result) (omega (arith, h)) in
+    (omega (arith, pre .0), (pre .1 .0, pre .1 .1, pre .1 .2, pre .1 .3, omega (arith, r, if1 .left), omega (arith, r, h, pre .1 .5), ((pre .1 .6 .0), bracket-kept (pre .1 .6 .3) (measure-query .ensures .0 (pre .1 .6 .0) ((pre .1 .6 .3) .tuned)) (count .given .1), (count .given .0 .1 .1 .1 .0), (bracket-query (pre .1 .6 .3) (measure-query .ensures .0 (pre .1 .6 .0) ((pre .1 .6 .3) .tuned)) (count .given .1) (is-alone .result) _ (is-alone .ensures (bracket-kept (pre .1 .6 .3) (measure-query .ensures .0 (pre .1 .6 .0) ((pre .1 .6 .3) .tuned)) (count .given .1)) (count .given .0 .1 .1 .0) (bracket-sums (pre .1 .6 .3) (measure-query .ensures .0 (pre .1 .6 .0) ((pre .1 .6 .3) .tuned)) (count .given .1))) (r ∙ l)))))
 
 write-bracket-add-put-boost-2 : (t : ℕ) → write-bracket-lts.Need-add-put-boost-2 (write-bracket-calls t) (write-bracket-at t) write-bracket.Post
 write-bracket-add-put-boost-2 t c = let K = rw (c .before .before .before .before .before .before .before .before .before .count .given .1) at (c .before .before .before .before .before .before .before .before .before .before .before .measure-query .ensures .1) in omega (arith, K .1, c .before .before .before .before .before .before .before .before .before .before .before .before .before .before .before .pre .1 .0 .few)
 
 write-bracket-put-boost-requires-2 : (t : ℕ) → write-bracket-lts.Need-put-boost-requires-2 (write-bracket-calls t) (write-bracket-at t) write-bracket.Post
-write-bracket-put-boost-requires-2 t c κs = let k = kind-in (c .before .before .before .before .before .before .before .before .before .before .before .before .before .before .before .before .args .room .now) (c .before .before .before .before .before .before .before .before .before .before .before .before .before .before .before .before .args .p .n) 10 (c .before .before .before .before .before .before .before .before .before .before .count .given .0 .1 .1 .1 .0) (λ y. omega arith) (bracket-closed (c .before .before .before .before .before .before .before .before .before .before .before .before .before .before .before .before .pre .1 .6 .3) (c .before .before .before .before .before .before .before .before .before .before .before .before .measure-query .ensures .0 (c .before .before .before .before .before .before .before .before .before .before .before .before .before .before .before .before .pre .1 .6 .0) ((c .before .before .before .before .before .before .before .before .before .before .before .before .before .before .before .before .pre .1 .6 .3) .tuned)) (c .before .before .before .before .before .before .before .before .before .before .count .given .1)) in let l = c .before .before .before .before .before .before .before .before .query-len .ensures .0 (bracket-kept (c .before .before .before .before .before .before .before .before .before .before .before .before .before .before .before .before .pre .1 .6 .3) (c .before .before .before .before .before .before .before .before .before .before .before .before .measure-query .ensures .0 (c .before .before .before .before .before .before .before .before .before .before .before .before .before .before .before .before .pre .1 .6 .0) ((c .before .before .before .before .before .before .before .before .before .before .before .before .before .before .before .before .pre .1 .6 .3) .tuned)) (c .before .before .before .before .before .before .before .before .before .before .count .given .1)) (bracket-sums (c .before .before .before .before .before .before .before .before .before .before .before .before .before .before .before .before .pre .1 .6 .3) (c .before .before .before .before .before .before .before .before .before .before .before .before .measure-query .ensures .0 (c .before .before .before .before .before .before .before .before .before .before .before .before .before .before .before .before .pre .1 .6 .0) ((c .before .before .before .before .before .before .before .before .before .before .before .before .before .before .before .before .pre .1 .6 .3) .tuned)) (c .before .before .before .before .before .before .before .before .before .before .count .given .1)) in let R = boost-room (c .before .before .before .before .before .before .before .before .before .before .before .before .before .before .before .before .pre .1 .6 .0) (tokensOf (c .before .before .before .before .before .before .before .before .before .before .before .before .before .before .before .before .args .room .now) (c .before .before .before .before .before .before .before .before .before .before .before .before .before .before .before .before .args .p .n)) (queryOf (bracket-kept (c .before .before .before .before .before .before .before .before .before .before .before .before .before .before .before .before .pre .1 .6 .3) (c .before .before .before .before .before .before .before .before .before .before .before .before .measure-query .ensures .0 (c .before .before .before .before .before .before .before .before .before .before .before .before .before .before .before .before .pre .1 .6 .0) ((c .before .before .before .before .before .before .before .before .before .before .before .before .before .before .before .before .pre .1 .6 .3) .tuned)) (c .before .before .before .before .before .before .before .before .before .before .count .given .1))) ((c .before .before .before .before .before .before .before .before .before .before .count .given .0 .1 .1 .1 .0) + 1) (c .before .before .before .before .before .before .before .before .before .before .before .before .before .before .before .before .args .at) (length (c .before .before .before .before .before .before .before .before .before .before .before .before .before .before .before .before .args .out .now)) (bracket-boost (c .before .before .before .before .before .before .before .before .before .before .before .before .before .before .before .before .pre .1 .6 .3) (c .before .before .before .before .before .before .before .before .before .before .before .before .measure-query .ensures .0 (c .before .before .before .before .before .before .before .before .before .before .before .before .before .before .before .before .pre .1 .6 .0) ((c .before .before .before .before .before .before .before .before .before .before .before .before .before .before .before .before .pre .1 .6 .3) .tuned)) (c .before .before .before .before .before .before .before .before .before .before .count .given .1)) ((c .before .before .before .before .before .before .before .before .before .before .before .before .before .before .before .before .pre .1 .6 .3) .fits) (omega (arith, l, c .before .before .before .before .before .before .if1 .left)) in let h : (c .before .before .before .before .before .before .before .before .before .before .before .before .before .before .before .before .args .at + c .before .before .before .before .before .before .before .boost-size .result) + (c .before .before .before .before .before .before .before .before .query-len .result) ≤ length (c .before .before .before .before .before .before .before .before .before .before .before .before .before .before .before .before .args .out .now) = omega (arith, R, l, c .before .before .before .before .before .before .before .boost-size .ensures) in let r = slice-length (c .before .before .before .before .before .before .before .before .before .before .before .before .before .before .before .before .args .out .now) (c .before .before .before .before .before .before .before .before .before .before .before .before .before .before .before .before .args .at + c .before .before .before .before .before .before .before .boost-size .result) (c .before .before .before .before .before .before .before .before .query-len .result) (omega (arith, h)) in let b = mid-bounds (c .before .before .before .before .before .before .before .before .before .before .before .before .before .before .before .before .args .out .now) (c .before .before .before .write-query .last .1 .1 .1 .1 .1 .0) (c .before .before .before .before .before .before .before .before .before .before .before .before .before .before .before .before .args .at + c .before .before .before .before .before .before .before .boost-size .result) ((c .before .before .before .before .before .before .before .before .before .before .before .before .before .before .before .before .args .at + c .before .before .before .before .before .before .before .boost-size .result) + (c .before .before .before .before .before .before .before .before .query-len .result)) (omega arith) h (c .before .before .before .write-query .kept .1 .1 .1 .1 .1 .0 ∙ r ∙ omega arith) (c .before .before .before .before .before .before .before .before .before .before .before .before .before .before .before .before .pre .1 .5) in (c .before .before .before .before .before .before .before .before .before .before .before .before .before .before .before .before .pre .1 .0, omega (arith, k), ap (λ (x : ℕ). c .before .before .before .before .before .before .before .before .before .before .before .before .before .before .before .before .args .at + x) (c .before .before .before .before .before .before .before .boost-size .ensures), omega arith, (λ x. b .0), b .1)
+write-bracket-put-boost-requires-2 t c κs =
+    let pre = c .before .before .before .before .before .before .before .before .before .before .before .before .before .before .before .before .pre in
+    let args = c .before .before .before .before .before .before .before .before .before .before .before .before .before .before .before .before .args in
+    let measure-query = c .before .before .before .before .before .before .before .before .before .before .before .before .measure-query in
+    let count = c .before .before .before .before .before .before .before .before .before .before .count in
+    let query-len = c .before .before .before .before .before .before .before .before .query-len in
+    let boost-size = c .before .before .before .before .before .before .before .boost-size in
+    let write-query′ = c .before .before .before .write-query in
+    let k = kind-in (args .room .now) (args .p .n) 10 (count .given .0 .1 .1 .1 .0) (λ y. omega arith) (bracket-closed (pre .1 .6 .3) (measure-query .ensures .0 (pre .1 .6 .0) ((pre .1 .6 .3) .tuned)) (count .given .1)) in
+    let l = query-len .ensures .0 (bracket-kept (pre .1 .6 .3) (measure-query .ensures .0 (pre .1 .6 .0) ((pre .1 .6 .3) .tuned)) (count .given .1)) (bracket-sums (pre .1 .6 .3) (measure-query .ensures .0 (pre .1 .6 .0) ((pre .1 .6 .3) .tuned)) (count .given .1)) in
+    let R = boost-room (pre .1 .6 .0) (tokensOf (args .room .now) (args .p .n)) (queryOf (bracket-kept (pre .1 .6 .3) (measure-query .ensures .0 (pre .1 .6 .0) ((pre .1 .6 .3) .tuned)) (count .given .1))) ((count .given .0 .1 .1 .1 .0) + 1) (args .at) (length (args .out .now)) (bracket-boost (pre .1 .6 .3) (measure-query .ensures .0 (pre .1 .6 .0) ((pre .1 .6 .3) .tuned)) (count .given .1)) ((pre .1 .6 .3) .fits) (omega (arith, l, c .before .before .before .before .before .before .if1 .left)) in
+    let h : (args .at + boost-size .result) + (query-len .result) ≤ length (args .out .now) = omega (arith, R, l, boost-size .ensures) in
+    let r = slice-length (args .out .now) (args .at + boost-size .result) (query-len .result) (omega (arith, h)) in
+    let b = mid-bounds (args .out .now) (write-query′ .last .1 .1 .1 .1 .1 .0) (args .at + boost-size .result) ((args .at + boost-size .result) + (query-len .result)) (omega arith) h (write-query′ .kept .1 .1 .1 .1 .1 .0 ∙ r ∙ omega arith) (pre .1 .5) in
+    (pre .1 .0, omega (arith, k), ap (λ (x : ℕ). args .at + x) (boost-size .ensures), omega arith, (λ x. b .0), b .1)
 
 write-bracket-returns-2 : (t : ℕ) → write-bracket-lts.Need-returns-2 (write-bracket-calls t) (write-bracket-at t) write-bracket.Post
 write-bracket-returns-2 t c = bracket-fault (c .before .before .before .before .before .before .pre .1 .6 .3) (c .before .before .measure-query .ensures .0 (c .before .before .before .before .before .before .pre .1 .6 .0) ((c .before .before .before .before .before .before .pre .1 .6 .3) .tuned)) (c .enum-told .given .1)
 
 write-bracket-same-length-2 : (t : ℕ) → write-bracket-lts.Need-same-length-2 (write-bracket-calls t) (write-bracket-at t) write-bracket.Post
-write-bracket-same-length-2 t c = let l = c .before .before .before .before .before .before .before .before .before .before .before .query-len .ensures .0 (bracket-kept (c .before .before .before .before .before .before .before .before .before .before .before .before .before .before .before .before .before .before .before .pre .1 .6 .3) (c .before .before .before .before .before .before .before .before .before .before .before .before .before .before .before .measure-query .ensures .0 (c .before .before .before .before .before .before .before .before .before .before .before .before .before .before .before .before .before .before .before .pre .1 .6 .0) ((c .before .before .before .before .before .before .before .before .before .before .before .before .before .before .before .before .before .before .before .pre .1 .6 .3) .tuned)) (c .before .before .before .before .before .before .before .before .before .before .before .before .before .count .given .1)) (bracket-sums (c .before .before .before .before .before .before .before .before .before .before .before .before .before .before .before .before .before .before .before .pre .1 .6 .3) (c .before .before .before .before .before .before .before .before .before .before .before .before .before .before .before .measure-query .ensures .0 (c .before .before .before .before .before .before .before .before .before .before .before .before .before .before .before .before .before .before .before .pre .1 .6 .0) ((c .before .before .before .before .before .before .before .before .before .before .before .before .before .before .before .before .before .before .before .pre .1 .6 .3) .tuned)) (c .before .before .before .before .before .before .before .before .before .before .before .before .before .count .given .1)) in let R = boost-room (c .before .before .before .before .before .before .before .before .before .before .before .before .before .before .before .before .before .before .before .pre .1 .6 .0) (tokensOf (c .before .before .before .before .before .before .before .before .before .before .before .before .before .before .before .before .before .before .before .args .room .now) (c .before .before .before .before .before .before .before .before .before .before .before .before .before .before .before .before .before .before .before .args .p .n)) (queryOf (bracket-kept (c .before .before .before .before .before .before .before .before .before .before .before .before .before .before .before .before .before .before .before .pre .1 .6 .3) (c .before .before .before .before .before .before .before .before .before .before .before .before .before .before .before .measure-query .ensures .0 (c .before .before .before .before .before .before .before .before .before .before .before .before .before .before .before .before .before .before .before .pre .1 .6 .0) ((c .before .before .before .before .before .before .before .before .before .before .before .before .before .before .before .before .before .before .before .pre .1 .6 .3) .tuned)) (c .before .before .before .before .before .before .before .before .before .before .before .before .before .count .given .1))) ((c .before .before .before .before .before .before .before .before .before .before .before .before .before .count .given .0 .1 .1 .1 .0) + 1) (c .before .before .before .before .before .before .before .before .before .before .before .before .before .before .before .before .before .before .before .args .at) (length (c .before .before .before .before .before .before .before .before .before .before .before .before .before .before .before .before .before .before .before .args .out .now)) (bracket-boost (c .before .before .before .before .before .before .before .before .before .before .before .before .before .before .before .before .before .before .before .pre .1 .6 .3) (c .before .before .before .before .before .before .before .before .before .before .before .before .before .before .before .measure-query .ensures .0 (c .before .before .before .before .before .before .before .before .before .before .before .before .before .before .before .before .before .before .before .pre .1 .6 .0) ((c .before .before .before .before .before .before .before .before .before .before .before .before .before .before .before .before .before .before .before .pre .1 .6 .3) .tuned)) (c .before .before .before .before .before .before .before .before .before .before .before .before .before .count .given .1)) ((c .before .before .before .before .before .before .before .before .before .before .before .before .before .before .before .before .before .before .before .pre .1 .6 .3) .fits) (omega (arith, l, c .before .before .before .before .before .before .before .before .before .if1 .left)) in let h : (c .before .before .before .before .before .before .before .before .before .before .before .before .before .before .before .before .before .before .before .args .at + c .before .before .before .before .before .before .before .before .before .before .boost-size .result) + (c .before .before .before .before .before .before .before .before .before .before .before .query-len .result) ≤ length (c .before .before .before .before .before .before .before .before .before .before .before .before .before .before .before .before .before .before .before .args .out .now) = omega (arith, R, l, c .before .before .before .before .before .before .before .before .before .before .boost-size .ensures) in let r = slice-length (c .before .before .before .before .before .before .before .before .before .before .before .before .before .before .before .before .before .before .before .args .out .now) (c .before .before .before .before .before .before .before .before .before .before .before .before .before .before .before .before .before .before .before .args .at + c .before .before .before .before .before .before .before .before .before .before .boost-size .result) (c .before .before .before .before .before .before .before .before .before .before .before .query-len .result) (omega (arith, h)) in c .before .before .put-boost2 .kept .1 .1 .1 .0 ∙ mid-length (c .before .before .before .before .before .before .before .before .before .before .before .before .before .before .before .before .before .before .before .args .out .now) (c .before .before .before .before .before .before .write-query .last .1 .1 .1 .1 .1 .0) (c .before .before .before .before .before .before .before .before .before .before .before .before .before .before .before .before .before .before .before .args .at + c .before .before .before .before .before .before .before .before .before .before .boost-size .result) ((c .before .before .before .before .before .before .before .before .before .before .before .before .before .before .before .before .before .before .before .args .at + c .before .before .before .before .before .before .before .before .before .before .boost-size .result) + (c .before .before .before .before .before .before .before .before .before .before .before .query-len .result)) (omega arith) h (c .before .before .before .before .before .before .write-query .kept .1 .1 .1 .1 .1 .0 ∙ r ∙ omega arith)
+write-bracket-same-length-2 t c =
+    let pre = c .before .before .before .before .before .before .before .before .before .before .before .before .before .before .before .before .before .before .before .pre in
+    let args = c .before .before .before .before .before .before .before .before .before .before .before .before .before .before .before .before .before .before .before .args in
+    let measure-query = c .before .before .before .before .before .before .before .before .before .before .before .before .before .before .before .measure-query in
+    let count = c .before .before .before .before .before .before .before .before .before .before .before .before .before .count in
+    let query-len = c .before .before .before .before .before .before .before .before .before .before .before .query-len in
+    let boost-size = c .before .before .before .before .before .before .before .before .before .before .boost-size in
+    let write-query′ = c .before .before .before .before .before .before .write-query in
+    let l = query-len .ensures .0 (bracket-kept (pre .1 .6 .3) (measure-query .ensures .0 (pre .1 .6 .0) ((pre .1 .6 .3) .tuned)) (count .given .1)) (bracket-sums (pre .1 .6 .3) (measure-query .ensures .0 (pre .1 .6 .0) ((pre .1 .6 .3) .tuned)) (count .given .1)) in
+    let R = boost-room (pre .1 .6 .0) (tokensOf (args .room .now) (args .p .n)) (queryOf (bracket-kept (pre .1 .6 .3) (measure-query .ensures .0 (pre .1 .6 .0) ((pre .1 .6 .3) .tuned)) (count .given .1))) ((count .given .0 .1 .1 .1 .0) + 1) (args .at) (length (args .out .now)) (bracket-boost (pre .1 .6 .3) (measure-query .ensures .0 (pre .1 .6 .0) ((pre .1 .6 .3) .tuned)) (count .given .1)) ((pre .1 .6 .3) .fits) (omega (arith, l, c .before .before .before .before .before .before .before .before .before .if1 .left)) in
+    let h : (args .at + boost-size .result) + (query-len .result) ≤ length (args .out .now) = omega (arith, R, l, boost-size .ensures) in
+    let r = slice-length (args .out .now) (args .at + boost-size .result) (query-len .result) (omega (arith, h)) in
+    c .before .before .put-boost2 .kept .1 .1 .1 .0 ∙ mid-length (args .out .now) (write-query′ .last .1 .1 .1 .1 .1 .0) (args .at + boost-size .result) ((args .at + boost-size .result) + (query-len .result)) (omega arith) h (write-query′ .kept .1 .1 .1 .1 .1 .0 ∙ r ∙ omega arith)
 
 write-bracket-returns-3 : (t : ℕ) → write-bracket-lts.Need-returns-3 (write-bracket-calls t) (write-bracket-at t) write-bracket.Post
-write-bracket-returns-3 t c = let K = rw (c .before .before .before .before .before .before .before .before .before .before .before .before .before .count .given .1) at (c .before .before .before .before .before .before .before .before .before .before .before .before .before .before .before .measure-query .ensures .1) in ((λ st m j W. let l = c .before .before .before .before .before .before .before .before .before .before .before .query-len .ensures .0 (bracket-kept W (c .before .before .before .before .before .before .before .before .before .before .before .before .before .before .before .measure-query .ensures .0 st (W .tuned)) (c .before .before .before .before .before .before .before .before .before .before .before .before .before .count .given .1)) (bracket-sums W (c .before .before .before .before .before .before .before .before .before .before .before .before .before .before .before .measure-query .ensures .0 st (W .tuned)) (c .before .before .before .before .before .before .before .before .before .before .before .before .before .count .given .1)) in let R = boost-room st (tokensOf (c .before .before .before .before .before .before .before .before .before .before .before .before .before .before .before .before .before .before .before .args .room .now) (c .before .before .before .before .before .before .before .before .before .before .before .before .before .before .before .before .before .before .before .args .p .n)) (queryOf (bracket-kept W (c .before .before .before .before .before .before .before .before .before .before .before .before .before .before .before .measure-query .ensures .0 st (W .tuned)) (c .before .before .before .before .before .before .before .before .before .before .before .before .before .count .given .1))) ((c .before .before .before .before .before .before .before .before .before .before .before .before .before .count .given .0 .1 .1 .1 .0) + 1) (c .before .before .before .before .before .before .before .before .before .before .before .before .before .before .before .before .before .before .before .args .at) (length (c .before .before .before .before .before .before .before .before .before .before .before .before .before .before .before .before .before .before .before .args .out .now)) (bracket-boost W (c .before .before .before .before .before .before .before .before .before .before .before .before .before .before .before .measure-query .ensures .0 st (W .tuned)) (c .before .before .before .before .before .before .before .before .before .before .before .before .before .count .given .1)) (W .fits) (omega (arith, l, c .before .before .before .before .before .before .before .before .before .if1 .left)) in let h : (c .before .before .before .before .before .before .before .before .before .before .before .before .before .before .before .before .before .before .before .args .at + c .before .before .before .before .before .before .before .before .before .before .boost-size .result) + (c .before .before .before .before .before .before .before .before .before .before .before .query-len .result) ≤ length (c .before .before .before .before .before .before .before .before .before .before .before .before .before .before .before .before .before .before .before .args .out .now) = omega (arith, R, l, c .before .before .before .before .before .before .before .before .before .before .boost-size .ensures) in let r = slice-length (c .before .before .before .before .before .before .before .before .before .before .before .before .before .before .before .before .before .before .before .args .out .now) (c .before .before .before .before .before .before .before .before .before .before .before .before .before .before .before .before .before .before .before .args .at + c .before .before .before .before .before .before .before .before .before .before .boost-size .result) (c .before .before .before .before .before .before .before .before .before .before .before .query-len .result) (omega (arith, h)) in c .before .before .put-boost2 .ensures .0 st (queryOf (bracket-kept W (c .before .before .before .before .before .before .before .before .before .before .before .before .before .before .before .measure-query .ensures .0 st (W .tuned)) (c .before .before .before .before .before .before .before .before .before .before .before .before .before .count .given .1))) m j (c .before .before .before .before .before .before .before .before .before .before .before .before .before .before .before .before .before .before .before .args .out .now) (bracket-boost W (c .before .before .before .before .before .before .before .before .before .before .before .before .before .before .before .measure-query .ensures .0 st (W .tuned)) (c .before .before .before .before .before .before .before .before .before .before .before .before .before .count .given .1)) (mid-put (c .before .before .before .before .before .before .before .before .before .before .before .before .before .before .before .before .before .before .before .args .out .now) (c .before .before .before .before .before .before .write-query .last .1 .1 .1 .1 .1 .0) (madeBytes (queryOf (bracket-kept W (c .before .before .before .before .before .before .before .before .before .before .before .before .before .before .before .measure-query .ensures .0 st (W .tuned)) (c .before .before .before .before .before .before .before .before .before .before .before .before .before .count .given .1)))) (c .before .before .before .before .before .before .before .before .before .before .before .before .before .before .before .before .before .before .before .args .at + c .before .before .before .before .before .before .before .before .before .before .boost-size .result) (c .before .before .before .before .before .before .before .before .before .before .before .query-len .result) h (c .before .before .before .before .before .before .write-query .ensures st (bracket-kept W (c .before .before .before .before .before .before .before .before .before .before .before .before .before .before .before .measure-query .ensures .0 st (W .tuned)) (c .before .before .before .before .before .before .before .before .before .before .before .before .before .count .given .1)) (c .before .before .before .before .before .before .before .before .before .before .before .before .before .count .given .0 .1 .1 .1 .0) (bracket-query W (c .before .before .before .before .before .before .before .before .before .before .before .before .before .before .before .measure-query .ensures .0 st (W .tuned)) (c .before .before .before .before .before .before .before .before .before .before .before .before .before .count .given .1) (c .before .before .before .before .before .before .before .before .is-alone .result) _ (c .before .before .before .before .before .before .before .before .is-alone .ensures (bracket-kept W (c .before .before .before .before .before .before .before .before .before .before .before .before .before .before .before .measure-query .ensures .0 st (W .tuned)) (c .before .before .before .before .before .before .before .before .before .before .before .before .before .count .given .1)) (c .before .before .before .before .before .before .before .before .before .before .before .before .before .count .given .0 .1 .1 .0) (bracket-sums W (c .before .before .before .before .before .before .before .before .before .before .before .before .before .before .before .measure-query .ensures .0 st (W .tuned)) (c .before .before .before .before .before .before .before .before .before .before .before .before .before .count .given .1))) (r ∙ l))) l) (sym (mid-length (c .before .before .before .before .before .before .before .before .before .before .before .before .before .before .before .before .before .before .before .args .out .now) (c .before .before .before .before .before .before .write-query .last .1 .1 .1 .1 .1 .0) (c .before .before .before .before .before .before .before .before .before .before .before .before .before .before .before .before .before .before .before .args .at + c .before .before .before .before .before .before .before .before .before .before .boost-size .result) ((c .before .before .before .before .before .before .before .before .before .before .before .before .before .before .before .before .before .before .before .args .at + c .before .before .before .before .before .before .before .before .before .before .boost-size .result) + (c .before .before .before .before .before .before .before .before .before .before .before .query-len .result)) (omega arith) h (c .before .before .before .before .before .before .write-query .kept .1 .1 .1 .1 .1 .0 ∙ r ∙ omega arith)))), (omega (arith, K .0, c .before .before .put-boost2 .ensures .1), c .before .before .put-boost2 .ensures .1 .1))
+write-bracket-returns-3 t c =
+    let args = c .before .before .before .before .before .before .before .before .before .before .before .before .before .before .before .before .before .before .before .args in
+    let measure-query = c .before .before .before .before .before .before .before .before .before .before .before .before .before .before .before .measure-query in
+    let count = c .before .before .before .before .before .before .before .before .before .before .before .before .before .count in
+    let query-len = c .before .before .before .before .before .before .before .before .before .before .before .query-len in
+    let boost-size = c .before .before .before .before .before .before .before .before .before .before .boost-size in
+    let is-alone = c .before .before .before .before .before .before .before .before .is-alone in
+    let write-query′ = c .before .before .before .before .before .before .write-query in
+    let put-boost2 = c .before .before .put-boost2 in
+    let K = rw (count .given .1) at (measure-query .ensures .1) in (
+      (λ st m j W.
+          let l = query-len .ensures .0 (bracket-kept W (measure-query .ensures .0 st (W .tuned)) (count .given .1)) (bracket-sums W (measure-query .ensures .0 st (W .tuned)) (count .given .1)) in
+          let R =
+          boost-room
+          st (tokensOf (args .room .now) (args .p .n)) (queryOf (bracket-kept W (measure-query .ensures .0 st (W .tuned)) (count .given .1))) ((count .given .0 .1 .1 .1 .0) + 1) (args .at) (length (args .out .now))
+          (bracket-boost W (measure-query .ensures .0 st (W .tuned)) (count .given .1)) (W .fits) (omega (arith, l, c .before .before .before .before .before .before .before .before .before .if1 .left)) in
+          let h : (args .at + boost-size .result) + (query-len .result) ≤ length (args .out .now) = omega (arith, R, l, boost-size .ensures) in
+          let r = slice-length (args .out .now) (args .at + boost-size .result) (query-len .result) (omega (arith, h)) in
+          put-boost2 .ensures .0
+          st (queryOf (bracket-kept W (measure-query .ensures .0 st (W .tuned)) (count .given .1))) m j (args .out .now) (bracket-boost W (measure-query .ensures .0 st (W .tuned)) (count .given .1))
+          (mid-put
+          (args .out .now) (write-query′ .last .1 .1 .1 .1 .1 .0) (madeBytes (queryOf (bracket-kept W (measure-query .ensures .0 st (W .tuned)) (count .given .1)))) (args .at + boost-size .result) (query-len .result) h
+          (write-query′ .ensures
+          st (bracket-kept W (measure-query .ensures .0 st (W .tuned)) (count .given .1)) (count .given .0 .1 .1 .1 .0)
+          (bracket-query
+          W (measure-query .ensures .0 st (W .tuned)) (count .given .1) (is-alone .result) _
+          (is-alone .ensures (bracket-kept W (measure-query .ensures .0 st (W .tuned)) (count .given .1)) (count .given .0 .1 .1 .0) (bracket-sums W (measure-query .ensures .0 st (W .tuned)) (count .given .1))) (r ∙ l)))
+          l)
+          (sym (mid-length (args .out .now) (write-query′ .last .1 .1 .1 .1 .1 .0) (args .at + boost-size .result) ((args .at + boost-size .result) + (query-len .result)) (omega arith) h (write-query′ .kept .1 .1 .1 .1 .1 .0 ∙ r ∙ omega arith)))),
+      (omega (arith, K .0, put-boost2 .ensures .1), put-boost2 .ensures .1 .1),
+    )
 
 write-clause-clause-start-requires : (t : ℕ) → write-clause-lts.Need-clause-start-requires (write-clause-calls t) (write-clause-at t) write-clause.Post
 write-clause-clause-start-requires t c κs = (c .before .before .before .pre .1 .0, c .before .before .before .pre .1 .2)
@@ -185,7 +285,11 @@ write-clause-is-at-requires-2 : (t : ℕ) → write-clause-lts.Need-is-at-requir
 write-clause-is-at-requires-2 t c κs = (c .before .before .before .before .before .before .before .before .before .before .pre .1 .0 .few, c .before .before .before .before .before .before .before .before .before .before .pre .1 .0 .least)
 
 write-clause-write-leaf-requires : (t : ℕ) → write-clause-lts.Need-write-leaf-requires (write-clause-calls t) (write-clause-at t) write-clause.Post
-write-clause-write-leaf-requires t c κs = let S1 = rw (c .before .before .before .before .before .before .from .given .1) at (c .before .before .before .before .before .before .before .before .clause-start .ensures) in let z = clause-leaf S1 (c .before .before .before .before .before .before .before .before .before .before .before .before .pre .1 .6 .3) (told-no (c .before .before .before .is-at .ensures) (c .before .before .if1 .taken)) in (c .before .before .before .before .before .before .before .before .before .before .before .before .pre .1 .0, S1 .fielded (c .before .before .before .before .before .before .before .before .before .before .before .before .args .default .now) (c .before .before .before .before .before .before .before .before .before .before .before .before .pre .1 .1), z .1, c .before .before .before .before .before .before .before .before .before .before .before .before .pre .1 .4, c .before .before .before .before .before .before .before .before .before .before .before .before .pre .1 .5, c .before .is-at2 .ensures, (c .before .before .before .before .before .before .before .before .before .before .before .before .pre .1 .6 .0, c .before .before .before .before .before .before .before .before .before .before .before .before .pre .1 .6 .1, c .before .before .before .before .before .before .before .before .before .before .before .before .pre .1 .6 .2, z .0))
+write-clause-write-leaf-requires t c κs =
+    let pre = c .before .before .before .before .before .before .before .before .before .before .before .before .pre in
+    let S1 = rw (c .before .before .before .before .before .before .from .given .1) at (c .before .before .before .before .before .before .before .before .clause-start .ensures) in
+    let z = clause-leaf S1 (pre .1 .6 .3) (told-no (c .before .before .before .is-at .ensures) (c .before .before .if1 .taken)) in
+    (pre .1 .0, S1 .fielded (c .before .before .before .before .before .before .before .before .before .before .before .before .args .default .now) (pre .1 .1), z .1, pre .1 .4, pre .1 .5, c .before .is-at2 .ensures, (pre .1 .6 .0, pre .1 .6 .1, pre .1 .6 .2, z .0))
 
 write-clause-same-length : (t : ℕ) → write-clause-lts.Need-same-length (write-clause-calls t) (write-clause-at t) write-clause.Post
 write-clause-same-length t c = c .before .before .write-leaf .kept .1 .1 .1 .1 .1 .0
@@ -200,7 +304,15 @@ write-clause-add-write-bracket-2 : (t : ℕ) → write-clause-lts.Need-add-write
 write-clause-add-write-bracket-2 t c = let S1 = rw (c .before .before .before .before .from .given .1) at (c .before .before .before .before .before .before .clause-start .ensures) in omega (arith, S1 .high, c .before .before .before .before .before .before .before .before .before .before .pre .1 .2)
 
 write-clause-write-bracket-requires : (t : ℕ) → write-clause-lts.Need-write-bracket-requires (write-clause-calls t) (write-clause-at t) write-clause.Post
-write-clause-write-bracket-requires t c κs = let S1 = rw (c .before .before .before .before .before .from .given .1) at (c .before .before .before .before .before .before .before .clause-start .ensures) in let k = (kind-in (c .before .before .before .before .before .before .before .before .before .before .before .args .room .now) (c .before .before .before .before .before .before .before .before .before .before .before .args .p .n) 9 (c .before .before .before .before .before .from .given .0 .1 .1 .0) (λ y. omega arith) (told-yes (c .before .before .is-at .ensures) (c .before .if1 .left))) in (omega (arith, S1 .low, k, c .before .before .before .before .before .before .before .before .before .before .before .pre .0), (c .before .before .before .before .before .before .before .before .before .before .before .pre .1 .0, S1 .fielded (c .before .before .before .before .before .before .before .before .before .before .before .args .default .now) (c .before .before .before .before .before .before .before .before .before .before .before .pre .1 .1), omega (arith, k), omega (arith, clause-depth S1 (c .before .before .before .before .before .before .before .before .before .before .before .pre .1 .6 .3) (told-yes (c .before .before .is-at .ensures) (c .before .if1 .left))), c .before .before .before .before .before .before .before .before .before .before .before .pre .1 .4, c .before .before .before .before .before .before .before .before .before .before .before .pre .1 .5, (c .before .before .before .before .before .before .before .before .before .before .before .pre .1 .6 .0, c .before .before .before .before .before .before .before .before .before .before .before .pre .1 .6 .1, c .before .before .before .before .before .before .before .before .before .before .before .pre .1 .6 .2, clause-bracket S1 (c .before .before .before .before .before .before .before .before .before .before .before .pre .1 .6 .3) (told-yes (c .before .before .is-at .ensures) (c .before .if1 .left)))))
+write-clause-write-bracket-requires t c κs =
+    let pre = c .before .before .before .before .before .before .before .before .before .before .before .pre in
+    let args = c .before .before .before .before .before .before .before .before .before .before .before .args in
+    let from = c .before .before .before .before .before .from in
+    let is-at = c .before .before .is-at in
+    let if1 = c .before .if1 in
+    let S1 = rw (from .given .1) at (c .before .before .before .before .before .before .before .clause-start .ensures) in
+    let k = (kind-in (args .room .now) (args .p .n) 9 (from .given .0 .1 .1 .0) (λ y. omega arith) (told-yes (is-at .ensures) (if1 .left))) in
+    (omega (arith, S1 .low, k, pre .0), (pre .1 .0, S1 .fielded (args .default .now) (pre .1 .1), omega (arith, k), omega (arith, clause-depth S1 (pre .1 .6 .3) (told-yes (is-at .ensures) (if1 .left))), pre .1 .4, pre .1 .5, (pre .1 .6 .0, pre .1 .6 .1, pre .1 .6 .2, clause-bracket S1 (pre .1 .6 .3) (told-yes (is-at .ensures) (if1 .left)))))
 
 write-clause-returns-2 : (t : ℕ) → write-clause-lts.Need-returns-2 (write-clause-calls t) (write-clause-at t) write-clause.Post
 write-clause-returns-2 t c = let E = rw (c .enum-told .given .1) at (c .before .before .clause-start .ensures) in no-got (sym (E (c .before .before .before .before .before .before .pre .1 .6 .0) _ _ _) ∙ (c .before .before .before .before .before .before .pre .1 .6 .3) .is .1 ((c .before .before .before .before .before .before .pre .1 .6 .3) .is .0) (omega arith))
@@ -226,7 +338,11 @@ write-query-put-query-front-requires : (t : ℕ) → write-query-lts.Need-put-qu
 write-query-put-query-front-requires t c κs = (going-room (c .before .before .before .before .args .alone) (c .before .before .before .before .pre .1 .6 .1) (length (c .before .before .before .before .args .out .now)) ((c .before .before .before .before .pre .1 .6 .3) .alone-is) ((c .before .before .before .before .pre .1 .6 .3) .fills) (c .before .before .before .before .pre .1 .4), c .before .before .before .before .pre .1 .5)
 
 write-query-loop-holds : (t : ℕ) → write-query-lts.Need-loop-holds (write-query-calls t) (write-query-at t) write-query.Post write-query-Inv-loop write-query-μ-loop
-write-query-loop-holds t c = (omega arith, c .before .before .before .before .before .before .before .pre .1 .2, refl, λ st cs j W. going-start (c .before .before .before .before .before .before .before .args .alone) st (tokensOf (c .before .before .before .before .before .before .before .args .room .now) (c .before .before .before .before .before .before .before .args .p .n)) (nameFrom (c .before .before .before .before .before .before .before .args .room .now) (c .before .before .before .before .before .before .before .args .default .now) (c .before .before .before .before .before .before .before .args .p .from)) (c .before .before .before .before .before .before .before .args .p .depth) cs j (c .before .before .before .before .before .before .before .args .out .now) (c .before .before .put-query-front .last .0) (c .before .before .before .before .before .before .before .args .at) (c .before .before .put-query-front .result) (W .alone-is) (W .fills) (omega (arith, c .before .before .put-query-front .kept .0, c .before .before .before .before .before .before .before .pre .1 .4)) (c .before .before .put-query-front .kept .0) (c .before .before .put-query-front .ensures) (W .is))
+write-query-loop-holds t c =
+    let pre = c .before .before .before .before .before .before .before .pre in
+    let args = c .before .before .before .before .before .before .before .args in
+    let put-query-front = c .before .before .put-query-front in
+    (omega arith, pre .1 .2, refl, λ st cs j W. going-start (args .alone) st (tokensOf (args .room .now) (args .p .n)) (nameFrom (args .room .now) (args .default .now) (args .p .from)) (args .p .depth) cs j (args .out .now) (put-query-front .last .0) (args .at) (put-query-front .result) (W .alone-is) (W .fills) (omega (arith, put-query-front .kept .0, pre .1 .4)) (put-query-front .kept .0) (put-query-front .ensures) (W .is))
 
 write-query-more-at-requires : (t : ℕ) → write-query-lts.Need-more-at-requires (write-query-calls t) (write-query-at t) write-query.Post write-query-Inv-loop write-query-μ-loop
 write-query-more-at-requires t c κs = (c .before .before .before .before .before .before .before .before .pre .1 .0 .few, c .before .before .before .before .before .before .before .before .pre .1 .0 .least)
@@ -244,40 +360,170 @@ write-query-after-requires-2 : (t : ℕ) → write-query-lts.Need-after-requires
 write-query-after-requires-2 t c κs = omega (arith, c .before .before .before .before .before .loop .inv .1, c .before .before .before .before .before .before .before .before .before .before .before .before .before .pre .1 .0 .few, past-one (c .before .before .conjunction-at .result) (c .before .before .before .before .before .loop .i) (c .before .after .result) (c .before .after .ensures .0))
 
 write-query-touch-last-requires : (t : ℕ) → write-query-lts.Need-touch-last-requires (write-query-calls t) (write-query-at t) write-query.Post write-query-Inv-loop write-query-μ-loop
-write-query-touch-last-requires t c κs = let G = c .before .before .before .before .before .before .before .loop .inv .3 (c .before .before .before .before .before .before .before .before .before .before .before .before .before .before .before .pre .1 .6 .0) (c .before .before .before .before .before .before .before .before .before .before .before .before .before .before .before .pre .1 .6 .1) (c .before .before .before .before .before .before .before .before .before .before .before .before .before .before .before .pre .1 .6 .2) (record { tuned = (c .before .before .before .before .before .before .before .before .before .before .before .before .before .before .before .pre .1 .6 .3) .tuned; is = (c .before .before .before .before .before .before .before .before .before .before .before .before .before .before .before .pre .1 .6 .3) .is; alone-is = (c .before .before .before .before .before .before .before .before .before .before .before .before .before .before .before .pre .1 .6 .3) .alone-is; fills = c .before .before .before .before .before .before .before .before .before .before .put-query-front .kept .0 ∙ (c .before .before .before .before .before .before .before .before .before .before .before .before .before .before .before .pre .1 .6 .3) .fills }) in going-last (c .before .before .before .before .before .before .before .before .before .before .before .before .before .before .before .args .alone) G (omega (arith, c .before .before .before .before .before .before .before .before .before .before .put-query-front .kept .0, c .before .before .before .before .before .before .before .before .before .before .before .before .before .before .before .pre .1 .4))
+write-query-touch-last-requires t c κs =
+    let pre = c .before .before .before .before .before .before .before .before .before .before .before .before .before .before .before .pre in
+    let put-query-front = c .before .before .before .before .before .before .before .before .before .before .put-query-front in
+    let G = c .before .before .before .before .before .before .before .loop .inv .3 (pre .1 .6 .0) (pre .1 .6 .1) (pre .1 .6 .2) (record { tuned = (pre .1 .6 .3) .tuned; is = (pre .1 .6 .3) .is; alone-is = (pre .1 .6 .3) .alone-is; fills = put-query-front .kept .0 ∙ (pre .1 .6 .3) .fills }) in
+    going-last (c .before .before .before .before .before .before .before .before .before .before .before .before .before .before .before .args .alone) G (omega (arith, put-query-front .kept .0, pre .1 .4))
 
 write-query-body-start-requires : (t : ℕ) → write-query-lts.Need-body-start-requires (write-query-calls t) (write-query-at t) write-query.Post write-query-Inv-loop write-query-μ-loop
-write-query-body-start-requires t c κs = let G = c .before .before .before .before .before .before .before .before .before .before .loop .inv .3 (c .before .before .before .before .before .before .before .before .before .before .before .before .before .before .before .before .before .before .pre .1 .6 .0) (c .before .before .before .before .before .before .before .before .before .before .before .before .before .before .before .before .before .before .pre .1 .6 .1) (c .before .before .before .before .before .before .before .before .before .before .before .before .before .before .before .before .before .before .pre .1 .6 .2) (record { tuned = (c .before .before .before .before .before .before .before .before .before .before .before .before .before .before .before .before .before .before .pre .1 .6 .3) .tuned; is = (c .before .before .before .before .before .before .before .before .before .before .before .before .before .before .before .before .before .before .pre .1 .6 .3) .is; alone-is = (c .before .before .before .before .before .before .before .before .before .before .before .before .before .before .before .before .before .before .pre .1 .6 .3) .alone-is; fills = c .before .before .before .before .before .before .before .before .before .before .before .before .before .put-query-front .kept .0 ∙ (c .before .before .before .before .before .before .before .before .before .before .before .before .before .before .before .before .before .before .pre .1 .6 .3) .fills }) in omega (arith, going-wide (c .before .before .before .before .before .before .before .before .before .before .before .before .before .before .before .before .before .before .args .alone) G, c .before .before .before .before .before .before .before .before .before .before .before .before .before .put-query-front .kept .0, c .before .before .before .before .before .before .before .before .before .before .before .before .before .before .before .before .before .before .pre .1 .5)
+write-query-body-start-requires t c κs =
+    let pre = c .before .before .before .before .before .before .before .before .before .before .before .before .before .before .before .before .before .before .pre in
+    let put-query-front = c .before .before .before .before .before .before .before .before .before .before .before .before .before .put-query-front in
+    let G = c .before .before .before .before .before .before .before .before .before .before .loop .inv .3 (pre .1 .6 .0) (pre .1 .6 .1) (pre .1 .6 .2) (record { tuned = (pre .1 .6 .3) .tuned; is = (pre .1 .6 .3) .is; alone-is = (pre .1 .6 .3) .alone-is; fills = put-query-front .kept .0 ∙ (pre .1 .6 .3) .fills }) in
+    omega (arith, going-wide (c .before .before .before .before .before .before .before .before .before .before .before .before .before .before .before .before .before .before .args .alone) G, put-query-front .kept .0, pre .1 .5)
 
 write-query-write-clause-requires : (t : ℕ) → write-query-lts.Need-write-clause-requires (write-query-calls t) (write-query-at t) write-query.Post write-query-Inv-loop write-query-μ-loop
-write-query-write-clause-requires t c κs = let L = led (c .before .before .before .before .before .before .before .before .before .conjunction-at .result) (c .before .before .before .before .before .before .before .modifier-at .result) (c .before .before .before .before .before .before .before .before .before .before .before .before .loop .i) (c .before .before .before .before .before .before .before .before .after .result) (c .before .before .before .before .before .before .after2 .result) (c .before .before .before .before .before .before .before .before .after .ensures .0) (c .before .before .before .before .before .before .after2 .ensures .1) in let T : Turned (c .before .before .before .before .before .before .before .before .before .before .before .before .before .before .before .before .before .before .before .before .pre .1 .6 .0) (tokensOf (c .before .before .before .before .before .before .before .before .before .before .before .before .before .before .before .before .before .before .before .before .args .room .now) (c .before .before .before .before .before .before .before .before .before .before .before .before .before .before .before .before .before .before .before .before .args .p .n)) (c .before .before .before .before .before .before .before .before .before .before .before .before .loop .i) (c .before .before .before .before .before .before .before .before .before .before .before .before .loop .w) (c .before .before .before .before .before .before .before .before .before .before .before .before .loop .last) (c .before .before .before .before .before .before .before .before .before .before .before .before .before .before .before .before .before .before .before .before .args .p .operator) (c .before .before .before .before .before .before .before .before .before .before .before .before .loop .out) (c .before .before .before .before .before .before .before .before .before .conjunction-at .result) (c .before .before .before .before .before .before .before .before .after .result) (c .before .before .before .before .before .before .before .modifier-at .result) (c .before .before .before .before .before .before .after2 .result) (c .before .before .before .before .touch-last .last .0) = record { joins = (c .before .before .before .before .before .before .before .before .before .before .before .before .before .before .before .before .before .before .before .before .pre .1 .6 .3) .tuned .joins; goes = not-true _ (sym (c .before .before .before .before .before .before .before .before .before .before .before .more-at .ensures) ∙ c .before .before .before .before .before .before .before .before .before .before .if1 .taken); lead = λ acc e. record { joins = c .before .before .before .before .before .before .before .before .before .conjunction-at .ensures acc e; first = c .before .before .before .before .before .before .before .before .after .ensures .0; modifies = c .before .before .before .before .before .before .before .modifier-at .ensures; second = c .before .before .before .before .before .before .after2 .ensures .1 }; touches = c .before .before .before .before .touch-last .ensures; same = c .before .before .before .before .touch-last .kept .0 } in let G = c .before .before .before .before .before .before .before .before .before .before .before .before .loop .inv .3 (c .before .before .before .before .before .before .before .before .before .before .before .before .before .before .before .before .before .before .before .before .pre .1 .6 .0) (c .before .before .before .before .before .before .before .before .before .before .before .before .before .before .before .before .before .before .before .before .pre .1 .6 .1) (c .before .before .before .before .before .before .before .before .before .before .before .before .before .before .before .before .before .before .before .before .pre .1 .6 .2) (record { tuned = (c .before .before .before .before .before .before .before .before .before .before .before .before .before .before .before .before .before .before .before .before .pre .1 .6 .3) .tuned; is = (c .before .before .before .before .before .before .before .before .before .before .before .before .before .before .before .before .before .before .before .before .pre .1 .6 .3) .is; alone-is = (c .before .before .before .before .before .before .before .before .before .before .before .before .before .before .before .before .before .before .before .before .pre .1 .6 .3) .alone-is; fills = c .before .before .before .before .before .before .before .before .before .before .before .before .before .before .before .put-query-front .kept .0 ∙ (c .before .before .before .before .before .before .before .before .before .before .before .before .before .before .before .before .before .before .before .before .pre .1 .6 .3) .fills }) in let z = going-clause T (c .before .before .before .before .before .before .before .before .before .before .before .before .before .before .before .before .before .before .before .before .args .alone) G in (omega (arith, L .one, L .two, c .before .before .before .before .before .before .before .before .before .before .before .before .loop .inv .0, c .before .before .before .before .before .before .before .before .before .before .before .before .before .before .before .before .before .before .before .before .pre .0), (c .before .before .before .before .before .before .before .before .before .before .before .before .before .before .before .before .before .before .before .before .pre .1 .0, c .before .before .before .before .before .before .before .before .before .before .before .before .before .before .before .before .before .before .before .before .pre .1 .1, omega (arith, L .one, L .two, c .before .before .before .before .before .before .before .before .before .before .before .before .loop .inv .1, c .before .before .before .before .before .before .before .before .before .before .before .before .before .before .before .before .before .before .before .before .pre .1 .0 .few), c .before .before .before .before .before .before .before .before .before .before .before .before .before .before .before .before .before .before .before .before .pre .1 .3, omega (arith, going-wide (c .before .before .before .before .before .before .before .before .before .before .before .before .before .before .before .before .before .before .before .before .args .alone) G, c .before .before .before .before .before .before .before .before .before .before .before .before .before .before .before .put-query-front .kept .0, c .before .before .before .before .before .before .before .before .before .before .before .before .before .before .before .before .before .before .before .before .pre .1 .5, body-near (c .before .before .before .before .before .before .before .before .before .before .before .before .before .before .before .before .before .before .before .before .args .alone) (c .before .before .before .before .before .before .before .before .before .before .before .before .loop .w), c .before .body-start .ensures), omega (arith, c .before .before .before .before .touch-last .kept .0, c .before .before .before .before .before .before .before .before .before .before .before .before .loop .inv .2, c .before .before .before .before .before .before .before .before .before .before .before .before .before .before .before .put-query-front .kept .0, c .before .before .before .before .before .before .before .before .before .before .before .before .before .before .before .before .before .before .before .before .pre .1 .5), ((c .before .before .before .before .before .before .before .before .before .before .before .before .before .before .before .before .before .before .before .before .pre .1 .6 .0), z .0, z .1, (record { tuned = (c .before .before .before .before .before .before .before .before .before .before .before .before .before .before .before .before .before .before .before .before .pre .1 .6 .3) .tuned; is = z .2; fits = (λ h. omega (arith, z .3 h, c .before .body-start .ensures, c .before .before .before .before .touch-last .kept .0, c .before .before .before .before .before .before .before .before .before .before .before .before .loop .inv .2)) }))))
+write-query-write-clause-requires t c κs =
+    let pre = c .before .before .before .before .before .before .before .before .before .before .before .before .before .before .before .before .before .before .before .before .pre in
+    let args = c .before .before .before .before .before .before .before .before .before .before .before .before .before .before .before .before .before .before .before .before .args in
+    let put-query-front = c .before .before .before .before .before .before .before .before .before .before .before .before .before .before .before .put-query-front in
+    let loop = c .before .before .before .before .before .before .before .before .before .before .before .before .loop in
+    let conjunction-at = c .before .before .before .before .before .before .before .before .before .conjunction-at in
+    let after = c .before .before .before .before .before .before .before .before .after in
+    let modifier-at = c .before .before .before .before .before .before .before .modifier-at in
+    let after2 = c .before .before .before .before .before .before .after2 in
+    let touch-last = c .before .before .before .before .touch-last in
+    let body-start = c .before .body-start in
+    let L = led (conjunction-at .result) (modifier-at .result) (loop .i) (after .result) (after2 .result) (after .ensures .0) (after2 .ensures .1) in
+    let T : Turned (pre .1 .6 .0) (tokensOf (args .room .now) (args .p .n)) (loop .i) (loop .w) (loop .last) (args .p .operator) (loop .out) (conjunction-at .result) (after .result) (modifier-at .result) (after2 .result) (touch-last .last .0) = record { joins = (pre .1 .6 .3) .tuned .joins; goes = not-true _ (sym (c .before .before .before .before .before .before .before .before .before .before .before .more-at .ensures) ∙ c .before .before .before .before .before .before .before .before .before .before .if1 .taken); lead = λ acc e. record { joins = conjunction-at .ensures acc e; first = after .ensures .0; modifies = modifier-at .ensures; second = after2 .ensures .1 }; touches = touch-last .ensures; same = touch-last .kept .0 } in
+    let G = loop .inv .3 (pre .1 .6 .0) (pre .1 .6 .1) (pre .1 .6 .2) (record { tuned = (pre .1 .6 .3) .tuned; is = (pre .1 .6 .3) .is; alone-is = (pre .1 .6 .3) .alone-is; fills = put-query-front .kept .0 ∙ (pre .1 .6 .3) .fills }) in
+    let z = going-clause T (args .alone) G in
+    (omega (arith, L .one, L .two, loop .inv .0, pre .0), (pre .1 .0, pre .1 .1, omega (arith, L .one, L .two, loop .inv .1, pre .1 .0 .few), pre .1 .3, omega (arith, going-wide (args .alone) G, put-query-front .kept .0, pre .1 .5, body-near (args .alone) (loop .w), body-start .ensures), omega (arith, touch-last .kept .0, loop .inv .2, put-query-front .kept .0, pre .1 .5), ((pre .1 .6 .0), z .0, z .1, (record { tuned = (pre .1 .6 .3) .tuned; is = z .2; fits = (λ h. omega (arith, z .3 h, body-start .ensures, touch-last .kept .0, loop .inv .2)) }))))
 
 write-query-loop-less : (t : ℕ) → write-query-lts.Need-loop-less (write-query-calls t) (write-query-at t) write-query.Post write-query-Inv-loop write-query-μ-loop
-write-query-loop-less t c = let L = led (c .before .before .before .before .before .before .before .before .before .before .before .before .before .before .conjunction-at .result) (c .before .before .before .before .before .before .before .before .before .before .before .before .modifier-at .result) (c .before .before .before .before .before .before .before .before .before .before .before .before .before .before .before .before .before .loop .i) (c .before .before .before .before .before .before .before .before .before .before .before .before .before .after .result) (c .before .before .before .before .before .before .before .before .before .before .before .after2 .result) (c .before .before .before .before .before .before .before .before .before .before .before .before .before .after .ensures .0) (c .before .before .before .before .before .before .before .before .before .before .before .after2 .ensures .1) in omega (arith, L .one, L .two, c .before .before .before .before .write-clause .ensures .1, goes-in (c .before .before .before .before .before .before .before .before .before .before .before .before .before .before .before .before .before .before .before .before .before .before .before .before .before .args .room .now) (c .before .before .before .before .before .before .before .before .before .before .before .before .before .before .before .before .before .before .before .before .before .before .before .before .before .args .p .n) (c .before .before .before .before .before .before .before .before .before .before .before .before .before .before .before .before .before .loop .i) (not-true _ (sym (c .before .before .before .before .before .before .before .before .before .before .before .before .before .before .before .before .more-at .ensures) ∙ c .before .before .before .before .before .before .before .before .before .before .before .before .before .before .before .if1 .taken)))
+write-query-loop-less t c =
+    let args = c .before .before .before .before .before .before .before .before .before .before .before .before .before .before .before .before .before .before .before .before .before .before .before .before .before .args in
+    let loop = c .before .before .before .before .before .before .before .before .before .before .before .before .before .before .before .before .before .loop in
+    let after = c .before .before .before .before .before .before .before .before .before .before .before .before .before .after in
+    let after2 = c .before .before .before .before .before .before .before .before .before .before .before .after2 in
+    let L = led (c .before .before .before .before .before .before .before .before .before .before .before .before .before .before .conjunction-at .result) (c .before .before .before .before .before .before .before .before .before .before .before .before .modifier-at .result) (loop .i) (after .result) (after2 .result) (after .ensures .0) (after2 .ensures .1) in
+    omega (arith, L .one, L .two, c .before .before .before .before .write-clause .ensures .1, goes-in (args .room .now) (args .p .n) (loop .i) (not-true _ (sym (c .before .before .before .before .before .before .before .before .before .before .before .before .before .before .before .before .more-at .ensures) ∙ c .before .before .before .before .before .before .before .before .before .before .before .before .before .before .before .if1 .taken)))
 
 write-query-loop-again : (t : ℕ) → write-query-lts.Need-loop-again (write-query-calls t) (write-query-at t) write-query.Post write-query-Inv-loop write-query-μ-loop
-write-query-loop-again t c = let L = led (c .before .before .before .before .before .before .before .before .before .before .before .before .before .before .conjunction-at .result) (c .before .before .before .before .before .before .before .before .before .before .before .before .modifier-at .result) (c .before .before .before .before .before .before .before .before .before .before .before .before .before .before .before .before .before .loop .i) (c .before .before .before .before .before .before .before .before .before .before .before .before .before .after .result) (c .before .before .before .before .before .before .before .before .before .before .before .after2 .result) (c .before .before .before .before .before .before .before .before .before .before .before .before .before .after .ensures .0) (c .before .before .before .before .before .before .before .before .before .before .before .after2 .ensures .1) in (omega (arith, L .one, L .two, c .before .before .before .before .write-clause .ensures .1, c .before .before .before .before .before .before .before .before .before .before .before .before .before .before .before .before .before .loop .inv .0), c .before .before .before .before .write-clause .ensures .1 .1, c .before .before .before .before .write-clause .kept .1 .1 .1 .1 .0 ∙ c .before .before .before .before .before .before .before .before .before .touch-last .kept .0 ∙ c .before .before .before .before .before .before .before .before .before .before .before .before .before .before .before .before .before .loop .inv .2, λ st cs j W. let T : Turned st (tokensOf (c .before .before .before .before .before .before .before .before .before .before .before .before .before .before .before .before .before .before .before .before .before .before .before .before .before .args .room .now) (c .before .before .before .before .before .before .before .before .before .before .before .before .before .before .before .before .before .before .before .before .before .before .before .before .before .args .p .n)) (c .before .before .before .before .before .before .before .before .before .before .before .before .before .before .before .before .before .loop .i) (c .before .before .before .before .before .before .before .before .before .before .before .before .before .before .before .before .before .loop .w) (c .before .before .before .before .before .before .before .before .before .before .before .before .before .before .before .before .before .loop .last) (c .before .before .before .before .before .before .before .before .before .before .before .before .before .before .before .before .before .before .before .before .before .before .before .before .before .args .p .operator) (c .before .before .before .before .before .before .before .before .before .before .before .before .before .before .before .before .before .loop .out) (c .before .before .before .before .before .before .before .before .before .before .before .before .before .before .conjunction-at .result) (c .before .before .before .before .before .before .before .before .before .before .before .before .before .after .result) (c .before .before .before .before .before .before .before .before .before .before .before .before .modifier-at .result) (c .before .before .before .before .before .before .before .before .before .before .before .after2 .result) (c .before .before .before .before .before .before .before .before .before .touch-last .last .0) = record { joins = W .tuned .joins; goes = not-true _ (sym (c .before .before .before .before .before .before .before .before .before .before .before .before .before .before .before .before .more-at .ensures) ∙ c .before .before .before .before .before .before .before .before .before .before .before .before .before .before .before .if1 .taken); lead = λ acc e. record { joins = c .before .before .before .before .before .before .before .before .before .before .before .before .before .before .conjunction-at .ensures acc e; first = c .before .before .before .before .before .before .before .before .before .before .before .before .before .after .ensures .0; modifies = c .before .before .before .before .before .before .before .before .before .before .before .before .modifier-at .ensures; second = c .before .before .before .before .before .before .before .before .before .before .before .after2 .ensures .1 }; touches = c .before .before .before .before .before .before .before .before .before .touch-last .ensures; same = c .before .before .before .before .before .before .before .before .before .touch-last .kept .0 } in let G = c .before .before .before .before .before .before .before .before .before .before .before .before .before .before .before .before .before .loop .inv .3 st cs j W in let z = going-clause T (c .before .before .before .before .before .before .before .before .before .before .before .before .before .before .before .before .before .before .before .before .before .before .before .before .before .args .alone) G in let P = c .before .before .before .before .write-clause .ensures .0 st (z .0) (z .1) (record { tuned = W .tuned; is = z .2; fits = (λ h. omega (arith, z .3 h, c .before .before .before .before .before .before .body-start .ensures, c .before .before .before .before .before .before .before .before .before .touch-last .kept .0, c .before .before .before .before .before .before .before .before .before .before .before .before .before .before .before .before .before .loop .inv .2)) }) in going-nothing T (P .0) (c .before .before .before .before .before .before .before .before .before .before .before .before .before .before .before .before .before .before .before .before .before .before .before .before .before .args .alone) G (c .before .before .before .before .before .before .body-start .result) (c .before .before .before .before .before .before .body-start .ensures) (z .0) (z .2) (P .1) (c .if2 .taken))
+write-query-loop-again t c =
+    let args = c .before .before .before .before .before .before .before .before .before .before .before .before .before .before .before .before .before .before .before .before .before .before .before .before .before .args in
+    let loop = c .before .before .before .before .before .before .before .before .before .before .before .before .before .before .before .before .before .loop in
+    let conjunction-at = c .before .before .before .before .before .before .before .before .before .before .before .before .before .before .conjunction-at in
+    let after = c .before .before .before .before .before .before .before .before .before .before .before .before .before .after in
+    let modifier-at = c .before .before .before .before .before .before .before .before .before .before .before .before .modifier-at in
+    let after2 = c .before .before .before .before .before .before .before .before .before .before .before .after2 in
+    let touch-last = c .before .before .before .before .before .before .before .before .before .touch-last in
+    let body-start = c .before .before .before .before .before .before .body-start in
+    let write-clause′ = c .before .before .before .before .write-clause in
+    let L = led (conjunction-at .result) (modifier-at .result) (loop .i) (after .result) (after2 .result) (after .ensures .0) (after2 .ensures .1) in (
+      omega (arith, L .one, L .two, write-clause′ .ensures .1, loop .inv .0),
+      write-clause′ .ensures .1 .1,
+      write-clause′ .kept .1 .1 .1 .1 .0 ∙ touch-last .kept .0 ∙ loop .inv .2,
+      λ st cs j W.
+          let T : Turned st (tokensOf (args .room .now) (args .p .n)) (loop .i) (loop .w) (loop .last) (args .p .operator) (loop .out) (conjunction-at .result) (after .result) (modifier-at .result) (after2 .result) (touch-last .last .0) =
+          record { joins = W .tuned .joins; goes = not-true _ (sym (c .before .before .before .before .before .before .before .before .before .before .before .before .before .before .before .before .more-at .ensures) ∙ c .before .before .before .before .before .before .before .before .before .before .before .before .before .before .before .if1 .taken); lead = λ acc e. record { joins = conjunction-at .ensures acc e; first = after .ensures .0; modifies = modifier-at .ensures; second = after2 .ensures .1 }; touches = touch-last .ensures; same = touch-last .kept .0 } in
+          let G = loop .inv .3 st cs j W in
+          let z = going-clause T (args .alone) G in
+          let P = write-clause′ .ensures .0 st (z .0) (z .1) (record { tuned = W .tuned; is = z .2; fits = (λ h. omega (arith, z .3 h, body-start .ensures, touch-last .kept .0, loop .inv .2)) }) in
+          going-nothing T (P .0) (args .alone) G (body-start .result) (body-start .ensures) (z .0) (z .2) (P .1) (c .if2 .taken),
+    )
 
 write-query-same-length : (t : ℕ) → write-query-lts.Need-same-length (write-query-calls t) (write-query-at t) write-query.Post write-query-Inv-loop write-query-μ-loop
 write-query-same-length t c = c .before .before .before .before .before .write-clause .kept .1 .1 .1 .1 .0 ∙ c .before .before .before .before .before .before .before .before .before .before .touch-last .kept .0 ∙ c .before .before .before .before .before .before .before .before .before .before .before .before .before .before .before .before .before .before .loop .inv .2 ∙ c .before .before .before .before .before .before .before .before .before .before .before .before .before .before .before .before .before .before .before .before .before .put-query-front .kept .0
 
 write-query-returns : (t : ℕ) → write-query-lts.Need-returns (write-query-calls t) (write-query-at t) write-query.Post write-query-Inv-loop write-query-μ-loop
-write-query-returns t c = λ st cs j W. let T : Turned st (tokensOf (c .before .before .before .before .before .before .before .before .before .before .before .before .before .before .before .before .before .before .before .before .before .before .before .before .before .before .args .room .now) (c .before .before .before .before .before .before .before .before .before .before .before .before .before .before .before .before .before .before .before .before .before .before .before .before .before .before .args .p .n)) (c .before .before .before .before .before .before .before .before .before .before .before .before .before .before .before .before .before .before .loop .i) (c .before .before .before .before .before .before .before .before .before .before .before .before .before .before .before .before .before .before .loop .w) (c .before .before .before .before .before .before .before .before .before .before .before .before .before .before .before .before .before .before .loop .last) (c .before .before .before .before .before .before .before .before .before .before .before .before .before .before .before .before .before .before .before .before .before .before .before .before .before .before .args .p .operator) (c .before .before .before .before .before .before .before .before .before .before .before .before .before .before .before .before .before .before .loop .out) (c .before .before .before .before .before .before .before .before .before .before .before .before .before .before .before .conjunction-at .result) (c .before .before .before .before .before .before .before .before .before .before .before .before .before .before .after .result) (c .before .before .before .before .before .before .before .before .before .before .before .before .before .modifier-at .result) (c .before .before .before .before .before .before .before .before .before .before .before .before .after2 .result) (c .before .before .before .before .before .before .before .before .before .before .touch-last .last .0) = record { joins = W .tuned .joins; goes = not-true _ (sym (c .before .before .before .before .before .before .before .before .before .before .before .before .before .before .before .before .before .more-at .ensures) ∙ c .before .before .before .before .before .before .before .before .before .before .before .before .before .before .before .before .if1 .taken); lead = λ acc e. record { joins = c .before .before .before .before .before .before .before .before .before .before .before .before .before .before .before .conjunction-at .ensures acc e; first = c .before .before .before .before .before .before .before .before .before .before .before .before .before .before .after .ensures .0; modifies = c .before .before .before .before .before .before .before .before .before .before .before .before .before .modifier-at .ensures; second = c .before .before .before .before .before .before .before .before .before .before .before .before .after2 .ensures .1 }; touches = c .before .before .before .before .before .before .before .before .before .before .touch-last .ensures; same = c .before .before .before .before .before .before .before .before .before .before .touch-last .kept .0 } in let G = c .before .before .before .before .before .before .before .before .before .before .before .before .before .before .before .before .before .before .loop .inv .3 st cs j (record { tuned = W .tuned; is = W .is; alone-is = W .alone-is; fills = c .before .before .before .before .before .before .before .before .before .before .before .before .before .before .before .before .before .before .before .before .before .put-query-front .kept .0 ∙ W .fills }) in let z = going-clause T (c .before .before .before .before .before .before .before .before .before .before .before .before .before .before .before .before .before .before .before .before .before .before .before .before .before .before .args .alone) G in let P = c .before .before .before .before .before .write-clause .ensures .0 st (z .0) (z .1) (record { tuned = W .tuned; is = z .2; fits = (λ h. omega (arith, z .3 h, c .before .before .before .before .before .before .before .body-start .ensures, c .before .before .before .before .before .before .before .before .before .before .touch-last .kept .0, c .before .before .before .before .before .before .before .before .before .before .before .before .before .before .before .before .before .before .loop .inv .2)) }) in going-alone T (P .0) (c .before .before .before .before .before .before .before .before .before .before .before .before .before .before .before .before .before .before .before .before .before .before .before .before .before .before .args .alone) G (c .if3 .taken) (c .before .before .before .before .before .before .before .body-start .result) (c .before .before .before .before .before .before .before .body-start .ensures) (z .0) (z .2) (P .1) (c .before .if2 .left)
+write-query-returns t c =
+    let args = c .before .before .before .before .before .before .before .before .before .before .before .before .before .before .before .before .before .before .before .before .before .before .before .before .before .before .args in
+    let loop = c .before .before .before .before .before .before .before .before .before .before .before .before .before .before .before .before .before .before .loop in
+    let conjunction-at = c .before .before .before .before .before .before .before .before .before .before .before .before .before .before .before .conjunction-at in
+    let after = c .before .before .before .before .before .before .before .before .before .before .before .before .before .before .after in
+    let modifier-at = c .before .before .before .before .before .before .before .before .before .before .before .before .before .modifier-at in
+    let after2 = c .before .before .before .before .before .before .before .before .before .before .before .before .after2 in
+    let touch-last = c .before .before .before .before .before .before .before .before .before .before .touch-last in
+    let body-start = c .before .before .before .before .before .before .before .body-start in
+    λ st cs j W.
+    let T : Turned st (tokensOf (args .room .now) (args .p .n)) (loop .i) (loop .w) (loop .last) (args .p .operator) (loop .out) (conjunction-at .result) (after .result) (modifier-at .result) (after2 .result) (touch-last .last .0) =
+    record { joins = W .tuned .joins; goes = not-true _ (sym (c .before .before .before .before .before .before .before .before .before .before .before .before .before .before .before .before .before .more-at .ensures) ∙ c .before .before .before .before .before .before .before .before .before .before .before .before .before .before .before .before .if1 .taken); lead = λ acc e. record { joins = conjunction-at .ensures acc e; first = after .ensures .0; modifies = modifier-at .ensures; second = after2 .ensures .1 }; touches = touch-last .ensures; same = touch-last .kept .0 } in
+    let G =
+    loop .inv .3
+    st cs j
+    (record { tuned = W .tuned; is = W .is; alone-is = W .alone-is; fills = c .before .before .before .before .before .before .before .before .before .before .before .before .before .before .before .before .before .before .before .before .before .put-query-front .kept .0 ∙ W .fills }) in
+    let z = going-clause T (args .alone) G in
+    let P = c .before .before .before .before .before .write-clause .ensures .0 st (z .0) (z .1) (record { tuned = W .tuned; is = z .2; fits = (λ h. omega (arith, z .3 h, body-start .ensures, touch-last .kept .0, loop .inv .2)) }) in
+    going-alone T (P .0) (args .alone) G (c .if3 .taken) (body-start .result) (body-start .ensures) (z .0) (z .2) (P .1) (c .before .if2 .left)
 
 write-query-tag-after-requires : (t : ℕ) → write-query-lts.Need-tag-after-requires (write-query-calls t) (write-query-at t) write-query.Post write-query-Inv-loop write-query-μ-loop
 write-query-tag-after-requires t c κs = search needs
 
 write-query-sub-put-header : (t : ℕ) → write-query-lts.Need-sub-put-header (write-query-calls t) (write-query-at t) write-query.Post write-query-Inv-loop write-query-μ-loop
-write-query-sub-put-header t c = let T : Turned (c .before .before .before .before .before .before .before .before .before .before .before .before .before .before .before .before .before .before .before .before .before .before .before .before .before .before .before .before .before .pre .1 .6 .0) (tokensOf (c .before .before .before .before .before .before .before .before .before .before .before .before .before .before .before .before .before .before .before .before .before .before .before .before .before .before .before .before .before .args .room .now) (c .before .before .before .before .before .before .before .before .before .before .before .before .before .before .before .before .before .before .before .before .before .before .before .before .before .before .before .before .before .args .p .n)) (c .before .before .before .before .before .before .before .before .before .before .before .before .before .before .before .before .before .before .before .before .before .loop .i) (c .before .before .before .before .before .before .before .before .before .before .before .before .before .before .before .before .before .before .before .before .before .loop .w) (c .before .before .before .before .before .before .before .before .before .before .before .before .before .before .before .before .before .before .before .before .before .loop .last) (c .before .before .before .before .before .before .before .before .before .before .before .before .before .before .before .before .before .before .before .before .before .before .before .before .before .before .before .before .before .args .p .operator) (c .before .before .before .before .before .before .before .before .before .before .before .before .before .before .before .before .before .before .before .before .before .loop .out) (c .before .before .before .before .before .before .before .before .before .before .before .before .before .before .before .before .before .before .conjunction-at .result) (c .before .before .before .before .before .before .before .before .before .before .before .before .before .before .before .before .before .after .result) (c .before .before .before .before .before .before .before .before .before .before .before .before .before .before .before .before .modifier-at .result) (c .before .before .before .before .before .before .before .before .before .before .before .before .before .before .before .after2 .result) (c .before .before .before .before .before .before .before .before .before .before .before .before .before .touch-last .last .0) = record { joins = (c .before .before .before .before .before .before .before .before .before .before .before .before .before .before .before .before .before .before .before .before .before .before .before .before .before .before .before .before .before .pre .1 .6 .3) .tuned .joins; goes = not-true _ (sym (c .before .before .before .before .before .before .before .before .before .before .before .before .before .before .before .before .before .before .before .before .more-at .ensures) ∙ c .before .before .before .before .before .before .before .before .before .before .before .before .before .before .before .before .before .before .before .if1 .taken); lead = λ acc e. record { joins = c .before .before .before .before .before .before .before .before .before .before .before .before .before .before .before .before .before .before .conjunction-at .ensures acc e; first = c .before .before .before .before .before .before .before .before .before .before .before .before .before .before .before .before .before .after .ensures .0; modifies = c .before .before .before .before .before .before .before .before .before .before .before .before .before .before .before .before .modifier-at .ensures; second = c .before .before .before .before .before .before .before .before .before .before .before .before .before .before .before .after2 .ensures .1 }; touches = c .before .before .before .before .before .before .before .before .before .before .before .before .before .touch-last .ensures; same = c .before .before .before .before .before .before .before .before .before .before .before .before .before .touch-last .kept .0 } in let G = c .before .before .before .before .before .before .before .before .before .before .before .before .before .before .before .before .before .before .before .before .before .loop .inv .3 (c .before .before .before .before .before .before .before .before .before .before .before .before .before .before .before .before .before .before .before .before .before .before .before .before .before .before .before .before .before .pre .1 .6 .0) (c .before .before .before .before .before .before .before .before .before .before .before .before .before .before .before .before .before .before .before .before .before .before .before .before .before .before .before .before .before .pre .1 .6 .1) (c .before .before .before .before .before .before .before .before .before .before .before .before .before .before .before .before .before .before .before .before .before .before .before .before .before .before .before .before .before .pre .1 .6 .2) (record { tuned = (c .before .before .before .before .before .before .before .before .before .before .before .before .before .before .before .before .before .before .before .before .before .before .before .before .before .before .before .before .before .pre .1 .6 .3) .tuned; is = (c .before .before .before .before .before .before .before .before .before .before .before .before .before .before .before .before .before .before .before .before .before .before .before .before .before .before .before .before .before .pre .1 .6 .3) .is; alone-is = (c .before .before .before .before .before .before .before .before .before .before .before .before .before .before .before .before .before .before .before .before .before .before .before .before .before .before .before .before .before .pre .1 .6 .3) .alone-is; fills = c .before .before .before .before .before .before .before .before .before .before .before .before .before .before .before .before .before .before .before .before .before .before .before .before .put-query-front .kept .0 ∙ (c .before .before .before .before .before .before .before .before .before .before .before .before .before .before .before .before .before .before .before .before .before .before .before .before .before .before .before .before .before .pre .1 .6 .3) .fills }) in let z = going-clause T (c .before .before .before .before .before .before .before .before .before .before .before .before .before .before .before .before .before .before .before .before .before .before .before .before .before .before .before .before .before .args .alone) G in let P = c .before .before .before .before .before .before .before .before .write-clause .ensures .0 (c .before .before .before .before .before .before .before .before .before .before .before .before .before .before .before .before .before .before .before .before .before .before .before .before .before .before .before .before .before .pre .1 .6 .0) (z .0) (z .1) (record { tuned = (c .before .before .before .before .before .before .before .before .before .before .before .before .before .before .before .before .before .before .before .before .before .before .before .before .before .before .before .before .before .pre .1 .6 .3) .tuned; is = z .2; fits = (λ h. omega (arith, z .3 h, c .before .before .before .before .before .before .before .before .before .before .body-start .ensures, c .before .before .before .before .before .before .before .before .before .before .before .before .before .touch-last .kept .0, c .before .before .before .before .before .before .before .before .before .before .before .before .before .before .before .before .before .before .before .before .before .loop .inv .2)) }) in omega (arith, P .1 .place)
+write-query-sub-put-header t c =
+    let pre = c .before .before .before .before .before .before .before .before .before .before .before .before .before .before .before .before .before .before .before .before .before .before .before .before .before .before .before .before .before .pre in
+    let args = c .before .before .before .before .before .before .before .before .before .before .before .before .before .before .before .before .before .before .before .before .before .before .before .before .before .before .before .before .before .args in
+    let loop = c .before .before .before .before .before .before .before .before .before .before .before .before .before .before .before .before .before .before .before .before .before .loop in
+    let conjunction-at = c .before .before .before .before .before .before .before .before .before .before .before .before .before .before .before .before .before .before .conjunction-at in
+    let after = c .before .before .before .before .before .before .before .before .before .before .before .before .before .before .before .before .before .after in
+    let modifier-at = c .before .before .before .before .before .before .before .before .before .before .before .before .before .before .before .before .modifier-at in
+    let after2 = c .before .before .before .before .before .before .before .before .before .before .before .before .before .before .before .after2 in
+    let touch-last = c .before .before .before .before .before .before .before .before .before .before .before .before .before .touch-last in
+    let T : Turned (pre .1 .6 .0) (tokensOf (args .room .now) (args .p .n)) (loop .i) (loop .w) (loop .last) (args .p .operator) (loop .out) (conjunction-at .result) (after .result) (modifier-at .result) (after2 .result) (touch-last .last .0) = record { joins = (pre .1 .6 .3) .tuned .joins; goes = not-true _ (sym (c .before .before .before .before .before .before .before .before .before .before .before .before .before .before .before .before .before .before .before .before .more-at .ensures) ∙ c .before .before .before .before .before .before .before .before .before .before .before .before .before .before .before .before .before .before .before .if1 .taken); lead = λ acc e. record { joins = conjunction-at .ensures acc e; first = after .ensures .0; modifies = modifier-at .ensures; second = after2 .ensures .1 }; touches = touch-last .ensures; same = touch-last .kept .0 } in
+    let G = loop .inv .3 (pre .1 .6 .0) (pre .1 .6 .1) (pre .1 .6 .2) (record { tuned = (pre .1 .6 .3) .tuned; is = (pre .1 .6 .3) .is; alone-is = (pre .1 .6 .3) .alone-is; fills = c .before .before .before .before .before .before .before .before .before .before .before .before .before .before .before .before .before .before .before .before .before .before .before .before .put-query-front .kept .0 ∙ (pre .1 .6 .3) .fills }) in
+    let z = going-clause T (args .alone) G in
+    let P = c .before .before .before .before .before .before .before .before .write-clause .ensures .0 (pre .1 .6 .0) (z .0) (z .1) (record { tuned = (pre .1 .6 .3) .tuned; is = z .2; fits = (λ h. omega (arith, z .3 h, c .before .before .before .before .before .before .before .before .before .before .body-start .ensures, touch-last .kept .0, loop .inv .2)) }) in
+    omega (arith, P .1 .place)
 
 write-query-put-header-requires : (t : ℕ) → write-query-lts.Need-put-header-requires (write-query-calls t) (write-query-at t) write-query.Post write-query-Inv-loop write-query-μ-loop
-write-query-put-header-requires t c κs = let T : Turned (c .before .before .before .before .before .before .before .before .before .before .before .before .before .before .before .before .before .before .before .before .before .before .before .before .before .before .before .before .before .pre .1 .6 .0) (tokensOf (c .before .before .before .before .before .before .before .before .before .before .before .before .before .before .before .before .before .before .before .before .before .before .before .before .before .before .before .before .before .args .room .now) (c .before .before .before .before .before .before .before .before .before .before .before .before .before .before .before .before .before .before .before .before .before .before .before .before .before .before .before .before .before .args .p .n)) (c .before .before .before .before .before .before .before .before .before .before .before .before .before .before .before .before .before .before .before .before .before .loop .i) (c .before .before .before .before .before .before .before .before .before .before .before .before .before .before .before .before .before .before .before .before .before .loop .w) (c .before .before .before .before .before .before .before .before .before .before .before .before .before .before .before .before .before .before .before .before .before .loop .last) (c .before .before .before .before .before .before .before .before .before .before .before .before .before .before .before .before .before .before .before .before .before .before .before .before .before .before .before .before .before .args .p .operator) (c .before .before .before .before .before .before .before .before .before .before .before .before .before .before .before .before .before .before .before .before .before .loop .out) (c .before .before .before .before .before .before .before .before .before .before .before .before .before .before .before .before .before .before .conjunction-at .result) (c .before .before .before .before .before .before .before .before .before .before .before .before .before .before .before .before .before .after .result) (c .before .before .before .before .before .before .before .before .before .before .before .before .before .before .before .before .modifier-at .result) (c .before .before .before .before .before .before .before .before .before .before .before .before .before .before .before .after2 .result) (c .before .before .before .before .before .before .before .before .before .before .before .before .before .touch-last .last .0) = record { joins = (c .before .before .before .before .before .before .before .before .before .before .before .before .before .before .before .before .before .before .before .before .before .before .before .before .before .before .before .before .before .pre .1 .6 .3) .tuned .joins; goes = not-true _ (sym (c .before .before .before .before .before .before .before .before .before .before .before .before .before .before .before .before .before .before .before .before .more-at .ensures) ∙ c .before .before .before .before .before .before .before .before .before .before .before .before .before .before .before .before .before .before .before .if1 .taken); lead = λ acc e. record { joins = c .before .before .before .before .before .before .before .before .before .before .before .before .before .before .before .before .before .before .conjunction-at .ensures acc e; first = c .before .before .before .before .before .before .before .before .before .before .before .before .before .before .before .before .before .after .ensures .0; modifies = c .before .before .before .before .before .before .before .before .before .before .before .before .before .before .before .before .modifier-at .ensures; second = c .before .before .before .before .before .before .before .before .before .before .before .before .before .before .before .after2 .ensures .1 }; touches = c .before .before .before .before .before .before .before .before .before .before .before .before .before .touch-last .ensures; same = c .before .before .before .before .before .before .before .before .before .before .before .before .before .touch-last .kept .0 } in let G = c .before .before .before .before .before .before .before .before .before .before .before .before .before .before .before .before .before .before .before .before .before .loop .inv .3 (c .before .before .before .before .before .before .before .before .before .before .before .before .before .before .before .before .before .before .before .before .before .before .before .before .before .before .before .before .before .pre .1 .6 .0) (c .before .before .before .before .before .before .before .before .before .before .before .before .before .before .before .before .before .before .before .before .before .before .before .before .before .before .before .before .before .pre .1 .6 .1) (c .before .before .before .before .before .before .before .before .before .before .before .before .before .before .before .before .before .before .before .before .before .before .before .before .before .before .before .before .before .pre .1 .6 .2) (record { tuned = (c .before .before .before .before .before .before .before .before .before .before .before .before .before .before .before .before .before .before .before .before .before .before .before .before .before .before .before .before .before .pre .1 .6 .3) .tuned; is = (c .before .before .before .before .before .before .before .before .before .before .before .before .before .before .before .before .before .before .before .before .before .before .before .before .before .before .before .before .before .pre .1 .6 .3) .is; alone-is = (c .before .before .before .before .before .before .before .before .before .before .before .before .before .before .before .before .before .before .before .before .before .before .before .before .before .before .before .before .before .pre .1 .6 .3) .alone-is; fills = c .before .before .before .before .before .before .before .before .before .before .before .before .before .before .before .before .before .before .before .before .before .before .before .before .put-query-front .kept .0 ∙ (c .before .before .before .before .before .before .before .before .before .before .before .before .before .before .before .before .before .before .before .before .before .before .before .before .before .before .before .before .before .pre .1 .6 .3) .fills }) in let z = going-clause T (c .before .before .before .before .before .before .before .before .before .before .before .before .before .before .before .before .before .before .before .before .before .before .before .before .before .before .before .before .before .args .alone) G in let P = c .before .before .before .before .before .before .before .before .write-clause .ensures .0 (c .before .before .before .before .before .before .before .before .before .before .before .before .before .before .before .before .before .before .before .before .before .before .before .before .before .before .before .before .before .pre .1 .6 .0) (z .0) (z .1) (record { tuned = (c .before .before .before .before .before .before .before .before .before .before .before .before .before .before .before .before .before .before .before .before .before .before .before .before .before .before .before .before .before .pre .1 .6 .3) .tuned; is = z .2; fits = (λ h. omega (arith, z .3 h, c .before .before .before .before .before .before .before .before .before .before .body-start .ensures, c .before .before .before .before .before .before .before .before .before .before .before .before .before .touch-last .kept .0, c .before .before .before .before .before .before .before .before .before .before .before .before .before .before .before .before .before .before .before .before .before .loop .inv .2)) }) in let h = z .3 (omega (arith, P .1 .place, c .before .before .before .before .if2 .left)) in let a = body-after (c .before .before .before .before .before .before .before .before .before .before .before .before .before .before .before .before .before .before .before .before .before .before .before .before .before .before .before .before .before .args .alone) (c .before .before .before .before .before .before .before .before .before .before .before .before .before .before .before .before .before .before .before .before .before .loop .w) (c .before .before .before .if3 .left) in (omega (arith, h, a, c .before .before .before .before .before .before .before .before .write-clause .kept .1 .1 .1 .1 .0, c .before .before .before .before .before .before .before .before .before .before .before .before .before .touch-last .kept .0, c .before .before .before .before .before .before .before .before .before .before .before .before .before .before .before .before .before .before .before .before .before .loop .inv .2), omega (arith, h, P .1 .place, c .before .before .before .before .before .before .before .before .before .before .body-start .ensures, c .before .before .before .before .before .before .before .before .before .before .before .before .before .before .before .before .before .before .before .before .before .before .before .before .put-query-front .kept .0, c .before .before .before .before .before .before .before .before .before .before .before .before .before .before .before .before .before .before .before .before .before .before .before .before .before .before .before .before .before .pre .1 .5))
+write-query-put-header-requires t c κs =
+    let pre = c .before .before .before .before .before .before .before .before .before .before .before .before .before .before .before .before .before .before .before .before .before .before .before .before .before .before .before .before .before .pre in
+    let args = c .before .before .before .before .before .before .before .before .before .before .before .before .before .before .before .before .before .before .before .before .before .before .before .before .before .before .before .before .before .args in
+    let put-query-front = c .before .before .before .before .before .before .before .before .before .before .before .before .before .before .before .before .before .before .before .before .before .before .before .before .put-query-front in
+    let loop = c .before .before .before .before .before .before .before .before .before .before .before .before .before .before .before .before .before .before .before .before .before .loop in
+    let conjunction-at = c .before .before .before .before .before .before .before .before .before .before .before .before .before .before .before .before .before .before .conjunction-at in
+    let after = c .before .before .before .before .before .before .before .before .before .before .before .before .before .before .before .before .before .after in
+    let modifier-at = c .before .before .before .before .before .before .before .before .before .before .before .before .before .before .before .before .modifier-at in
+    let after2 = c .before .before .before .before .before .before .before .before .before .before .before .before .before .before .before .after2 in
+    let touch-last = c .before .before .before .before .before .before .before .before .before .before .before .before .before .touch-last in
+    let body-start = c .before .before .before .before .before .before .before .before .before .before .body-start in
+    let write-clause′ = c .before .before .before .before .before .before .before .before .write-clause in
+    let T : Turned (pre .1 .6 .0) (tokensOf (args .room .now) (args .p .n)) (loop .i) (loop .w) (loop .last) (args .p .operator) (loop .out) (conjunction-at .result) (after .result) (modifier-at .result) (after2 .result) (touch-last .last .0) = record { joins = (pre .1 .6 .3) .tuned .joins; goes = not-true _ (sym (c .before .before .before .before .before .before .before .before .before .before .before .before .before .before .before .before .before .before .before .before .more-at .ensures) ∙ c .before .before .before .before .before .before .before .before .before .before .before .before .before .before .before .before .before .before .before .if1 .taken); lead = λ acc e. record { joins = conjunction-at .ensures acc e; first = after .ensures .0; modifies = modifier-at .ensures; second = after2 .ensures .1 }; touches = touch-last .ensures; same = touch-last .kept .0 } in
+    let G = loop .inv .3 (pre .1 .6 .0) (pre .1 .6 .1) (pre .1 .6 .2) (record { tuned = (pre .1 .6 .3) .tuned; is = (pre .1 .6 .3) .is; alone-is = (pre .1 .6 .3) .alone-is; fills = put-query-front .kept .0 ∙ (pre .1 .6 .3) .fills }) in
+    let z = going-clause T (args .alone) G in
+    let P = write-clause′ .ensures .0 (pre .1 .6 .0) (z .0) (z .1) (record { tuned = (pre .1 .6 .3) .tuned; is = z .2; fits = (λ h. omega (arith, z .3 h, body-start .ensures, touch-last .kept .0, loop .inv .2)) }) in
+    let h = z .3 (omega (arith, P .1 .place, c .before .before .before .before .if2 .left)) in
+    let a = body-after (args .alone) (loop .w) (c .before .before .before .if3 .left) in
+    (omega (arith, h, a, write-clause′ .kept .1 .1 .1 .1 .0, touch-last .kept .0, loop .inv .2), omega (arith, h, P .1 .place, body-start .ensures, put-query-front .kept .0, pre .1 .5))
 
 write-query-loop-less-2 : (t : ℕ) → write-query-lts.Need-loop-less-2 (write-query-calls t) (write-query-at t) write-query.Post write-query-Inv-loop write-query-μ-loop
-write-query-loop-less-2 t c = let L = led (c .before .before .before .before .before .before .before .before .before .before .before .before .before .before .before .before .before .before .before .before .before .conjunction-at .result) (c .before .before .before .before .before .before .before .before .before .before .before .before .before .before .before .before .before .before .before .modifier-at .result) (c .before .before .before .before .before .before .before .before .before .before .before .before .before .before .before .before .before .before .before .before .before .before .before .before .loop .i) (c .before .before .before .before .before .before .before .before .before .before .before .before .before .before .before .before .before .before .before .before .after .result) (c .before .before .before .before .before .before .before .before .before .before .before .before .before .before .before .before .before .before .after2 .result) (c .before .before .before .before .before .before .before .before .before .before .before .before .before .before .before .before .before .before .before .before .after .ensures .0) (c .before .before .before .before .before .before .before .before .before .before .before .before .before .before .before .before .before .before .after2 .ensures .1) in omega (arith, L .one, L .two, c .before .before .before .before .before .before .before .before .before .before .before .write-clause .ensures .1, goes-in (c .before .before .before .before .before .before .before .before .before .before .before .before .before .before .before .before .before .before .before .before .before .before .before .before .before .before .before .before .before .before .before .before .args .room .now) (c .before .before .before .before .before .before .before .before .before .before .before .before .before .before .before .before .before .before .before .before .before .before .before .before .before .before .before .before .before .before .before .before .args .p .n) (c .before .before .before .before .before .before .before .before .before .before .before .before .before .before .before .before .before .before .before .before .before .before .before .before .loop .i) (not-true _ (sym (c .before .before .before .before .before .before .before .before .before .before .before .before .before .before .before .before .before .before .before .before .before .before .before .more-at .ensures) ∙ c .before .before .before .before .before .before .before .before .before .before .before .before .before .before .before .before .before .before .before .before .before .before .if1 .taken)))
+write-query-loop-less-2 t c =
+    let args = c .before .before .before .before .before .before .before .before .before .before .before .before .before .before .before .before .before .before .before .before .before .before .before .before .before .before .before .before .before .before .before .before .args in
+    let loop = c .before .before .before .before .before .before .before .before .before .before .before .before .before .before .before .before .before .before .before .before .before .before .before .before .loop in
+    let after = c .before .before .before .before .before .before .before .before .before .before .before .before .before .before .before .before .before .before .before .before .after in
+    let after2 = c .before .before .before .before .before .before .before .before .before .before .before .before .before .before .before .before .before .before .after2 in
+    let L = led (c .before .before .before .before .before .before .before .before .before .before .before .before .before .before .before .before .before .before .before .before .before .conjunction-at .result) (c .before .before .before .before .before .before .before .before .before .before .before .before .before .before .before .before .before .before .before .modifier-at .result) (loop .i) (after .result) (after2 .result) (after .ensures .0) (after2 .ensures .1) in
+    omega (arith, L .one, L .two, c .before .before .before .before .before .before .before .before .before .before .before .write-clause .ensures .1, goes-in (args .room .now) (args .p .n) (loop .i) (not-true _ (sym (c .before .before .before .before .before .before .before .before .before .before .before .before .before .before .before .before .before .before .before .before .before .before .before .more-at .ensures) ∙ c .before .before .before .before .before .before .before .before .before .before .before .before .before .before .before .before .before .before .before .before .before .before .if1 .taken)))
 
 write-query-loop-again-2 : (t : ℕ) → write-query-lts.Need-loop-again-2 (write-query-calls t) (write-query-at t) write-query.Post write-query-Inv-loop write-query-μ-loop
-write-query-loop-again-2 t c = let L = led (c .before .before .before .before .before .before .before .before .before .before .before .before .before .before .before .before .before .before .before .before .before .conjunction-at .result) (c .before .before .before .before .before .before .before .before .before .before .before .before .before .before .before .before .before .before .before .modifier-at .result) (c .before .before .before .before .before .before .before .before .before .before .before .before .before .before .before .before .before .before .before .before .before .before .before .before .loop .i) (c .before .before .before .before .before .before .before .before .before .before .before .before .before .before .before .before .before .before .before .before .after .result) (c .before .before .before .before .before .before .before .before .before .before .before .before .before .before .before .before .before .before .after2 .result) (c .before .before .before .before .before .before .before .before .before .before .before .before .before .before .before .before .before .before .before .before .after .ensures .0) (c .before .before .before .before .before .before .before .before .before .before .before .before .before .before .before .before .before .before .after2 .ensures .1) in (omega (arith, L .one, L .two, c .before .before .before .before .before .before .before .before .before .before .before .write-clause .ensures .1, c .before .before .before .before .before .before .before .before .before .before .before .before .before .before .before .before .before .before .before .before .before .before .before .before .loop .inv .0), c .before .before .before .before .before .before .before .before .before .before .before .write-clause .ensures .1 .1, c .before .before .put-header .kept .0 ∙ c .before .before .before .before .before .before .before .before .before .before .before .write-clause .kept .1 .1 .1 .1 .0 ∙ c .before .before .before .before .before .before .before .before .before .before .before .before .before .before .before .before .touch-last .kept .0 ∙ c .before .before .before .before .before .before .before .before .before .before .before .before .before .before .before .before .before .before .before .before .before .before .before .before .loop .inv .2, λ st cs j W. let T : Turned st (tokensOf (c .before .before .before .before .before .before .before .before .before .before .before .before .before .before .before .before .before .before .before .before .before .before .before .before .before .before .before .before .before .before .before .before .args .room .now) (c .before .before .before .before .before .before .before .before .before .before .before .before .before .before .before .before .before .before .before .before .before .before .before .before .before .before .before .before .before .before .before .before .args .p .n)) (c .before .before .before .before .before .before .before .before .before .before .before .before .before .before .before .before .before .before .before .before .before .before .before .before .loop .i) (c .before .before .before .before .before .before .before .before .before .before .before .before .before .before .before .before .before .before .before .before .before .before .before .before .loop .w) (c .before .before .before .before .before .before .before .before .before .before .before .before .before .before .before .before .before .before .before .before .before .before .before .before .loop .last) (c .before .before .before .before .before .before .before .before .before .before .before .before .before .before .before .before .before .before .before .before .before .before .before .before .before .before .before .before .before .before .before .before .args .p .operator) (c .before .before .before .before .before .before .before .before .before .before .before .before .before .before .before .before .before .before .before .before .before .before .before .before .loop .out) (c .before .before .before .before .before .before .before .before .before .before .before .before .before .before .before .before .before .before .before .before .before .conjunction-at .result) (c .before .before .before .before .before .before .before .before .before .before .before .before .before .before .before .before .before .before .before .before .after .result) (c .before .before .before .before .before .before .before .before .before .before .before .before .before .before .before .before .before .before .before .modifier-at .result) (c .before .before .before .before .before .before .before .before .before .before .before .before .before .before .before .before .before .before .after2 .result) (c .before .before .before .before .before .before .before .before .before .before .before .before .before .before .before .before .touch-last .last .0) = record { joins = W .tuned .joins; goes = not-true _ (sym (c .before .before .before .before .before .before .before .before .before .before .before .before .before .before .before .before .before .before .before .before .before .before .before .more-at .ensures) ∙ c .before .before .before .before .before .before .before .before .before .before .before .before .before .before .before .before .before .before .before .before .before .before .if1 .taken); lead = λ acc e. record { joins = c .before .before .before .before .before .before .before .before .before .before .before .before .before .before .before .before .before .before .before .before .before .conjunction-at .ensures acc e; first = c .before .before .before .before .before .before .before .before .before .before .before .before .before .before .before .before .before .before .before .before .after .ensures .0; modifies = c .before .before .before .before .before .before .before .before .before .before .before .before .before .before .before .before .before .before .before .modifier-at .ensures; second = c .before .before .before .before .before .before .before .before .before .before .before .before .before .before .before .before .before .before .after2 .ensures .1 }; touches = c .before .before .before .before .before .before .before .before .before .before .before .before .before .before .before .before .touch-last .ensures; same = c .before .before .before .before .before .before .before .before .before .before .before .before .before .before .before .before .touch-last .kept .0 } in let G = c .before .before .before .before .before .before .before .before .before .before .before .before .before .before .before .before .before .before .before .before .before .before .before .before .loop .inv .3 st cs j W in let z = going-clause T (c .before .before .before .before .before .before .before .before .before .before .before .before .before .before .before .before .before .before .before .before .before .before .before .before .before .before .before .before .before .before .before .before .args .alone) G in let P = c .before .before .before .before .before .before .before .before .before .before .before .write-clause .ensures .0 st (z .0) (z .1) (record { tuned = W .tuned; is = z .2; fits = (λ h. omega (arith, z .3 h, c .before .before .before .before .before .before .before .before .before .before .before .before .before .body-start .ensures, c .before .before .before .before .before .before .before .before .before .before .before .before .before .before .before .before .touch-last .kept .0, c .before .before .before .before .before .before .before .before .before .before .before .before .before .before .before .before .before .before .before .before .before .before .before .before .loop .inv .2)) }) in going-made T (P .0) (c .before .before .before .before .before .before .before .before .before .before .before .before .before .before .before .before .before .before .before .before .before .before .before .before .before .before .before .before .before .before .before .before .args .alone) G (c .before .before .before .before .before .before .if3 .left) (c .before .before .before .before .before .before .before .before .before .before .before .before .before .body-start .result) (c .before .before .before .before .before .before .before .before .before .before .before .before .before .body-start .ensures) (z .0) (z .2) (P .1) (c .before .before .before .before .before .before .before .if2 .left) (c .before .before .before .before .tag-after .result) (c .before .before .before .before .before .before .before .before .before .before .before .write-clause .result .end - c .before .before .before .before .before .before .before .before .before .before .before .before .before .body-start .result) (c .before .before .put-header .result) (c .before .before .put-header .last .0) (c .before .before .before .before .tag-after .ensures) (c .before .before .put-header .ensures) refl (c .before .before .put-header .kept .0 ∙ c .before .before .before .before .before .before .before .before .before .before .before .write-clause .kept .1 .1 .1 .1 .0))
+write-query-loop-again-2 t c =
+    let args = c .before .before .before .before .before .before .before .before .before .before .before .before .before .before .before .before .before .before .before .before .before .before .before .before .before .before .before .before .before .before .before .before .args in
+    let loop = c .before .before .before .before .before .before .before .before .before .before .before .before .before .before .before .before .before .before .before .before .before .before .before .before .loop in
+    let conjunction-at = c .before .before .before .before .before .before .before .before .before .before .before .before .before .before .before .before .before .before .before .before .before .conjunction-at in
+    let after = c .before .before .before .before .before .before .before .before .before .before .before .before .before .before .before .before .before .before .before .before .after in
+    let modifier-at = c .before .before .before .before .before .before .before .before .before .before .before .before .before .before .before .before .before .before .before .modifier-at in
+    let after2 = c .before .before .before .before .before .before .before .before .before .before .before .before .before .before .before .before .before .before .after2 in
+    let touch-last = c .before .before .before .before .before .before .before .before .before .before .before .before .before .before .before .before .touch-last in
+    let body-start = c .before .before .before .before .before .before .before .before .before .before .before .before .before .body-start in
+    let write-clause′ = c .before .before .before .before .before .before .before .before .before .before .before .write-clause in
+    let tag-after = c .before .before .before .before .tag-after in
+    let put-header = c .before .before .put-header in
+    let L = led (conjunction-at .result) (modifier-at .result) (loop .i) (after .result) (after2 .result) (after .ensures .0) (after2 .ensures .1) in (
+      omega (arith, L .one, L .two, write-clause′ .ensures .1, loop .inv .0),
+      write-clause′ .ensures .1 .1,
+      put-header .kept .0 ∙ write-clause′ .kept .1 .1 .1 .1 .0 ∙ touch-last .kept .0 ∙ loop .inv .2,
+      λ st cs j W.
+          let T : Turned st (tokensOf (args .room .now) (args .p .n)) (loop .i) (loop .w) (loop .last) (args .p .operator) (loop .out) (conjunction-at .result) (after .result) (modifier-at .result) (after2 .result) (touch-last .last .0) =
+          record { joins = W .tuned .joins; goes = not-true _ (sym (c .before .before .before .before .before .before .before .before .before .before .before .before .before .before .before .before .before .before .before .before .before .before .before .more-at .ensures) ∙ c .before .before .before .before .before .before .before .before .before .before .before .before .before .before .before .before .before .before .before .before .before .before .if1 .taken); lead = λ acc e. record { joins = conjunction-at .ensures acc e; first = after .ensures .0; modifies = modifier-at .ensures; second = after2 .ensures .1 }; touches = touch-last .ensures; same = touch-last .kept .0 } in
+          let G = loop .inv .3 st cs j W in
+          let z = going-clause T (args .alone) G in
+          let P = write-clause′ .ensures .0 st (z .0) (z .1) (record { tuned = W .tuned; is = z .2; fits = (λ h. omega (arith, z .3 h, body-start .ensures, touch-last .kept .0, loop .inv .2)) }) in
+          going-made
+          T (P .0) (args .alone) G (c .before .before .before .before .before .before .if3 .left) (body-start .result) (body-start .ensures) (z .0) (z .2) (P .1) (c .before .before .before .before .before .before .before .if2 .left)
+          (tag-after .result) (write-clause′ .result .end - body-start .result) (put-header .result) (put-header .last .0) (tag-after .ensures) (put-header .ensures) refl (put-header .kept .0 ∙ write-clause′ .kept .1 .1 .1 .1 .0),
+    )
 
 write-query-same-length-2 : (t : ℕ) → write-query-lts.Need-same-length-2 (write-query-calls t) (write-query-at t) write-query.Post write-query-Inv-loop write-query-μ-loop
 write-query-same-length-2 t c = c .before .before .loop .inv .2 ∙ c .before .before .before .before .before .put-query-front .kept .0

@@ -23,7 +23,11 @@ add-t10 : tie.Need-add-t10
 add-t10 c = omega (arith, c .before .before .before .before .pre .1, c .before .before .before .before .pre .0 .few)
 
 returns-2 : tie.Need-returns-2
-returns-2 c = let y = size-some (isBoosted (tokensOf (c .before .before .before .before .args .room .now) (c .before .before .before .before .args .n)) (c .before .before .before .before .args .i)) (c .before .before .before .before .pre .2) (c .before .if1 .left) in let k = kind-in (c .before .before .before .before .args .room .now) (c .before .before .before .before .args .n) 1 (c .before .before .before .before .args .i + 1) (λ z. omega arith) (and-r (isAt 11 (tokensOf (c .before .before .before .before .args .room .now) (c .before .before .before .before .args .n)) (c .before .before .before .before .args .i)) (isAt 1 (tokensOf (c .before .before .before .before .args .room .now) (c .before .before .before .before .args .n)) (c .before .before .before .before .args .i + 1)) (y .0)) in ((λ st m w j before e P l. boost-empty st (tokensOf (c .before .before .before .before .args .room .now) (c .before .before .before .before .args .n)) m (c .before .before .before .before .args .i) e P (y .0) (c .if2 .taken)), (omega arith, omega (arith, k)))
+returns-2 c =
+    let args = c .before .before .before .before .args in
+    let y = size-some (isBoosted (tokensOf (args .room .now) (args .n)) (args .i)) (c .before .before .before .before .pre .2) (c .before .if1 .left) in
+    let k = kind-in (args .room .now) (args .n) 1 (args .i + 1) (λ z. omega arith) (and-r (isAt 11 (tokensOf (args .room .now) (args .n)) (args .i)) (isAt 1 (tokensOf (args .room .now) (args .n)) (args .i + 1)) (y .0)) in
+    ((λ st m w j before e P l. boost-empty st (tokensOf (args .room .now) (args .n)) m (args .i) e P (y .0) (c .if2 .taken)), (omega arith, omega (arith, k)))
 
 sub-put-header : tie.Need-sub-put-header
 sub-put-header c = let y = size-some (isBoosted (tokensOf (c .before .before .before .before .before .args .room .now) (c .before .before .before .before .before .args .n)) (c .before .before .before .before .before .args .i)) (c .before .before .before .before .before .pre .2) (c .before .before .if1 .left) in omega (arith, y .1, c .before .before .before .before .before .pre .3)
@@ -38,10 +42,21 @@ add-bits-at : tie.Need-add-bits-at
 add-bits-at c = omega (arith, c .before .before .before .before .before .before .before .before .before .pre .1, c .before .before .before .before .before .before .before .before .before .pre .0 .few)
 
 bits-at-requires : tie.Need-bits-at-requires
-bits-at-requires c κs = let y = size-some (isBoosted (tokensOf (c .before .before .before .before .before .before .before .before .before .args .room .now) (c .before .before .before .before .before .before .before .before .before .args .n)) (c .before .before .before .before .before .before .before .before .before .args .i)) (c .before .before .before .before .before .before .before .before .before .pre .2) (c .before .before .before .before .before .before .if1 .left) in let k = kind-in (c .before .before .before .before .before .before .before .before .before .args .room .now) (c .before .before .before .before .before .before .before .before .before .args .n) 1 (c .before .before .before .before .before .before .before .before .before .args .i + 1) (λ z. omega arith) (and-r (isAt 11 (tokensOf (c .before .before .before .before .before .before .before .before .before .args .room .now) (c .before .before .before .before .before .before .before .before .before .args .n)) (c .before .before .before .before .before .before .before .before .before .args .i)) (isAt 1 (tokensOf (c .before .before .before .before .before .before .before .before .before .args .room .now) (c .before .before .before .before .before .before .before .before .before .args .n)) (c .before .before .before .before .before .before .before .before .before .args .i + 1)) (y .0)) in (c .before .before .before .before .before .before .before .before .before .pre .0, k)
+bits-at-requires c κs =
+    let pre = c .before .before .before .before .before .before .before .before .before .pre in
+    let args = c .before .before .before .before .before .before .before .before .before .args in
+    let y = size-some (isBoosted (tokensOf (args .room .now) (args .n)) (args .i)) (pre .2) (c .before .before .before .before .before .before .if1 .left) in
+    let k = kind-in (args .room .now) (args .n) 1 (args .i + 1) (λ z. omega arith) (and-r (isAt 11 (tokensOf (args .room .now) (args .n)) (args .i)) (isAt 1 (tokensOf (args .room .now) (args .n)) (args .i + 1)) (y .0)) in
+    (pre .0, k)
 
 put-big4-requires : tie.Need-put-big4-requires
-put-big4-requires c κs = let y = size-some (isBoosted (tokensOf (c .before .before .before .before .before .before .before .before .before .before .args .room .now) (c .before .before .before .before .before .before .before .before .before .before .args .n)) (c .before .before .before .before .before .before .before .before .before .before .args .i)) (c .before .before .before .before .before .before .before .before .before .before .pre .2) (c .before .before .before .before .before .before .before .if1 .left) in let h = c .before .before .before .before .before .before .before .before .before .before .pre .4 (omega (arith, c .before .before .before .before .before .before .before .before .before .before .pre .3, c .before .before .before .before .before .before .if2 .left)) in omega (arith, y .1, h, c .before .before .before .before .before .before .before .before .before .before .pre .3, c .before .before .before .before .put-header .ensures .place, c .before .before .before .before .put-header .kept .0)
+put-big4-requires c κs =
+    let pre = c .before .before .before .before .before .before .before .before .before .before .pre in
+    let args = c .before .before .before .before .before .before .before .before .before .before .args in
+    let put-header = c .before .before .before .before .put-header in
+    let y = size-some (isBoosted (tokensOf (args .room .now) (args .n)) (args .i)) (pre .2) (c .before .before .before .before .before .before .before .if1 .left) in
+    let h = pre .4 (omega (arith, pre .3, c .before .before .before .before .before .before .if2 .left)) in
+    omega (arith, y .1, h, pre .3, put-header .ensures .place, put-header .kept .0)
 
 add-t13 : tie.Need-add-t13
 add-t13 c = omega (arith, c .before .before .before .before .before .before .before .before .before .before .before .before .before .pre .1, c .before .before .before .before .before .before .before .before .before .before .before .before .before .pre .0 .few)
@@ -50,7 +65,15 @@ same-length : tie.Need-same-length
 same-length c = c .before .before .put-big4 .kept .0 ∙ c .before .before .before .before .before .before .before .put-header .kept .0
 
 returns-3 : tie.Need-returns-3
-returns-3 c = let y = size-some (isBoosted (tokensOf (c .before .before .before .before .before .before .before .before .before .before .before .before .before .args .room .now) (c .before .before .before .before .before .before .before .before .before .before .before .before .before .args .n)) (c .before .before .before .before .before .before .before .before .before .before .before .before .before .args .i)) (c .before .before .before .before .before .before .before .before .before .before .before .before .before .pre .2) (c .before .before .before .before .before .before .before .before .before .before .if1 .left) in let k = kind-in (c .before .before .before .before .before .before .before .before .before .before .before .before .before .args .room .now) (c .before .before .before .before .before .before .before .before .before .before .before .before .before .args .n) 1 (c .before .before .before .before .before .before .before .before .before .before .before .before .before .args .i + 1) (λ z. omega arith) (and-r (isAt 11 (tokensOf (c .before .before .before .before .before .before .before .before .before .before .before .before .before .args .room .now) (c .before .before .before .before .before .before .before .before .before .before .before .before .before .args .n)) (c .before .before .before .before .before .before .before .before .before .before .before .before .before .args .i)) (isAt 1 (tokensOf (c .before .before .before .before .before .before .before .before .before .before .before .before .before .args .room .now) (c .before .before .before .before .before .before .before .before .before .before .before .before .before .args .n)) (c .before .before .before .before .before .before .before .before .before .before .before .before .before .args .i + 1)) (y .0)) in let h = c .before .before .before .before .before .before .before .before .before .before .before .before .before .pre .4 (omega (arith, c .before .before .before .before .before .before .before .before .before .before .before .before .before .pre .3, c .before .before .before .before .before .before .before .before .before .if2 .left)) in ((λ st m w j before e P l. boost-front st (tokensOf (c .before .before .before .before .before .before .before .before .before .before .before .before .before .args .room .now) (c .before .before .before .before .before .before .before .before .before .before .before .before .before .args .n)) m (c .before .before .before .before .before .before .before .before .before .before .before .before .before .args .i) e P (y .0) (c .before .before .before .before .before .before .before .before .before .if2 .left) (c .before .before .before .before .before .before .before .before .before .before .before .before .before .args .end - c .before .before .before .before .before .before .before .before .before .before .before .before .before .args .at - 3) (c .before .before .before .bits-at .result) (c .before .before .before .before .before .before .before .put-header .ensures) (c .before .before .put-big4 .ensures) (c .before .before .before .bits-at .ensures) (y .1) refl (omega (arith, h, l)) l), (omega arith, omega (arith, k)))
+returns-3 c =
+    let pre = c .before .before .before .before .before .before .before .before .before .before .before .before .before .pre in
+    let args = c .before .before .before .before .before .before .before .before .before .before .before .before .before .args in
+    let if2 = c .before .before .before .before .before .before .before .before .before .if2 in
+    let bits-at = c .before .before .before .bits-at in
+    let y = size-some (isBoosted (tokensOf (args .room .now) (args .n)) (args .i)) (pre .2) (c .before .before .before .before .before .before .before .before .before .before .if1 .left) in
+    let k = kind-in (args .room .now) (args .n) 1 (args .i + 1) (λ z. omega arith) (and-r (isAt 11 (tokensOf (args .room .now) (args .n)) (args .i)) (isAt 1 (tokensOf (args .room .now) (args .n)) (args .i + 1)) (y .0)) in
+    let h = pre .4 (omega (arith, pre .3, if2 .left)) in
+    ((λ st m w j before e P l. boost-front st (tokensOf (args .room .now) (args .n)) m (args .i) e P (y .0) (if2 .left) (args .end - args .at - 3) (bits-at .result) (c .before .before .before .before .before .before .before .put-header .ensures) (c .before .before .put-big4 .ensures) (bits-at .ensures) (y .1) refl (omega (arith, h, l)) l), (omega arith, omega (arith, k)))
 
 pub put-boost-spec : {M : Type 1} → statement M
 put-boost-spec =

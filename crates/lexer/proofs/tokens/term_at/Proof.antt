@@ -61,7 +61,10 @@ same-length-3 : tie.Need-same-length-3
 same-length-3 c = search needs
 
 returns-3 : tie.Need-returns-3
-returns-3 c = (c .before .before .before .before .before .before .before .before .before .before .before .before .before .read-term .ensures .0, term-yes (c .before .before .before .before .before .before .before .before .before .before .before .before .before .before .before .before .before .args .text .now) (c .before .before .before .before .before .before .before .before .before .before .before .before .before .before .before .before .before .args .at) _ (drop (c .before .before .before .before .before .before .before .before .before .before .before .before .before .before .before .before .before .args .at) (c .before .before .before .before .before .before .before .before .before .before .before .before .before .before .before .before .before .args .text .now)) (c .before .before .before .before .before .before .before .before .before .before .before .before .before .read-term .result) (c .before .before .before .before .before .before .before .before .before .before .before .before .before .read-term .ensures .1) _ _ _ (c .before .before .before .before .before .before .before .before .before .next .given .1) _ _ _ (sym (c .before .before .before .before .before .before .is-wildcard .ensures ∙ ap isWildcard (c .before .before .before .before .before .before .before .peek .ensures)) ∙ c .before .before .before .before .before .if1 .left) (c .before .before .word-kind .ensures) (c .before .word-note .ensures) (c .kept-len .ensures))
+returns-3 c =
+    let args = c .before .before .before .before .before .before .before .before .before .before .before .before .before .before .before .before .before .args in
+    let read-term = c .before .before .before .before .before .before .before .before .before .before .before .before .before .read-term in
+    (read-term .ensures .0, term-yes (args .text .now) (args .at) _ (drop (args .at) (args .text .now)) (read-term .result) (read-term .ensures .1) _ _ _ (c .before .before .before .before .before .before .before .before .before .next .given .1) _ _ _ (sym (c .before .before .before .before .before .before .is-wildcard .ensures ∙ ap isWildcard (c .before .before .before .before .before .before .before .peek .ensures)) ∙ c .before .before .before .before .before .if1 .left) (c .before .before .word-kind .ensures) (c .before .word-note .ensures) (c .kept-len .ensures))
 
 pub term-at-spec : {M : Type 1} → statement M
 term-at-spec =

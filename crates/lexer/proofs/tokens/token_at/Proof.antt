@@ -74,8 +74,16 @@ same-length-3 : tie.Need-same-length-3
 same-length-3 c = search needs
 
 returns-6 : tie.Need-returns-6
-returns-6 c = let t = c .before .before .before .before .before .before .before .before .before .before .before .before .before .before .before .before .before .args .text .now in let a = c .before .before .before .before .before .before .before .before .before .before .before .before .before .before .before .before .before .args .at in
-    (c .before .before .term-at2 .ensures .0, made-term t a (c .before .before .term-at2 .last .1 .1 .1 .0) (c .before .before .before .before .before .before .before .before .before .before .before .before .before .before .before .before .before .pre .0) (sym (c .before .before .before .before .before .before .before .before .before .before .before .sign-kind .ensures) ∙ c .before .before .before .before .before .before .before .before .before .before .if2 .left) (sym (c .before .before .before .before .before .before .before .before .double-kind .ensures ∙ ap (doubleKind (getD t a 0)) (c .before .before .before .before .before .before .before .before .before .peek .ensures)) ∙ c .before .before .before .before .before .before .before .if3 .left) (ne-eqb _ _ (c .before .before .before .before .before .before .if4 .left)) (sym (c .before .before .before .before .before .bad-start .ensures) ∙ c .before .before .before .before .if5 .left) (c .before .before .term-at2 .result) (c .before .before .term-at2 .ensures .1))
+returns-6 c = let t = c .before .before .before .before .before .before .before .before .before .before .before .before .before .before .before .before .before .args .text .now in let a = c .before .before .before .before .before .before .before .before .before .before .before .before .before .before .before .before .before .args .at in (
+  c .before .before .term-at2 .ensures .0,
+  made-term
+      t a (c .before .before .term-at2 .last .1 .1 .1 .0) (c .before .before .before .before .before .before .before .before .before .before .before .before .before .before .before .before .before .pre .0)
+      (sym (c .before .before .before .before .before .before .before .before .before .before .before .sign-kind .ensures) ∙ c .before .before .before .before .before .before .before .before .before .before .if2 .left)
+      (sym (c .before .before .before .before .before .before .before .before .double-kind .ensures ∙ ap (doubleKind (getD t a 0)) (c .before .before .before .before .before .before .before .before .before .peek .ensures))
+      ∙ c .before .before .before .before .before .before .before .if3 .left)
+      (ne-eqb _ _ (c .before .before .before .before .before .before .if4 .left)) (sym (c .before .before .before .before .before .bad-start .ensures) ∙ c .before .before .before .before .if5 .left) (c .before .before .term-at2 .result)
+      (c .before .before .term-at2 .ensures .1),
+)
 
 pub token-at-spec : {M : Type 1} → statement M
 token-at-spec =

@@ -14,7 +14,7 @@ use Rattle.rules.specs.Bytes.{ofBig, each}
 use Rattle.rules.proofs.stored.Parts as parts
 use Rattle.rules.proofs.Bools as bools
 use Rattle.matching.proofs.Leaves as leaves
-use Rattle.matching.proofs.Searches as searches
+use Rattle.entries.proofs.Searches as searches
 use Rattle.matching.proofs.phrase.follow.Statement.{statement}
 use Rattle.matching.proofs.phrase.follow.Tie as tie
 

@@ -5,8 +5,8 @@ use lib.ListN.{length}
 use Rattle.rules.specs.Lists.{entryOf, isEntry}
 use Rattle.rules.specs.Matching.{isAt}
 use Rattle.rules.proofs.stored.Parts as parts
-use Rattle.matching.proofs.Entries as entries
-use Rattle.matching.proofs.Searches as searches
+use Rattle.entries.proofs.Entries as entries
+use Rattle.entries.proofs.Searches as searches
 use Rattle.matching.proofs.phrase.has_at.Statement.{statement}
 use Rattle.matching.proofs.phrase.has_at.Tie as tie
 

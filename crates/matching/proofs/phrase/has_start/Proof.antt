@@ -7,8 +7,8 @@ use Rattle.rules.specs.Reading.{wordOf}
 use Rattle.rules.specs.Lists.{isEntry, entryOf}
 use Rattle.rules.specs.Bytes.{each}
 use Rattle.rules.proofs.stored.Parts as parts
-use Rattle.matching.proofs.Entries as entries
-use Rattle.matching.proofs.Searches as searches
+use Rattle.entries.proofs.Entries as entries
+use Rattle.entries.proofs.Searches as searches
 use Rattle.matching.proofs.phrase.has_start.Statement.{statement}
 use Rattle.matching.proofs.phrase.has_start.Tie as tie
 

@@ -4,7 +4,7 @@ use native.Mathlib.Omega.{arith}
 use denote.Ref.{now}
 use Rattle.rules.specs.Lists.{entryOf}
 use Rattle.rules.proofs.Bools as bools
-use Rattle.matching.proofs.Entries as entries
+use Rattle.entries.proofs.Entries as entries
 use Rattle.matching.proofs.phrase.is_at.Statement.{statement}
 use Rattle.matching.proofs.phrase.is_at.Tie as tie
 

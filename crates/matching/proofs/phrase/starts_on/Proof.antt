@@ -5,7 +5,7 @@ use Rattle.rules.specs.Reading.{wordOf}
 use Rattle.rules.specs.Lists.{entryOf}
 use Rattle.rules.specs.Bytes.{each}
 use Rattle.rules.proofs.Bools as bools
-use Rattle.matching.proofs.Entries as entries
+use Rattle.entries.proofs.Entries as entries
 use Rattle.matching.proofs.phrase.starts_on.Statement.{statement}
 use Rattle.matching.proofs.phrase.starts_on.Tie as tie
 

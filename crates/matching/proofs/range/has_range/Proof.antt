@@ -6,9 +6,9 @@ use Rattle.rules.specs.Lists.{entryOf, isEntry}
 use Rattle.rules.specs.Matching.{isInside, hasRange}
 use Rattle.rules.specs.Reading.{boundOf}
 use Rattle.rules.proofs.stored.Parts as parts
-use Rattle.matching.specs.Entry.{numbers}
-use Rattle.matching.proofs.Entries as entries
-use Rattle.matching.proofs.Searches as searches
+use Rattle.entries.specs.Entry.{numbers}
+use Rattle.entries.proofs.Entries as entries
+use Rattle.entries.proofs.Searches as searches
 use Rattle.matching.proofs.range.has_range.Statement.{statement}
 use Rattle.matching.proofs.range.has_range.Tie as tie
 

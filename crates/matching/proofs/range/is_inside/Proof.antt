@@ -6,8 +6,8 @@ use Rattle.rules.specs.Reading.{boundOf}
 use Rattle.rules.specs.Lists.{entryOf}
 use Rattle.rules.specs.Bytes.{same}
 use Rattle.rules.proofs.Bools as bools
-use Rattle.matching.specs.Entry.{numbers}
-use Rattle.matching.proofs.Entries as entries
+use Rattle.entries.specs.Entry.{numbers}
+use Rattle.entries.proofs.Entries as entries
 use Rattle.matching.proofs.range.is_inside.Statement.{statement}
 use Rattle.matching.proofs.range.is_inside.Tie as tie
 

@@ -4,7 +4,7 @@ use native.Mathlib.Omega.{arith}
 use denote.Ref.{now}
 use borrow.Author.Needs.{needs}
 use Rattle.rules.proofs.stored.Parts as parts
-use Rattle.matching.specs.Entry.{numbers}
+use Rattle.entries.specs.Entry.{numbers}
 use Rattle.matching.proofs.Leaves as leaves
 use Rattle.matching.proofs.range.keeps.Statement.{statement}
 use Rattle.matching.proofs.range.keeps.Tie as tie

@@ -3,7 +3,7 @@ use mathlib.Core.Path.{ap, _∙_}
 use denote.Ref.{now}
 use Rattle.rules.specs.Lists.{entryOf}
 use Rattle.rules.specs.Bytes.{bodyOf, restOf, each}
-use Rattle.matching.specs.Entry.{numbers}
+use Rattle.entries.specs.Entry.{numbers}
 use Rattle.matching.proofs.Leaves as leaves
 use Rattle.matching.proofs.range.range_true.Statement.{statement}
 use Rattle.matching.proofs.range.range_true.Tie as tie

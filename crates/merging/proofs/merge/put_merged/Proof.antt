@@ -1,12 +1,11 @@
 -- `merging::merge::put_merged` meets its contract.
-use mathlib.Core.Path.{sym, ap, _∙_}
+use mathlib.Core.Path.{sym, _∙_}
+use Prim.Native.Nat.{_-_}
 use native.Mathlib.Omega.{arith}
-use lib.ListN.{length}
 use denote.Ref.{now}
 use borrow.Author.Needs.{needs}
-use Rattle.merging.proofs.Laid as laid
-use Rattle.places.proofs.Standing as standing
 use Rattle.places.specs.Within.{within}
+use Rattle.merging.proofs.Laid as laid
 use Rattle.merging.proofs.merge.put_merged.Statement.{statement}
 use Rattle.merging.proofs.merge.put_merged.Tie as tie
 
@@ -14,7 +13,7 @@ is-one-requires : tie.Need-is-one-requires
 is-one-requires c κs = search needs
 
 put-clause-requires : tie.Need-put-clause-requires
-put-clause-requires c κs = let l = ap length (laid.plain-bytes _ (within (c .before .before .before .before .args .m .base) (c .before .before .before .before .args .e) (now (c .before .before .before .before .args .room))) (sym (c .before .before .is-one .ensures) ∙ c .before .if1 .taken)) in let z = c .before .before .before .before .pre in let n = standing.within-length (now (c .before .before .before .before .args .room)) (c .before .before .before .before .args .m .base) (c .before .before .before .before .args .e) (c .before .before .before .before .pre .0) (omega arith) in (z .0, z .1, omega arith, omega arith)
+put-clause-requires c κs = let l = laid.size-plain _ (c .before .before .before .before .args .e - c .before .before .before .before .args .m .base) (sym (c .before .before .is-one .ensures) ∙ c .before .if1 .taken) in (c .before .before .before .before .pre .0, c .before .before .before .before .pre .1, omega (arith, c .before .before .before .before .pre .2), omega (arith, c .before .before .before .before .pre .3))
 
 same-length : tie.Need-same-length
 same-length c = search needs
@@ -26,7 +25,7 @@ rounded-bits-requires : tie.Need-rounded-bits-requires
 rounded-bits-requires c κs = search needs
 
 put-boosted-requires : tie.Need-put-boosted-requires
-put-boosted-requires c κs = let l = ap length (laid.boost-bytes _ (within (c .before .before .before .before .before .args .m .base) (c .before .before .before .before .before .args .e) (now (c .before .before .before .before .before .args .room))) _ (sym (c .before .before .before .is-one .ensures) ∙ c .before .before .if1 .left) (c .rounded-bits .ensures)) in let z = c .before .before .before .before .before .pre in let n = standing.within-length (now (c .before .before .before .before .before .args .room)) (c .before .before .before .before .before .args .m .base) (c .before .before .before .before .before .args .e) (c .before .before .before .before .before .pre .0) (omega arith) in (z .0, z .1, omega arith, omega arith)
+put-boosted-requires c κs = let l = laid.size-boost _ (c .before .before .before .before .before .args .e - c .before .before .before .before .before .args .m .base) (sym (c .before .before .before .is-one .ensures) ∙ c .before .before .if1 .left) in (c .before .before .before .before .before .pre .0, c .before .before .before .before .before .pre .1, omega (arith, c .before .before .before .before .before .pre .2), omega (arith, c .before .before .before .before .before .pre .3))
 
 same-length-2 : tie.Need-same-length-2
 same-length-2 c = search needs

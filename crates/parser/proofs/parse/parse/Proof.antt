@@ -29,7 +29,10 @@ same-length-3 : tie.Need-same-length-3
 same-length-3 c = c .before .before .clear2 .kept .0 ∙ c .before .before .before .before .before .before .before .before .parse-text .kept .1 .1 .1 .1 .1 .1 .0
 
 returns-2 : tie.Need-returns-2
-returns-2 c = parse-whole (c .before .before .before .before .before .before .before .before .before .before .before .before .before .before .before .before .before .args .operator) (c .before .before .before .before .before .before .before .before .before .before .before .before .before .before .before .before .before .args .analyzer) (c .before .before .before .before .before .before .before .before .before .before .before .before .before .before .before .before .before .args .field .now) (c .before .before .before .before .before .before .before .before .before .before .before .before .before .before .before .before .before .args .fields .now) (c .before .before .before .before .before .before .before .before .before .before .before .before .before .before .before .before .before .args .text .now) (c .before .before .before .before .before .before .before .before .before .before .before .before .before .before .before .before .before .args .out .now) (c .before .before .before .before .before .before .before .before .before .before .before .before .before .before .before .before .before .args .room .now) (c .before .before .before .before .before .before .before .before .before .before .before .if1 .left) (c .before .before .before .before .before .before .before .before .parse-text .result) _ _ (c .before .before .before .before .before .before .before .before .parse-text .ensures) (c .before .before .clear2 .ensures ∙ ap (λ (k : ℕ). replicate k 0) (c .before .before .before .before .before .before .before .before .parse-text .kept .1 .1 .1 .1 .1 .1 .0))
+returns-2 c =
+    let args = c .before .before .before .before .before .before .before .before .before .before .before .before .before .before .before .before .before .args in
+    let parse-text = c .before .before .before .before .before .before .before .before .parse-text in
+    parse-whole (args .operator) (args .analyzer) (args .field .now) (args .fields .now) (args .text .now) (args .out .now) (args .room .now) (c .before .before .before .before .before .before .before .before .before .before .before .if1 .left) (parse-text .result) _ _ (parse-text .ensures) (c .before .before .clear2 .ensures ∙ ap (λ (k : ℕ). replicate k 0) (parse-text .kept .1 .1 .1 .1 .1 .1 .0))
 
 pub parse-spec : {M : Type 1} → statement M
 parse-spec =

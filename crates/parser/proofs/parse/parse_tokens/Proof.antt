@@ -27,13 +27,25 @@ is-alone-requires : tie.Need-is-alone-requires
 is-alone-requires c κs = search needs
 
 write-whole-requires : tie.Need-write-whole-requires
-write-whole-requires c κs = let K = rw (c .before .before .before .before .before .before .count .given .1) at (c .before .before .before .before .before .before .before .before .measure-query .ensures .1) in (c .before .before .before .before .before .before .before .before .before .before .before .before .pre .0, record { upto = omega arith; short = c .before .before .before .before .before .before .before .before .before .before .before .before .pre .1 }, omega (arith, c .before .before .query-len .ensures .1, K .3, place-most (c .before .before .before .before .before .before .before .before .before .before .before .before .pre .0) (c .before .before .before .before .before .before .count .given .0 .1 .1 .1 .0)), (c .before .before .before .before .before .before .before .before .before .before .before .before .pre .2 .0, tokens-kept (c .before .before .before .before .before .before .before .before .before .before .before .before .pre .2 .0) (c .before .before .before .before .before .before .before .before .before .before .before .before .args .room .now) (c .before .before .before .before .before .before .before .before .before .before .before .before .args .n) (c .before .before .before .before .before .before .before .before .before .before .before .before .args .field .now) (c .before .before .before .before .before .before .before .before .before .before .before .before .pre .2 .2) (c .before .before .before .before .before .before .before .before .measure-query .ensures .0 (c .before .before .before .before .before .before .before .before .before .before .before .before .pre .2 .0) (c .before .before .before .before .before .before .before .before .before .before .before .before .pre .2 .1)) (c .before .before .before .before .before .before .count .given .1), (c .before .before .before .before .before .before .count .given .0 .1 .1 .1 .0), tokens-write (c .before .before .before .before .before .before .before .before .before .before .before .before .pre .2 .0) (c .before .before .before .before .before .before .before .before .before .before .before .before .args .room .now) (c .before .before .before .before .before .before .before .before .before .before .before .before .args .n) (c .before .before .before .before .before .before .before .before .before .before .before .before .args .field .now) (c .before .before .before .before .before .before .before .before .before .before .before .before .pre .2 .2) (c .before .before .before .before .before .before .before .before .measure-query .ensures .0 (c .before .before .before .before .before .before .before .before .before .before .before .before .pre .2 .0) (c .before .before .before .before .before .before .before .before .before .before .before .before .pre .2 .1)) (c .before .before .before .before .before .before .count .given .1) refl (c .before .before .before .before .before .before .before .before .before .before .before .before .pre .2 .1) (c .before .is-alone .ensures) (c .before .before .query-len .ensures .0)), omega arith)
+write-whole-requires c κs =
+    let pre = c .before .before .before .before .before .before .before .before .before .before .before .before .pre in
+    let args = c .before .before .before .before .before .before .before .before .before .before .before .before .args in
+    let measure-query = c .before .before .before .before .before .before .before .before .measure-query in
+    let count = c .before .before .before .before .before .before .count in
+    let query-len = c .before .before .query-len in
+    let K = rw (count .given .1) at (measure-query .ensures .1) in
+    (pre .0, record { upto = omega arith; short = pre .1 }, omega (arith, query-len .ensures .1, K .3, place-most (pre .0) (count .given .0 .1 .1 .1 .0)), (pre .2 .0, tokens-kept (pre .2 .0) (args .room .now) (args .n) (args .field .now) (pre .2 .2) (measure-query .ensures .0 (pre .2 .0) (pre .2 .1)) (count .given .1), (count .given .0 .1 .1 .1 .0), tokens-write (pre .2 .0) (args .room .now) (args .n) (args .field .now) (pre .2 .2) (measure-query .ensures .0 (pre .2 .0) (pre .2 .1)) (count .given .1) refl (pre .2 .1) (c .before .is-alone .ensures) (query-len .ensures .0)), omega arith)
 
 same-length : tie.Need-same-length
 same-length c = c .before .before .write-whole .kept .1 .1 .1 .1 .1 .0
 
 returns : tie.Need-returns
-returns c = λ st T ef. delivers-as (c .before .before .before .before .before .before .before .before .before .before .before .before .before .before .before .args .out .now) _ (c .before .before .write-whole .result) (tokens-end st (c .before .before .before .before .before .before .before .before .before .before .before .before .before .before .before .args .room .now) (c .before .before .before .before .before .before .before .before .before .before .before .before .before .before .before .args .n) (c .before .before .before .before .before .before .before .before .before .before .before .before .before .before .before .args .field .now) ef (c .before .before .before .before .before .before .before .before .before .before .before .measure-query .ensures .0 st T) (c .before .before .before .before .before .before .before .before .before .count .given .1) (eq-eqb _ 0 (sym (c .before .before .before .before .before .before .before .kind-at .ensures) ∙ c .before .before .before .before .before .before .if1 .taken))) (c .before .before .write-whole .ensures st (tokens-kept st (c .before .before .before .before .before .before .before .before .before .before .before .before .before .before .before .args .room .now) (c .before .before .before .before .before .before .before .before .before .before .before .before .before .before .before .args .n) (c .before .before .before .before .before .before .before .before .before .before .before .before .before .before .before .args .field .now) ef (c .before .before .before .before .before .before .before .before .before .before .before .measure-query .ensures .0 st T) (c .before .before .before .before .before .before .before .before .before .count .given .1)) (c .before .before .before .before .before .before .before .before .before .count .given .0 .1 .1 .1 .0) (tokens-write st (c .before .before .before .before .before .before .before .before .before .before .before .before .before .before .before .args .room .now) (c .before .before .before .before .before .before .before .before .before .before .before .before .before .before .before .args .n) (c .before .before .before .before .before .before .before .before .before .before .before .before .before .before .before .args .field .now) ef (c .before .before .before .before .before .before .before .before .before .before .before .measure-query .ensures .0 st T) (c .before .before .before .before .before .before .before .before .before .count .given .1) refl T (c .before .before .before .before .is-alone .ensures) (c .before .before .before .before .before .query-len .ensures .0)))
+returns c =
+    let args = c .before .before .before .before .before .before .before .before .before .before .before .before .before .before .before .args in
+    let measure-query = c .before .before .before .before .before .before .before .before .before .before .before .measure-query in
+    let count = c .before .before .before .before .before .before .before .before .before .count in
+    let write-whole = c .before .before .write-whole in
+    λ st T ef. delivers-as (args .out .now) _ (write-whole .result) (tokens-end st (args .room .now) (args .n) (args .field .now) ef (measure-query .ensures .0 st T) (count .given .1) (eq-eqb _ 0 (sym (c .before .before .before .before .before .before .before .kind-at .ensures) ∙ c .before .before .before .before .before .before .if1 .taken))) (write-whole .ensures st (tokens-kept st (args .room .now) (args .n) (args .field .now) ef (measure-query .ensures .0 st T) (count .given .1)) (count .given .0 .1 .1 .1 .0) (tokens-write st (args .room .now) (args .n) (args .field .now) ef (measure-query .ensures .0 st T) (count .given .1) refl T (c .before .before .before .before .is-alone .ensures) (c .before .before .before .before .before .query-len .ensures .0)))
 
 returns-2 : tie.Need-returns-2
 returns-2 c = λ st T ef. tokens-fault st (c .before .before .before .before .before .before .before .args .room .now) (c .before .before .before .before .before .before .before .args .n) (c .before .before .before .before .before .before .before .args .field .now) ef (c .before .before .before .measure-query .ensures .0 st T) _ (c .before .e .given .1) (c .before .before .before .before .before .before .before .args .out .now)

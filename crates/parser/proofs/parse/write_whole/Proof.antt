@@ -32,7 +32,11 @@ part-write-query-end : tie.Need-part-write-query-end
 part-write-query-end c = omega (arith, c .if3 .left)
 
 write-query-requires : tie.Need-write-query-requires
-write-query-requires c κs = let r = first-length (c .before .before .before .before .before .before .args .out .now) (c .before .before .before .before .before .before .args .len) (c .before .if3 .left) in (c .before .before .before .before .before .before .pre .0, c .before .before .before .before .before .before .pre .1, omega arith, c .before .before .before .before .before .before .pre .4, omega (arith, r, c .before .before .if1 .left), omega (arith, r, c .before .before .before .before .before .before .pre .2), (c .before .before .before .before .before .before .pre .3 .0, c .before .before .before .before .before .before .pre .3 .1, c .before .before .before .before .before .before .pre .3 .2, record { tuned = c .before .before .before .before .before .before .pre .3 .3 .tuned; is = c .before .before .before .before .before .before .pre .3 .3 .is; alone-is = c .before .before .before .before .before .before .pre .3 .3 .alone-is; fills = r ∙ c .before .before .before .before .before .before .pre .3 .3 .fills }))
+write-query-requires c κs =
+    let pre = c .before .before .before .before .before .before .pre in
+    let args = c .before .before .before .before .before .before .args in
+    let r = first-length (args .out .now) (args .len) (c .before .if3 .left) in
+    (pre .0, pre .1, omega arith, pre .4, omega (arith, r, c .before .before .if1 .left), omega (arith, r, pre .2), (pre .3 .0, pre .3 .1, pre .3 .2, record { tuned = pre .3 .3 .tuned; is = pre .3 .3 .is; alone-is = pre .3 .3 .alone-is; fills = r ∙ pre .3 .3 .fills }))
 
 same-length-2 : tie.Need-same-length-2
 same-length-2 c = let r = first-length (c .before .before .before .before .before .before .before .before .before .args .out .now) (c .before .before .before .before .before .before .before .before .before .args .len) (c .before .before .before .before .if3 .left) in mid-length (c .before .before .before .before .before .before .before .before .before .args .out .now) (c .before .before .write-query .last .1 .1 .1 .1 .1 .0) 0 (c .before .before .before .before .before .before .before .before .before .args .len) (omega arith) (c .before .before .before .before .if3 .left) (c .before .before .write-query .kept .1 .1 .1 .1 .1 .0 ∙ r ∙ omega arith)

@@ -60,7 +60,11 @@ loop-less-3 : tie.Need-loop-less-3 Inv-loop μ-loop
 loop-less-3 c = omega (arith, c .before .before .before .before .before .before .before .before .before .before .before .before .before .loop-test .taken)
 
 loop-again-3 : tie.Need-loop-again-3 Inv-loop μ-loop
-loop-again-3 c = noting-notes (c .before .before .before .before .before .before .before .before .before .before .before .before .before .before .loop .inv) (c .before .before .before .before .before .before .before .before .before .before .before .before .before .loop-test .taken) _ (c .before .before .put-note .ensures) (λ z. omega (arith, analyzer-small (c .before .before .before .before .analyzer-of .result) (ap isAnalyzer (c .before .before .before .before .analyzer-of .ensures) ∙ c .before .before .before .before .before .before .before .before .before .before .before .before .before .before .before .before .pre .1 (c .before .before .before .before .before .text-at .result .now)))) (c .before .before .before .before .analyzer-of .ensures ∙ ap (analyzerAmong (c .before .before .before .before .before .before .before .before .before .before .before .before .before .before .before .before .args .default) (arrayEntries (c .before .before .before .before .before .before .before .before .before .before .before .before .before .before .before .before .args .names .now) (c .before .before .before .before .before .before .before .before .before .before .before .before .before .before .before .before .args .lengths .now) (c .before .before .before .before .before .before .before .before .before .before .before .before .before .before .before .before .args .analyzers .now) (c .before .before .before .before .before .before .before .before .before .before .before .before .before .before .before .before .args .count))) (c .before .before .before .before .before .text-at .ensures))
+loop-again-3 c =
+    let args = c .before .before .before .before .before .before .before .before .before .before .before .before .before .before .before .before .args in
+    let text-at = c .before .before .before .before .before .text-at in
+    let analyzer-of = c .before .before .before .before .analyzer-of in
+    noting-notes (c .before .before .before .before .before .before .before .before .before .before .before .before .before .before .loop .inv) (c .before .before .before .before .before .before .before .before .before .before .before .before .before .loop-test .taken) _ (c .before .before .put-note .ensures) (λ z. omega (arith, analyzer-small (analyzer-of .result) (ap isAnalyzer (analyzer-of .ensures) ∙ c .before .before .before .before .before .before .before .before .before .before .before .before .before .before .before .before .pre .1 (text-at .result .now)))) (analyzer-of .ensures ∙ ap (analyzerAmong (args .default) (arrayEntries (args .names .now) (args .lengths .now) (args .analyzers .now) (args .count))) (text-at .ensures))
 
 same-length : tie.Need-same-length Inv-loop μ-loop
 same-length c = c .before .loop .inv .long

@@ -71,13 +71,25 @@ is-head-requires : tie.Need-is-head-requires Inv-loop μ-loop
 is-head-requires c κs = search needs
 
 returns-4 : tie.Need-returns-4 Inv-loop μ-loop
-returns-4 c = entering-broken (c .before .before .before .before .before .before .before .before .before .loop .inv) (c .before .before .before .before .before .before .before .before .loop-test .taken) (c .before .before .before .before .before .before .before .if1 .left) (getD (c .before .before .before .before .before .before .before .before .before .before .before .args .fields .now) (c .before .before .before .before .before .before .before .before .before .loop .at) 0) (getD (c .before .before .before .before .before .before .before .before .before .before .before .args .fields .now) (c .before .before .before .before .before .before .before .before .before .loop .at + 1) 0) refl refl (c .before .before .before .before .if2 .left) (head-broken (getD (c .before .before .before .before .before .before .before .before .before .before .before .args .fields .now) (c .before .before .before .before .before .before .before .before .before .loop .at) 0) (getD (c .before .before .before .before .before .before .before .before .before .before .before .args .fields .now) (c .before .before .before .before .before .before .before .before .before .loop .at + 1) 0) (take (c .before .before .before .before .before .before .before .before .before .loop .at + 2 + (getD (c .before .before .before .before .before .before .before .before .before .before .before .args .fields .now) (c .before .before .before .before .before .before .before .before .before .loop .at + 1) 0) - (c .before .before .before .before .before .before .before .before .before .loop .at + 2)) (drop (c .before .before .before .before .before .before .before .before .before .loop .at + 2) (c .before .before .before .before .before .before .before .before .before .before .before .args .fields .now))) (slice-length (c .before .before .before .before .before .before .before .before .before .before .before .args .fields .now) (c .before .before .before .before .before .before .before .before .before .loop .at + 2) (getD (c .before .before .before .before .before .before .before .before .before .before .before .args .fields .now) (c .before .before .before .before .before .before .before .before .before .loop .at + 1) 0) (c .before .before .before .before .if2 .left)) (told-no (c .before .is-head .ensures) (c .if4 .taken)))
+returns-4 c =
+    let args = c .before .before .before .before .before .before .before .before .before .before .before .args in
+    let loop = c .before .before .before .before .before .before .before .before .before .loop in
+    let if2 = c .before .before .before .before .if2 in
+    entering-broken (loop .inv) (c .before .before .before .before .before .before .before .before .loop-test .taken) (c .before .before .before .before .before .before .before .if1 .left) (getD (args .fields .now) (loop .at) 0) (getD (args .fields .now) (loop .at + 1) 0) refl refl (if2 .left) (head-broken (getD (args .fields .now) (loop .at) 0) (getD (args .fields .now) (loop .at + 1) 0) (take (loop .at + 2 + (getD (args .fields .now) (loop .at + 1) 0) - (loop .at + 2)) (drop (loop .at + 2) (args .fields .now))) (slice-length (args .fields .now) (loop .at + 2) (getD (args .fields .now) (loop .at + 1) 0) (if2 .left)) (told-no (c .before .is-head .ensures) (c .if4 .taken)))
 
 put-row-requires : tie.Need-put-row-requires Inv-loop μ-loop
-put-row-requires c κs = (omega (arith, c .before .before .before .before .before .before .before .before .before .before .loop .inv .few, c .before .before .before .before .if3 .left, c .before .before .before .before .before .before .before .before .before .before .loop .inv .eight .0), c .before .before .before .before .before .before .before .before .before .before .loop .inv .eight .0, c .before .before .before .before .before .before .before .before .before .before .loop .inv .rows (c .before .before .before .before .before .before .before .before .before .before .loop .count) (omega (arith, c .before .before .before .before .before .before .before .before .before .before .loop .inv .few, c .before .before .before .before .if3 .left)), omega (arith, (slice-length (c .before .before .before .before .before .before .before .before .before .before .before .before .args .fields .now) (c .before .before .before .before .before .before .before .before .before .before .loop .at + 2) (getD (c .before .before .before .before .before .before .before .before .before .before .before .before .args .fields .now) (c .before .before .before .before .before .before .before .before .before .before .loop .at + 1) 0) (c .before .before .before .before .before .if2 .left)), head-short (getD (c .before .before .before .before .before .before .before .before .before .before .before .before .args .fields .now) (c .before .before .before .before .before .before .before .before .before .before .loop .at) 0) (getD (c .before .before .before .before .before .before .before .before .before .before .before .before .args .fields .now) (c .before .before .before .before .before .before .before .before .before .before .loop .at + 1) 0) (told-yes (c .before .before .is-head .ensures) (c .before .if4 .left))))
+put-row-requires c κs =
+    let args = c .before .before .before .before .before .before .before .before .before .before .before .before .args in
+    let loop = c .before .before .before .before .before .before .before .before .before .before .loop in
+    let if3 = c .before .before .before .before .if3 in
+    (omega (arith, loop .inv .few, if3 .left, loop .inv .eight .0), loop .inv .eight .0, loop .inv .rows (loop .count) (omega (arith, loop .inv .few, if3 .left)), omega (arith, (slice-length (args .fields .now) (loop .at + 2) (getD (args .fields .now) (loop .at + 1) 0) (c .before .before .before .before .before .if2 .left)), head-short (getD (args .fields .now) (loop .at) 0) (getD (args .fields .now) (loop .at + 1) 0) (told-yes (c .before .before .is-head .ensures) (c .before .if4 .left))))
 
 returns-5 : tie.Need-returns-5 Inv-loop μ-loop
-returns-5 c = nine-any (entering-broken (c .before .before .before .before .before .before .before .before .before .before .before .before .loop .inv) (c .before .before .before .before .before .before .before .before .before .before .before .loop-test .taken) (c .before .before .before .before .before .before .before .before .before .before .if1 .left) (getD (c .before .before .before .before .before .before .before .before .before .before .before .before .before .before .args .fields .now) (c .before .before .before .before .before .before .before .before .before .before .before .before .loop .at) 0) (getD (c .before .before .before .before .before .before .before .before .before .before .before .before .before .before .args .fields .now) (c .before .before .before .before .before .before .before .before .before .before .before .before .loop .at + 1) 0) refl refl (c .before .before .before .before .before .before .before .if2 .left) (name-broken (getD (c .before .before .before .before .before .before .before .before .before .before .before .before .before .before .args .fields .now) (c .before .before .before .before .before .before .before .before .before .before .before .before .loop .at) 0) (getD (c .before .before .before .before .before .before .before .before .before .before .before .before .before .before .args .fields .now) (c .before .before .before .before .before .before .before .before .before .before .before .before .loop .at + 1) 0) (take (c .before .before .before .before .before .before .before .before .before .before .before .before .loop .at + 2 + (getD (c .before .before .before .before .before .before .before .before .before .before .before .before .before .before .args .fields .now) (c .before .before .before .before .before .before .before .before .before .before .before .before .loop .at + 1) 0) - (c .before .before .before .before .before .before .before .before .before .before .before .before .loop .at + 2)) (drop (c .before .before .before .before .before .before .before .before .before .before .before .before .loop .at + 2) (c .before .before .before .before .before .before .before .before .before .before .before .before .before .before .args .fields .now))) (slice-length (c .before .before .before .before .before .before .before .before .before .before .before .before .before .before .args .fields .now) (c .before .before .before .before .before .before .before .before .before .before .before .before .loop .at + 2) (getD (c .before .before .before .before .before .before .before .before .before .before .before .before .before .before .args .fields .now) (c .before .before .before .before .before .before .before .before .before .before .before .before .loop .at + 1) 0) (c .before .before .before .before .before .before .before .if2 .left)) (told-no (c .before .put-row .ensures .told) (c .if5 .taken))))
+returns-5 c =
+    let args = c .before .before .before .before .before .before .before .before .before .before .before .before .before .before .args in
+    let loop = c .before .before .before .before .before .before .before .before .before .before .before .before .loop in
+    let if2 = c .before .before .before .before .before .before .before .if2 in
+    nine-any (entering-broken (loop .inv) (c .before .before .before .before .before .before .before .before .before .before .before .loop-test .taken) (c .before .before .before .before .before .before .before .before .before .before .if1 .left) (getD (args .fields .now) (loop .at) 0) (getD (args .fields .now) (loop .at + 1) 0) refl refl (if2 .left) (name-broken (getD (args .fields .now) (loop .at) 0) (getD (args .fields .now) (loop .at + 1) 0) (take (loop .at + 2 + (getD (args .fields .now) (loop .at + 1) 0) - (loop .at + 2)) (drop (loop .at + 2) (args .fields .now))) (slice-length (args .fields .now) (loop .at + 2) (getD (args .fields .now) (loop .at + 1) 0) (if2 .left)) (told-no (c .before .put-row .ensures .told) (c .if5 .taken))))
 
 element-write-lengths : tie.Need-element-write-lengths Inv-loop μ-loop
 element-write-lengths c = omega (arith, c .before .before .before .before .before .before .before .before .before .before .before .before .loop .inv .few, c .before .before .before .before .before .before .if3 .left)
@@ -92,7 +104,26 @@ loop-less : tie.Need-loop-less Inv-loop μ-loop
 loop-less c = omega (arith, c .before .before .before .before .before .before .before .if2 .left, c .before .before .before .before .before .before .before .before .before .before .if1 .left, c .before .before .before .before .before .before .before .before .before .before .before .loop-test .taken)
 
 loop-again : tie.Need-loop-again Inv-loop μ-loop
-loop-again c = let P = c .before .put-row .ensures in let H = told-yes (c .before .before .before .before .is-head .ensures) (c .before .before .before .if4 .left) in subst (λ (ns : List (List ℕ)). Entering (c .before .before .before .before .before .before .before .before .before .before .before .before .before .before .args .fields .now) ns (set (c .before .before .before .before .before .before .before .before .before .before .before .before .loop .lengths) (c .before .before .before .before .before .before .before .before .before .before .before .before .loop .count) (getD (c .before .before .before .before .before .before .before .before .before .before .before .before .before .before .args .fields .now) (c .before .before .before .before .before .before .before .before .before .before .before .before .loop .at + 1) 0)) (set (c .before .before .before .before .before .before .before .before .before .before .before .before .loop .analyzers) (c .before .before .before .before .before .before .before .before .before .before .before .before .loop .count) (getD (c .before .before .before .before .before .before .before .before .before .before .before .before .before .before .args .fields .now) (c .before .before .before .before .before .before .before .before .before .before .before .before .loop .at) 0)) (c .before .before .before .before .before .before .before .before .before .before .before .before .loop .at + 2 + (getD (c .before .before .before .before .before .before .before .before .before .before .before .before .before .before .args .fields .now) (c .before .before .before .before .before .before .before .before .before .before .before .before .loop .at + 1) 0)) (c .before .before .before .before .before .before .before .before .before .before .before .before .loop .count + 1)) (sym (P .at)) (entering-on (c .before .before .before .before .before .before .before .before .before .before .before .before .loop .inv) (c .before .before .before .before .before .before .before .before .before .before .before .loop-test .taken) (c .before .before .before .before .before .before .before .before .before .before .if1 .left) (getD (c .before .before .before .before .before .before .before .before .before .before .before .before .before .before .args .fields .now) (c .before .before .before .before .before .before .before .before .before .before .before .before .loop .at) 0) (getD (c .before .before .before .before .before .before .before .before .before .before .before .before .before .before .args .fields .now) (c .before .before .before .before .before .before .before .before .before .before .before .before .loop .at + 1) 0) refl refl (c .before .before .before .before .before .before .before .if2 .left) (c .before .before .before .before .before .before .if3 .left) (entry-good (getD (c .before .before .before .before .before .before .before .before .before .before .before .before .before .before .args .fields .now) (c .before .before .before .before .before .before .before .before .before .before .before .before .loop .at) 0) (getD (c .before .before .before .before .before .before .before .before .before .before .before .before .before .before .args .fields .now) (c .before .before .before .before .before .before .before .before .before .before .before .before .loop .at + 1) 0) (take (c .before .before .before .before .before .before .before .before .before .before .before .before .loop .at + 2 + (getD (c .before .before .before .before .before .before .before .before .before .before .before .before .before .before .args .fields .now) (c .before .before .before .before .before .before .before .before .before .before .before .before .loop .at + 1) 0) - (c .before .before .before .before .before .before .before .before .before .before .before .before .loop .at + 2)) (drop (c .before .before .before .before .before .before .before .before .before .before .before .before .loop .at + 2) (c .before .before .before .before .before .before .before .before .before .before .before .before .before .before .args .fields .now))) (slice-length (c .before .before .before .before .before .before .before .before .before .before .before .before .before .before .args .fields .now) (c .before .before .before .before .before .before .before .before .before .before .before .before .loop .at + 2) (getD (c .before .before .before .before .before .before .before .before .before .before .before .before .before .before .args .fields .now) (c .before .before .before .before .before .before .before .before .before .before .before .before .loop .at + 1) 0) (c .before .before .before .before .before .before .before .if2 .left)) H (told-yes (P .told) (c .if5 .left))) (head-short (getD (c .before .before .before .before .before .before .before .before .before .before .before .before .before .before .args .fields .now) (c .before .before .before .before .before .before .before .before .before .before .before .before .loop .at) 0) (getD (c .before .before .before .before .before .before .before .before .before .before .before .before .before .before .args .fields .now) (c .before .before .before .before .before .before .before .before .before .before .before .before .loop .at + 1) 0) H) (P .row) (P .full) (P .held (not-false _ (c .if5 .left))))
+loop-again c =
+    let args = c .before .before .before .before .before .before .before .before .before .before .before .before .before .before .args in
+    let loop = c .before .before .before .before .before .before .before .before .before .before .before .before .loop in
+    let if2 = c .before .before .before .before .before .before .before .if2 in
+    let if5 = c .if5 in
+    let P = c .before .put-row .ensures in
+    let H = told-yes (c .before .before .before .before .is-head .ensures) (c .before .before .before .if4 .left) in
+    subst
+    (λ (ns : List (List ℕ)).
+    Entering
+    (args .fields .now) ns (set (loop .lengths) (loop .count) (getD (args .fields .now) (loop .at + 1) 0)) (set (loop .analyzers) (loop .count) (getD (args .fields .now) (loop .at) 0)) (loop .at + 2 + (getD (args .fields .now) (loop .at + 1) 0))
+    (loop .count + 1))
+    (sym (P .at))
+    (entering-on
+    (loop .inv) (c .before .before .before .before .before .before .before .before .before .before .before .loop-test .taken) (c .before .before .before .before .before .before .before .before .before .before .if1 .left)
+    (getD (args .fields .now) (loop .at) 0) (getD (args .fields .now) (loop .at + 1) 0) refl refl (if2 .left) (c .before .before .before .before .before .before .if3 .left)
+    (entry-good
+    (getD (args .fields .now) (loop .at) 0) (getD (args .fields .now) (loop .at + 1) 0) (take (loop .at + 2 + (getD (args .fields .now) (loop .at + 1) 0) - (loop .at + 2)) (drop (loop .at + 2) (args .fields .now)))
+    (slice-length (args .fields .now) (loop .at + 2) (getD (args .fields .now) (loop .at + 1) 0) (if2 .left)) H (told-yes (P .told) (if5 .left)))
+    (head-short (getD (args .fields .now) (loop .at) 0) (getD (args .fields .now) (loop .at + 1) 0) H) (P .row) (P .full) (P .held (not-false _ (if5 .left))))
 
 returns-6 : tie.Need-returns-6 Inv-loop μ-loop
 returns-6 c = entering-ends (c .before .loop .inv) (c .loop-test .left)

@@ -1,7 +1,7 @@
 -- `round::clauses::is_single` meets its contract.
 use native.Mathlib.Omega.{arith}
-use Rattle.round.proofs.Tallies as tallies
 use Rattle.merging.proofs.Forms as forms
+use Rattle.round.proofs.Tallies as tallies
 use Rattle.round.proofs.clauses.is_single.Statement.{statement}
 use Rattle.round.proofs.clauses.is_single.Tie as tie
 

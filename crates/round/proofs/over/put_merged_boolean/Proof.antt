@@ -1,53 +1,57 @@
 -- `round::over::put_merged_boolean` meets its contract.
-use mathlib.Core.Logic.{inl}
 use native.Mathlib.Omega.{arith}
+use denote.Ref.{now}
 use borrow.Author.Needs.{needs}
+use Rattle.round.proofs.Nested as nested
 use Rattle.round.proofs.Booleans as booleans
 use Rattle.round.proofs.over.put_merged_boolean.Statement.{statement}
 use Rattle.round.proofs.over.put_merged_boolean.Tie as tie
 
-add-merge-clauses : tie.Need-add-merge-clauses
-add-merge-clauses c = omega (arith, c .before .before .pre .low, booleans.live-inside (c .before .before .pre), c .before .before .good .0)
+sub-merge-clauses : tie.Need-sub-merge-clauses
+sub-merge-clauses c = search needs
+
+part-merge-clauses-start : tie.Need-part-merge-clauses-start
+part-merge-clauses-start c = search needs
+
+part-merge-clauses-end : tie.Need-part-merge-clauses-end
+part-merge-clauses-end c = search needs
+
+sub-merge-clauses-2 : tie.Need-sub-merge-clauses-2
+sub-merge-clauses-2 c = search needs
 
 merge-clauses-requires : tie.Need-merge-clauses-requires
 merge-clauses-requires c κs = booleans.mergeable (c .before .before .pre)
 
-add-shift : tie.Need-add-shift
-add-shift c = omega (arith, c .before .before .before .before .before .before .pre .low, booleans.live-inside (c .before .before .before .before .before .before .pre), c .before .before .before .before .before .before .good .0)
-
-shift-requires : tie.Need-shift-requires
-shift-requires c κs = let s = c .before .before .before .merge-clauses .ensures (c .before .before .before .before .before .before .pre .clauses) (c .before .before .before .before .before .before .pre .are) .size in let f = booleans.merged-fits (c .before .before .before .before .before .before .pre) in let l = c .before .before .before .before .before .before .pre .low in let k = c .before .before .before .merge-clauses .kept .0 in (omega arith, omega arith, inl (omega arith))
-
-add-put-minimum : tie.Need-add-put-minimum
-add-put-minimum c = omega (arith, c .before .before .before .before .before .before .before .before .before .before .pre .low, booleans.live-inside (c .before .before .before .before .before .before .before .before .before .before .pre), c .before .before .before .before .before .before .before .before .before .before .good .0)
-
 put-minimum-requires : tie.Need-put-minimum-requires
-put-minimum-requires c κs = omega (arith, c .before .before .before .before .before .before .before .before .before .before .pre .low, booleans.live-inside (c .before .before .before .before .before .before .before .before .before .before .pre), c .before .before .before .before .before .before .before .before .before .before .pre .least, c .before .before .before .before .before .before .before .merge-clauses .kept .0, c .before .before .before .shift .kept .0)
+put-minimum-requires c κs = search needs
 
 add-put-header : tie.Need-add-put-header
-add-put-header c = omega (arith, c .before .before .before .before .before .before .before .before .before .before .before .merge-clauses .ensures (c .before .before .before .before .before .before .before .before .before .before .before .before .before .before .pre .clauses) (c .before .before .before .before .before .before .before .before .before .before .before .before .before .before .pre .are) .size, booleans.merged-small (c .before .before .before .before .before .before .before .before .before .before .before .before .before .before .pre))
+add-put-header c = omega (arith, c .before .before .before .before .before .before .before .merge-clauses .ensures (c .before .before .before .before .before .before .before .before .before .before .pre .clauses) (booleans.lent-are (c .before .before .before .before .before .before .before .before .before .before .pre) _ (c .before .before .before .before .before .before .before .before .before .before .pre .are)) .size, booleans.merged-small (c .before .before .before .before .before .before .before .before .before .before .pre))
 
 put-header-requires : tie.Need-put-header-requires
-put-header-requires c κs = omega (arith, c .before .before .before .before .before .before .before .before .before .before .before .merge-clauses .ensures (c .before .before .before .before .before .before .before .before .before .before .before .before .before .before .pre .clauses) (c .before .before .before .before .before .before .before .before .before .before .before .before .before .before .pre .are) .size, booleans.merged-small (c .before .before .before .before .before .before .before .before .before .before .before .before .before .before .pre), c .before .before .before .before .before .before .before .before .before .before .before .before .before .before .pre .low, booleans.live-inside (c .before .before .before .before .before .before .before .before .before .before .before .before .before .before .pre), c .before .before .before .before .before .before .before .before .before .before .before .merge-clauses .kept .0, c .before .before .before .before .before .before .before .shift .kept .0, c .before .before .before .put-minimum .kept .0)
+put-header-requires c κs = omega (arith, c .before .before .before .before .before .before .before .merge-clauses .ensures (c .before .before .before .before .before .before .before .before .before .before .pre .clauses) (booleans.lent-are (c .before .before .before .before .before .before .before .before .before .before .pre) _ (c .before .before .before .before .before .before .before .before .before .before .pre .are)) .size, booleans.merged-small (c .before .before .before .before .before .before .before .before .before .before .pre))
 
 add-result : tie.Need-add-result
-add-result c = omega (arith, c .before .before .before .before .before .before .before .before .before .before .before .before .before .before .merge-clauses .ensures (c .before .before .before .before .before .before .before .before .before .before .before .before .before .before .before .before .before .pre .clauses) (c .before .before .before .before .before .before .before .before .before .before .before .before .before .before .before .before .before .pre .are) .size, booleans.merged-small (c .before .before .before .before .before .before .before .before .before .before .before .before .before .before .before .before .before .pre))
+add-result c = omega (arith, c .before .before .before .before .before .before .before .before .before .before .merge-clauses .ensures (c .before .before .before .before .before .before .before .before .before .before .before .before .before .pre .clauses) (booleans.lent-are (c .before .before .before .before .before .before .before .before .before .before .before .before .before .pre) _ (c .before .before .before .before .before .before .before .before .before .before .before .before .before .pre .are)) .size, booleans.merged-small (c .before .before .before .before .before .before .before .before .before .before .before .before .before .pre))
 
 same-length : tie.Need-same-length
 same-length c = search needs
 
 returns : tie.Need-returns
-returns c = λ cs a. booleans.boolean-laid _ _ (c .before .before .before .before .before .before .before .before .before .before .before .before .before .before .merge-clauses .ensures cs a) (c .before .before .before .before .before .before .before .before .before .before .shift .ensures) (c .before .before .before .before .before .before .put-minimum .ensures) (c .before .before .put-header .ensures) (c .before .before .before .before .before .before .before .before .before .before .before .before .before .before .before .before .before .pre .low) (omega (arith, c .before .before .before .before .before .before .before .before .before .before .before .before .before .before .merge-clauses .ensures (c .before .before .before .before .before .before .before .before .before .before .before .before .before .before .before .before .before .pre .clauses) (c .before .before .before .before .before .before .before .before .before .before .before .before .before .before .before .before .before .pre .are) .size, booleans.merged-fits (c .before .before .before .before .before .before .before .before .before .before .before .before .before .before .before .before .before .pre)))
+returns c =
+    λ cs a. booleans.boolean-laid _ _ (nested.returned-stands (now (c .before .before .before .before .before .before .before .before .before .before .before .before .before .args .room)) _ 8 (omega (arith, c .before .before .before .before .before .before .before .before .before .before .before .before .before .pre .low, c .before .before .before .before .before .before .before .before .before .before .before .before .before .pre .high))
+    (c .before .before .before .before .before .before .before .before .before .before .merge-clauses .ensures cs (booleans.lent-are (c .before .before .before .before .before .before .before .before .before .before .before .before .before .pre) cs a))) (c .before .before .before .before .before .before .put-minimum .ensures)
+    (c .before .before .put-header .ensures) (omega (arith, c .before .before .before .before .before .before .before .before .before .before .merge-clauses .ensures (c .before .before .before .before .before .before .before .before .before .before .before .before .before .pre .clauses) (booleans.lent-are (c .before .before .before .before .before .before .before .before .before .before .before .before .before .pre) _ (c .before .before .before .before .before .before .before .before .before .before .before .before .before .pre .are)) .size, booleans.merged-small (c .before .before .before .before .before .before .before .before .before .before .before .before .before .pre)))
 
 pub put-merged-boolean-spec : {M : Type 1} → statement M
 put-merged-boolean-spec =
     tie.close
     (tie.spec
-    add-merge-clauses
+    sub-merge-clauses
+    part-merge-clauses-start
+    part-merge-clauses-end
+    sub-merge-clauses-2
     merge-clauses-requires
-    add-shift
-    shift-requires
-    add-put-minimum
     put-minimum-requires
     add-put-header
     put-header-requires

@@ -1,5 +1,4 @@
 -- `round::over::term_over` meets its contract.
-use mathlib.Core.Logic.{inr}
 use Prim.Native.Nat.{_-_}
 use native.Mathlib.Omega.{arith}
 use borrow.Author.Needs.{needs}
@@ -26,19 +25,22 @@ put-header-requires : tie.Need-put-header-requires
 put-header-requires c κs = search needs
 
 shift-requires : tie.Need-shift-requires
-shift-requires c κs = let p = c .before .before .before .put-header .ensures .place in let k = c .before .before .before .put-header .kept .0 in let z = c .before .before .before .before .before .before .pre in (omega arith, omega arith, inr (omega arith))
+shift-requires c κs = search needs
 
 put-header-requires-2 : tie.Need-put-header-requires-2
 put-header-requires-2 c κs = let p = c .before .before .before .before .before .before .before .put-header .ensures .place in let k = c .before .before .before .before .before .before .before .put-header .kept .0 in let z = c .before .before .before .before .before .before .before .before .before .before .pre in omega (arith, c .before .before .before .shift .kept .0, finishing.shifted (c .before .before .before .before .before .before .before .before .before .before .args .field) (c .before .before .before .before .before .before .before .before .before .before .args .word - c .before .before .before .before .before .before .before .before .before .before .args .field) (c .before .before .before .shift .ensures) (omega arith))
 
 shift-requires-2 : tie.Need-shift-requires-2
-shift-requires-2 c κs = let p = c .before .before .before .before .before .before .before .before .before .before .before .put-header .ensures .place in let k = c .before .before .before .before .before .before .before .before .before .before .before .put-header .kept .0 in let z = c .before .before .before .before .before .before .before .before .before .before .before .before .before .before .pre in let s = c .before .before .before .before .before .before .before .shift .kept .0 in let q = finishing.shifted (c .before .before .before .before .before .before .before .before .before .before .before .before .before .before .args .field) (c .before .before .before .before .before .before .before .before .before .before .before .before .before .before .args .word - c .before .before .before .before .before .before .before .before .before .before .before .before .before .before .args .field) (c .before .before .before .before .before .before .before .shift .ensures) (omega arith) in let r = c .before .before .before .put-header2 .ensures .place in let t = c .before .before .before .put-header2 .kept .0 in (omega arith, omega arith, inr (omega arith))
+shift-requires-2 c κs =
+    let p = c .before .before .before .before .before .before .before .before .before .before .before .put-header .ensures .place in let k = c .before .before .before .before .before .before .before .before .before .before .before .put-header .kept .0 in let z = c .before .before .before .before .before .before .before .before .before .before .before .before .before .before .pre in let s = c .before .before .before .before .before .before .before .shift .kept .0 in let q = finishing.shifted
+    (c .before .before .before .before .before .before .before .before .before .before .before .before .before .before .args .field) (c .before .before .before .before .before .before .before .before .before .before .before .before .before .before .args .word - c .before .before .before .before .before .before .before .before .before .before .before .before .before .before .args .field)
+    (c .before .before .before .before .before .before .before .shift .ensures) (omega arith) in let r = c .before .before .before .put-header2 .ensures .place in let u = c .before .before .before .put-header2 .kept .0 in (omega arith, omega arith)
 
 same-length : tie.Need-same-length
 same-length c = search needs
 
 returns : tie.Need-returns
-returns c = finishing.term-put _ _ _ _ (c .before .before .before .before .before .before .before .before .before .before .before .before .before .before .before .before .before .pre .0) (omega arith) (c .before .before .before .before .before .before .before .before .before .before .before .before .before .before .before .before .before .pre .1) (c .before .before .before .before .before .before .before .before .before .before .before .before .before .before .before .before .before .pre .2) (c .before .before .before .before .before .before .before .before .before .before .before .before .before .before .before .before .before .pre .3) (c .before .before .before .before .before .before .before .before .before .before .before .before .before .before .put-header .ensures) (c .before .before .before .before .before .before .before .before .before .before .shift .ensures) (c .before .before .before .before .before .before .put-header2 .ensures) (c .before .before .shift2 .ensures)
+returns c = finishing.term-put _ _ _ _ (c .before .before .before .before .before .before .before .before .before .before .before .before .before .before .before .before .before .pre .0) (c .before .before .before .before .before .before .before .before .before .before .before .before .before .before .before .before .before .pre .1) (omega arith) (c .before .before .before .before .before .before .before .before .before .before .before .before .before .before .before .before .before .pre .2) (omega arith) (c .before .before .before .before .before .before .before .before .before .before .before .before .before .before .put-header .ensures) (c .before .before .before .before .before .before .before .before .before .before .shift .ensures) (c .before .before .before .before .before .before .put-header2 .ensures) (c .before .before .shift2 .ensures)
 
 pub term-over-spec : {M : Type 1} → statement M
 term-over-spec =

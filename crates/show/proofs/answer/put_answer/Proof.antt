@@ -52,7 +52,23 @@ same-length-2 c = search needs
 
 returns-2 : tie.Need-returns-2
 unfolding answerText ascii showRewritten kindText
-returns-2 c = laying.lays-as (rw (eq-eqb (c .before .before .before .before .before .before .before .before .before .before .before .before .before .before .before .before .before .before .before .before .before .before .before .before .before .before .before .before .before .before .before .args .refusal) 0 (c .before .before .before .before .before .before .before .before .before .before .before .before .before .before .before .before .before .before .before .before .before .before .before .before .before .before .before .if1 .left))) (laying.lays-then (laying.lays-then (laying.lays-then (laying.lays-then (laying.lays-then (c .before .before .before .before .before .before .before .before .before .before .before .before .before .before .before .before .before .before .before .before .before .before .before .before .put .ensures) (c .before .before .before .before .before .before .before .before .before .before .before .before .before .before .before .before .before .before .before .before .show-query .ensures)) (c .before .before .before .before .before .before .before .before .before .before .before .before .before .before .before .put2 .ensures)) (c .before .before .before .before .before .before .before .before .before .before .before .put-decimal .ensures)) (c .before .before .before .before .before .before .put3 .ensures)) (c .before .before .show-query2 .ensures))
+returns-2 c =
+    laying.lays-as
+    (rw
+    (eq-eqb
+    (c .before .before .before .before .before .before .before .before .before .before .before .before .before .before .before .before .before .before .before .before .before .before .before .before .before .before .before .before .before .before .before .args .refusal)
+    0 (c .before .before .before .before .before .before .before .before .before .before .before .before .before .before .before .before .before .before .before .before .before .before .before .before .before .before .before .if1 .left)))
+    (laying.lays-then
+    (laying.lays-then
+    (laying.lays-then
+    (laying.lays-then
+    (laying.lays-then
+    (c .before .before .before .before .before .before .before .before .before .before .before .before .before .before .before .before .before .before .before .before .before .before .before .before .put .ensures)
+    (c .before .before .before .before .before .before .before .before .before .before .before .before .before .before .before .before .before .before .before .before .show-query .ensures))
+    (c .before .before .before .before .before .before .before .before .before .before .before .before .before .before .before .put2 .ensures))
+    (c .before .before .before .before .before .before .before .before .before .before .before .put-decimal .ensures))
+    (c .before .before .before .before .before .before .put3 .ensures))
+    (c .before .before .show-query2 .ensures))
 
 pub put-answer-spec : {M : Type 1} → statement M
 put-answer-spec =

@@ -32,7 +32,11 @@ same-length-2 : tie.Need-same-length-2
 same-length-2 c = search needs
 
 returns-2 : tie.Need-returns-2
-returns-2 c = let far = answering.answer-length (c .before .before .before .before .before .before .before .before .before .before .before .before .pre) (omega arith) in answering.fits (answerText (c .before .before .before .before .before .before .before .before .before .before .before .before .args .refusal) (now (c .before .before .before .before .before .before .before .before .before .before .before .before .args .written)) (now (c .before .before .before .before .before .before .before .before .before .before .before .before .args .rewritten)) (c .before .before .before .before .before .before .before .before .before .before .before .before .args .rounds)) (now (c .before .before .before .before .before .before .before .before .before .before .before .before .args .out)) (c .before .before .before .before .before .before .before .put-answer .last .0) (c .before .before .before .before .before .before .before .put-answer .result) (omega (arith, c .before .before .before .before .before .before .before .put-answer .kept .0)) far (c .before .before .before .before .before .before .before .put-answer .ensures .place far) (c .before .before .before .before .if1 .left) (c .before .before .put-answer2 .ensures)
+returns-2 c =
+    let args = c .before .before .before .before .before .before .before .before .before .before .before .before .args in
+    let put-answer = c .before .before .before .before .before .before .before .put-answer in
+    let far = answering.answer-length (c .before .before .before .before .before .before .before .before .before .before .before .before .pre) (omega arith) in
+    answering.fits (answerText (args .refusal) (now (args .written)) (now (args .rewritten)) (args .rounds)) (now (args .out)) (put-answer .last .0) (put-answer .result) (omega (arith, put-answer .kept .0)) far (put-answer .ensures .place far) (c .before .before .before .before .if1 .left) (c .before .before .put-answer2 .ensures)
 
 pub deliver-spec : {M : Type 1} → statement M
 deliver-spec =

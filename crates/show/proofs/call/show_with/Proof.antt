@@ -42,7 +42,11 @@ same-length-4 : tie.Need-same-length-4
 same-length-4 c = search needs
 
 returns : tie.Need-returns
-returns c = answering.whole-left (now (c .before .before .before .before .before .before .before .before .before .before .before .before .before .before .before .before .before .before .before .before .before .before .before .args .input)) (now (c .before .before .before .before .before .before .before .before .before .before .before .before .before .before .before .before .before .before .before .before .before .before .before .args .out)) (now (c .before .before .before .before .before .before .before .before .before .before .before .before .before .before .before .before .before .before .before .before .before .before .before .args .room)) (c .before .before .before .before .before .before .before .before .before .before .before .before .before .before .before .before .before .before .before .before .before .before .before .pre .2) (c .before .before .deliver .result) _ (c .before .before .deliver .last .0) (c .before .before .before .before .before .before .before .before .before .before .before .before .before .before .make .last .1 .1 .1 .0) (c .before .before .deliver .ensures) (answering.made-text (c .before .before .before .before .before .before .before .before .before .before .before .before .before .before .make .ensures .0)) (c .before .before .before .before .before .before .before .before .before .before .before .before .before .before .make .ensures .1)
+returns c =
+    let args = c .before .before .before .before .before .before .before .before .before .before .before .before .before .before .before .before .before .before .before .before .before .before .before .args in
+    let make = c .before .before .before .before .before .before .before .before .before .before .before .before .before .before .make in
+    let deliver = c .before .before .deliver in
+    answering.whole-left (now (args .input)) (now (args .out)) (now (args .room)) (c .before .before .before .before .before .before .before .before .before .before .before .before .before .before .before .before .before .before .before .before .before .before .before .pre .2) (deliver .result) _ (deliver .last .0) (make .last .1 .1 .1 .0) (deliver .ensures) (answering.made-text (make .ensures .0)) (make .ensures .1)
 
 pub show-with-spec : {M : Type 1} → statement M
 show-with-spec =

@@ -42,7 +42,11 @@ same-length-2 : tie.Need-same-length-2
 same-length-2 c = search needs
 
 returns : tie.Need-returns
-returns c = c .before .before .before .before .parse .ensures .is ∙ cutting.lines-parsed (now (c .before .before .before .before .before .before .before .before .before .before .before .before .before .before .before .before .args .input)) (now (c .before .before .before .before .before .before .before .before .before .before .before .before .before2 .result)) (now (c .before .before .before .before .before .before .before .before .behind2 .result)) _ (now (c .before .before .before .before .before .before .before .before .before .before .before3 .result)) (now (c .before .before .before .before .before .before .before .before .before .before .before .before .before .before .before .before .args .out)) (now (c .before .before .before .before .before .before .before .before .before .before .before .before .before .before .before .before .args .room)) (c .before .before .before .before .before .before .before .before .before .line-operator .result) (c .before .before .before .before .before .before .before .before .before .before .before .before .before2 .ensures) (c .before .before .before .before .before .before .before .before .before .line-operator .ensures) (c .before .before .before .before .before .before .before .before .behind2 .ensures) refl (c .before .before .before .before .before .before .before .before .before .before .before3 .ensures ∙ ap (front inLine) (c .before .before .before .before .before .before .before .before .before .before .before .behind .ensures))
+returns c =
+    let args = c .before .before .before .before .before .before .before .before .before .before .before .before .before .before .before .before .args in
+    let line-operator = c .before .before .before .before .before .before .before .before .before .line-operator in
+    let behind2 = c .before .before .before .before .before .before .before .before .behind2 in
+    c .before .before .before .before .parse .ensures .is ∙ cutting.lines-parsed (now (args .input)) (now (c .before .before .before .before .before .before .before .before .before .before .before .before .before2 .result)) (now (behind2 .result)) _ (now (c .before .before .before .before .before .before .before .before .before .before .before3 .result)) (now (args .out)) (now (args .room)) (line-operator .result) (c .before .before .before .before .before .before .before .before .before .before .before .before .before2 .ensures) (line-operator .ensures) (behind2 .ensures) refl (c .before .before .before .before .before .before .before .before .before .before .before3 .ensures ∙ ap (front inLine) (c .before .before .before .before .before .before .before .before .before .before .before .behind .ensures))
 
 pub parse-lines-spec : {M : Type 1} → statement M
 parse-lines-spec =

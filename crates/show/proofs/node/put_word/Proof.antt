@@ -56,7 +56,9 @@ same-length c = search needs
 
 returns : tie.Need-returns
 unfolding ascii wordText
-returns c = laying.lays-then (laying.lays-then (laying.lays-then (c .before .before .before .before .before .before .before .before .before .before .before .before .before .before .before .before .before .put .ensures) (laying.lays-as (ap decimal (c .before .before .before .before .before .before .before .before .before .before .before .before .before .big4 .ensures ∙ ap (λ (l : List ℕ). ofBig (take 4 l)) (c .before .before .before .before .before .before .before .before .before .before .before .before .before .before .before .before .before .before .before .before .body .ensures))) (c .before .before .before .before .before .before .before .before .before .before .before .before .put-decimal .ensures))) (c .before .before .before .before .before .before .before .put2 .ensures)) (laying.lays-as (ap shown (parts.cut-from 4 (now (c .before .before .before .before .before .before .before .before .before .before .before .before .before .before .before .before .before .before .before .before .body .result)) ∙ ap (drop 4) (c .before .before .before .before .before .before .before .before .before .before .before .before .before .before .before .before .before .before .before .before .body .ensures))) (c .before .before .put-shown .ensures))
+returns c =
+    let body = c .before .before .before .before .before .before .before .before .before .before .before .before .before .before .before .before .before .before .before .before .body in
+    laying.lays-then (laying.lays-then (laying.lays-then (c .before .before .before .before .before .before .before .before .before .before .before .before .before .before .before .before .before .put .ensures) (laying.lays-as (ap decimal (c .before .before .before .before .before .before .before .before .before .before .before .before .before .big4 .ensures ∙ ap (λ (l : List ℕ). ofBig (take 4 l)) (body .ensures))) (c .before .before .before .before .before .before .before .before .before .before .before .before .put-decimal .ensures))) (c .before .before .before .before .before .before .before .put2 .ensures)) (laying.lays-as (ap shown (parts.cut-from 4 (now (body .result)) ∙ ap (drop 4) (body .ensures))) (c .before .before .put-shown .ensures))
 
 pub put-word-spec : {M : Type 1} → statement M
 put-word-spec =

@@ -89,7 +89,13 @@ show-clauses-loop-less : (t : ℕ) → show-clauses-lts.Need-loop-less (show-cla
 show-clauses-loop-less t c = rw (c .rest .ensures) (parts.rest-shorter (now (c .before .before .before .before .before .before .before .before .loop .t)) (c .before .before .before .before .before .before .before .loop-test .taken))
 
 show-clauses-loop-again : (t : ℕ) → show-clauses-lts.Need-loop-again (show-clauses-calls t) (show-clauses-at t) show-clauses.Post show-clauses-Inv-loop show-clauses-μ-loop
-show-clauses-loop-again t c = (rw (c .rest .ensures) (queries.others-stored (c .before .before .before .before .before .before .before .before .loop .inv .0) (c .before .before .before .before .before .before .before .loop-test .taken)), rw (c .rest .ensures) (omega (arith, c .before .before .before .before .before .before .before .before .loop .inv .1, parts.rest-shorter (now (c .before .before .before .before .before .before .before .before .loop .t)) (c .before .before .before .before .before .before .before .loop-test .taken))), omega (arith, c .before .before .before .show-query .kept .0, c .before .before .before .before .before .before .before .before .loop .inv .2), rw (c .rest .ensures) (laying.going-next (c .before .before .before .before .before .before .before .before .loop .inv .3) (show (c .before .before .before .before .before .before .before .before .before .before .before .args .d) (kindText (tagOf (now (c .before .before .before .before .before .before .before .before .loop .t)))) (queryIn (bodyOf (now (c .before .before .before .before .before .before .before .before .loop .t))))) (showClauses (c .before .before .before .before .before .before .before .before .before .before .before .args .d) (rowIn (restOf (now (c .before .before .before .before .before .before .before .before .loop .t))))) (queries.clause-next (c .before .before .before .before .before .before .before .before .loop .inv .0) (c .before .before .before .before .before .before .before .loop-test .taken) (c .before .before .before .before .before .before .before .before .before .before .before .args .d)) (rw (c .before .before .before .before .body .ensures, c .before .before .before .before .before .tag-of .ensures) at (c .before .before .before .show-query .ensures))))
+show-clauses-loop-again t c =
+    let args = c .before .before .before .before .before .before .before .before .before .before .before .args in
+    let loop = c .before .before .before .before .before .before .before .before .loop in
+    let loop-test = c .before .before .before .before .before .before .before .loop-test in
+    let show-query′ = c .before .before .before .show-query in
+    let rest = c .rest in
+    (rw (rest .ensures) (queries.others-stored (loop .inv .0) (loop-test .taken)), rw (rest .ensures) (omega (arith, loop .inv .1, parts.rest-shorter (now (loop .t)) (loop-test .taken))), omega (arith, show-query′ .kept .0, loop .inv .2), rw (rest .ensures) (laying.going-next (loop .inv .3) (show (args .d) (kindText (tagOf (now (loop .t)))) (queryIn (bodyOf (now (loop .t))))) (showClauses (args .d) (rowIn (restOf (now (loop .t))))) (queries.clause-next (loop .inv .0) (loop-test .taken) (args .d)) (rw (c .before .before .before .before .body .ensures, c .before .before .before .before .before .tag-of .ensures) at (show-query′ .ensures))))
 
 show-clauses-same-length : (t : ℕ) → show-clauses-lts.Need-same-length (show-clauses-calls t) (show-clauses-at t) show-clauses.Post show-clauses-Inv-loop show-clauses-μ-loop
 show-clauses-same-length t c = c .before .loop .inv .2
@@ -140,19 +146,26 @@ show-query-same-length : (t : ℕ) → show-query-lts.Need-same-length (show-que
 show-query-same-length t c = search needs
 
 show-query-returns : (t : ℕ) → show-query-lts.Need-returns (show-query-calls t) (show-query-at t) show-query.Post
-show-query-returns t c = laying.lays-as (queries.whole-text (c .before .before .before .before .before .before .before .before .before .before .before .before .before .before .args .d) (kindText (c .before .before .before .before .before .before .before .before .before .before .before .before .before .before .args .kind)) (now (c .before .before .before .before .before .before .before .before .before .before .before .before .before .before .args .s)) (ap (λ (l : List ℕ). showClauses (c .before .before .before .before .before .before .before .before .before .before .before .before .before .before .args .d + 1) (rowIn l)) (c .before .before .before .rest .ensures) ∙ queries.row-inside (c .before .before .before .before .before .before .before .before .before .before .before .before .before .before .pre .1 .stored) (c .before .before .before .before .before .before .before .body .ensures) (c .before .before .before .before .before .before .tag-of .ensures) (c .before .before .before .before .before .before .before .before .before .before .before .before .before .before .args .d + 1) (c .before .before .before .before .before .match .keys1))) (laying.lays-then (c .before .before .before .before .before .before .before .before .before .before .put-line .ensures) (c .before .before .show-clauses .ensures))
+show-query-returns t c =
+    let args = c .before .before .before .before .before .before .before .before .before .before .before .before .before .before .args in
+    laying.lays-as (queries.whole-text (args .d) (kindText (args .kind)) (now (args .s)) (ap (λ (l : List ℕ). showClauses (args .d + 1) (rowIn l)) (c .before .before .before .rest .ensures) ∙ queries.row-inside (c .before .before .before .before .before .before .before .before .before .before .before .before .before .before .pre .1 .stored) (c .before .before .before .before .before .before .before .body .ensures) (c .before .before .before .before .before .before .tag-of .ensures) (args .d + 1) (c .before .before .before .before .before .match .keys1))) (laying.lays-then (c .before .before .before .before .before .before .before .before .before .before .put-line .ensures) (c .before .before .show-clauses .ensures))
 
 show-query-same-length-2 : (t : ℕ) → show-query-lts.Need-same-length-2 (show-query-calls t) (show-query-at t) show-query.Post
 show-query-same-length-2 t c = search needs
 
 show-query-returns-2 : (t : ℕ) → show-query-lts.Need-returns-2 (show-query-calls t) (show-query-at t) show-query.Post
-show-query-returns-2 t c = laying.lays-as (queries.whole-text (c .before .before .before .before .before .before .before .before .before .before .before .before .before .before .args .d) (kindText (c .before .before .before .before .before .before .before .before .before .before .before .before .before .before .args .kind)) (now (c .before .before .before .before .before .before .before .before .before .before .before .before .before .before .args .s)) (ap (λ (l : List ℕ). show (c .before .before .before .before .before .before .before .before .before .before .before .before .before .before .args .d + 1) (kindText 0) (queryIn l)) (parts.cut-from 4 (now (c .before .before .before .before .before .before .before .body .result))) ∙ queries.boosted-inside (c .before .before .before .before .before .before .before .before .before .before .before .before .before .before .pre .1 .stored) (c .before .before .before .before .before .before .before .body .ensures) (c .before .before .before .before .before .before .tag-of .ensures) (c .before .before .before .before .before .before .before .before .before .before .before .before .before .before .args .d + 1) (c .before .before .before .before .before .match .keys2))) (laying.lays-then (c .before .before .before .before .before .before .before .before .before .before .put-line .ensures) (c .before .before .show-query .ensures))
+show-query-returns-2 t c =
+    let args = c .before .before .before .before .before .before .before .before .before .before .before .before .before .before .args in
+    let body = c .before .before .before .before .before .before .before .body in
+    laying.lays-as (queries.whole-text (args .d) (kindText (args .kind)) (now (args .s)) (ap (λ (l : List ℕ). show (args .d + 1) (kindText 0) (queryIn l)) (parts.cut-from 4 (now (body .result))) ∙ queries.boosted-inside (c .before .before .before .before .before .before .before .before .before .before .before .before .before .before .pre .1 .stored) (body .ensures) (c .before .before .before .before .before .before .tag-of .ensures) (args .d + 1) (c .before .before .before .before .before .match .keys2))) (laying.lays-then (c .before .before .before .before .before .before .before .before .before .before .put-line .ensures) (c .before .before .show-query .ensures))
 
 show-query-same-length-3 : (t : ℕ) → show-query-lts.Need-same-length-3 (show-query-calls t) (show-query-at t) show-query.Post
 show-query-same-length-3 t c = search needs
 
 show-query-returns-3 : (t : ℕ) → show-query-lts.Need-returns-3 (show-query-calls t) (show-query-at t) show-query.Post
-show-query-returns-3 t c = laying.lays-as (queries.whole-text (c .before .before .before .before .before .before .before .before .before .before .before .before .before .args .d) (kindText (c .before .before .before .before .before .before .before .before .before .before .before .before .before .args .kind)) (now (c .before .before .before .before .before .before .before .before .before .before .before .before .before .args .s)) (queries.scored-inside (c .before .before .before .before .before .before .before .before .before .before .before .before .before .pre .1 .stored) (c .before .before .before .before .before .before .body .ensures) (c .before .before .before .before .before .tag-of .ensures) (c .before .before .before .before .before .before .before .before .before .before .before .before .before .args .d + 1) (c .before .before .before .before .match .keys3))) (laying.lays-then (c .before .before .before .before .before .before .before .before .before .put-line .ensures) (c .before .before .show-query2 .ensures))
+show-query-returns-3 t c =
+    let args = c .before .before .before .before .before .before .before .before .before .before .before .before .before .args in
+    laying.lays-as (queries.whole-text (args .d) (kindText (args .kind)) (now (args .s)) (queries.scored-inside (c .before .before .before .before .before .before .before .before .before .before .before .before .before .pre .1 .stored) (c .before .before .before .before .before .before .body .ensures) (c .before .before .before .before .before .tag-of .ensures) (args .d + 1) (c .before .before .before .before .match .keys3))) (laying.lays-then (c .before .before .before .before .before .before .before .before .before .put-line .ensures) (c .before .before .show-query2 .ensures))
 
 show-query-same-length-4 : (t : ℕ) → show-query-lts.Need-same-length-4 (show-query-calls t) (show-query-at t) show-query.Post
 show-query-same-length-4 t c = search needs

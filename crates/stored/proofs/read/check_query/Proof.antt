@@ -50,7 +50,11 @@ returns-3 : tie.Need-returns-3
 returns-3 c = let L = (subst (OfOpened (c .before .before .before .before .before .before .before .args .depth) (now (c .before .before .before .before .before .before .before .args .s))) (c .before .before .e .given .1) (c .before .before .before .before .unwrap .ensures)) in reader.whole-in (c .before .before .before .before .before .before .before .args .most) (c .before .before .before .before .before .before .before .args .depth) (now (c .before .before .before .before .before .before .before .args .s)) _ (c .before .before .before .before .before .if1 .left) (L .is 0 ∙ sym (c .say .ensures))
 
 returns-4 : tie.Need-returns-4
-returns-4 c = let R = (subst (OfOpened (c .before .before .before .before .before .before .before .before .before .args .depth) (now (c .before .before .before .before .before .before .before .before .before .args .s))) (c .before .before .before .before .a .given .1) (c .before .before .before .before .before .before .unwrap .ensures)) in reader.whole-in (c .before .before .before .before .before .before .before .before .before .args .most) (c .before .before .before .before .before .before .before .before .before .args .depth) (now (c .before .before .before .before .before .before .before .before .before .args .s)) _ (c .before .before .before .before .before .before .before .if1 .left) (R .is 0 ∙ sym (c .rows .ensures ∙ ap (λ (g : ℕ). verdict g (rowOf (c .before .before .before .before .a .given .0 .1 .1 .0) (cut (c .before .before .before .before .a .given .0 .0) (c .before .before .before .before .a .given .0 .1 .0) (now (c .before .before .before .before .before .before .before .before .before .args .s))))) (c .before .say2 .ensures)))
+returns-4 c =
+    let args = c .before .before .before .before .before .before .before .before .before .args in
+    let a = c .before .before .before .before .a in
+    let R = (subst (OfOpened (args .depth) (now (args .s))) (a .given .1) (c .before .before .before .before .before .before .unwrap .ensures)) in
+    reader.whole-in (args .most) (args .depth) (now (args .s)) _ (c .before .before .before .before .before .before .before .if1 .left) (R .is 0 ∙ sym (c .rows .ensures ∙ ap (λ (g : ℕ). verdict g (rowOf (a .given .0 .1 .1 .0) (cut (a .given .0 .0) (a .given .0 .1 .0) (now (args .s))))) (c .before .say2 .ensures)))
 
 pub check-query-spec : {M : Type 1} → statement M
 check-query-spec =

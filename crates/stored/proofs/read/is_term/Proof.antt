@@ -47,7 +47,10 @@ rest-requires-2 : tie.Need-rest-requires-2
 rest-requires-2 c κs = parts.part-is textTag _ (bools.told-yes (c .before .before .before .before .is-part2 .ensures) (c .before .before .before .if3 .left)) .0
 
 returns-5 : tie.Need-returns-5
-returns-5 c = chains.on (bools.both (bools.told-yes (c .before .before .before .before .before .before .before .before .before .before .before .is-part .ensures) (c .before .before .before .before .before .before .before .before .before .before .if1 .left)) (bools.told-yes (c .before .before .before .before .before .before .before .before .is-field .ensures ∙ ap isField (c .before .before .before .before .before .before .before .before .before .body .ensures)) (c .before .before .before .before .before .before .before .if2 .left))) (chains.goes-on (c .before .before .before .before .before .is-part2 .ensures ∙ ap (isPart textTag) (c .before .before .before .before .before .before .rest .ensures)) (c .before .before .before .before .if3 .left) (chains.goes-on (c .before .before .is-text .ensures ∙ ap isText (c .before .before .before .body2 .ensures ∙ ap bodyOf (c .before .before .before .before .before .before .rest .ensures))) (c .before .if4 .left) (chains.nothing (now (c .rest2 .result)) (c .rest2 .ensures ∙ ap restOf (c .before .before .before .before .before .before .rest .ensures)))))
+returns-5 c =
+    let rest = c .before .before .before .before .before .before .rest in
+    let rest2 = c .rest2 in
+    chains.on (bools.both (bools.told-yes (c .before .before .before .before .before .before .before .before .before .before .before .is-part .ensures) (c .before .before .before .before .before .before .before .before .before .before .if1 .left)) (bools.told-yes (c .before .before .before .before .before .before .before .before .is-field .ensures ∙ ap isField (c .before .before .before .before .before .before .before .before .before .body .ensures)) (c .before .before .before .before .before .before .before .if2 .left))) (chains.goes-on (c .before .before .before .before .before .is-part2 .ensures ∙ ap (isPart textTag) (rest .ensures)) (c .before .before .before .before .if3 .left) (chains.goes-on (c .before .before .is-text .ensures ∙ ap isText (c .before .before .before .body2 .ensures ∙ ap bodyOf (rest .ensures))) (c .before .if4 .left) (chains.nothing (now (rest2 .result)) (rest2 .ensures ∙ ap restOf (rest .ensures)))))
 
 pub is-term-spec : {M : Type 1} → statement M
 is-term-spec =

@@ -56,10 +56,20 @@ returns-7 : tie.Need-returns-7
 returns-7 c = opening.constant-query (c .before .before .before .before .before .before .before .before .args .left) (now (c .before .before .before .before .before .before .before .before .args .q)) (now (c .before .before .body .result)) (3 + c .before .before .before .size-of .result) (c .before .before .before .before .if2 .left) (bools.told-yes (c .before .before .before .before .before .before .is-record .ensures) (c .before .before .before .before .before .if1 .left)) (ap (λ (n : ℕ). 3 + n) (c .before .before .before .size-of .ensures .0)) (omega (arith, c .before .before .before .size-of .ensures .0, c .before .before .before .size-of .ensures .1)) (c .before .before .body .ensures) (c .match .keys3)
 
 returns-8 : tie.Need-returns-8
-returns-8 c = opening.leaf-record (c .before .before .before .before .before .before .before .before .before .before .args .left) (now (c .before .before .before .before .before .before .before .before .before .before .args .q)) (now (c .before .before .before .before .body .result)) (3 + c .before .before .before .before .before .size-of .result) (c .before .before .before .before .before .before .if2 .left) (bools.told-yes (c .before .before .before .before .before .before .before .before .is-record .ensures) (c .before .before .before .before .before .before .before .if1 .left)) (ap (λ (n : ℕ). 3 + n) (c .before .before .before .before .before .size-of .ensures .0)) (omega (arith, c .before .before .before .before .before .size-of .ensures .0, c .before .before .before .before .before .size-of .ensures .1)) (c .before .before .before .before .body .ensures) (c .before .before .match .rest .0 .0 .1) (c .before .before .match .rest .0 .1) (c .before .before .match .rest .1) (sym (c .before .is-leaf .ensures) ∙ c .if5 .taken)
+returns-8 c =
+    let args = c .before .before .before .before .before .before .before .before .before .before .args in
+    let size-of = c .before .before .before .before .before .size-of in
+    let body = c .before .before .before .before .body in
+    let match = c .before .before .match in
+    opening.leaf-record (args .left) (now (args .q)) (now (body .result)) (3 + size-of .result) (c .before .before .before .before .before .before .if2 .left) (bools.told-yes (c .before .before .before .before .before .before .before .before .is-record .ensures) (c .before .before .before .before .before .before .before .if1 .left)) (ap (λ (n : ℕ). 3 + n) (size-of .ensures .0)) (omega (arith, size-of .ensures .0, size-of .ensures .1)) (body .ensures) (match .rest .0 .0 .1) (match .rest .0 .1) (match .rest .1) (sym (c .before .is-leaf .ensures) ∙ c .if5 .taken)
 
 returns-9 : tie.Need-returns-9
-returns-9 c = opening.leaf-fault (c .before .before .before .before .before .before .before .before .before .before .args .left) (now (c .before .before .before .before .before .before .before .before .before .before .args .q)) (now (c .before .before .before .before .body .result)) (3 + c .before .before .before .before .before .size-of .result) (c .before .before .before .before .before .before .if2 .left) (bools.told-yes (c .before .before .before .before .before .before .before .before .is-record .ensures) (c .before .before .before .before .before .before .before .if1 .left)) (ap (λ (n : ℕ). 3 + n) (c .before .before .before .before .before .size-of .ensures .0)) (omega (arith, c .before .before .before .before .before .size-of .ensures .0, c .before .before .before .before .before .size-of .ensures .1)) (c .before .before .before .before .body .ensures) (c .before .before .match .rest .0 .0 .1) (c .before .before .match .rest .0 .1) (c .before .before .match .rest .1) (sym (c .before .is-leaf .ensures) ∙ c .if5 .left)
+returns-9 c =
+    let args = c .before .before .before .before .before .before .before .before .before .before .args in
+    let size-of = c .before .before .before .before .before .size-of in
+    let body = c .before .before .before .before .body in
+    let match = c .before .before .match in
+    opening.leaf-fault (args .left) (now (args .q)) (now (body .result)) (3 + size-of .result) (c .before .before .before .before .before .before .if2 .left) (bools.told-yes (c .before .before .before .before .before .before .before .before .is-record .ensures) (c .before .before .before .before .before .before .before .if1 .left)) (ap (λ (n : ℕ). 3 + n) (size-of .ensures .0)) (omega (arith, size-of .ensures .0, size-of .ensures .1)) (body .ensures) (match .rest .0 .0 .1) (match .rest .0 .1) (match .rest .1) (sym (c .before .is-leaf .ensures) ∙ c .if5 .left)
 
 pub look-spec : {M : Type 1} → statement M
 look-spec =

@@ -35,19 +35,32 @@ enum-known-r : tie.Need-enum-known-r Inv-loop μ-loop
 enum-known-r c = search needs
 
 returns : tie.Need-returns Inv-loop μ-loop
-returns c = rowing.fault (c .before .before .before .before .before .before .before .before .args .first) (c .before .before .before .before .before .before .before .before .args .sound) (now (c .before .before .before .before .before .before .before .before .args .s)) (c .before .before .before .before .before .before .loop .ends) (c .before .before .before .before .before .before .loop .lefts) (c .before .before .before .before .before .before .loop .n) (c .before .before .before .before .before .before .loop .at) (c .before .before .before .before .before .before .loop .end) (c .before .before .before .before .before .before .loop .left) (c .before .before .before .before .before .before .loop .good) (c .before .before .before .before .before .before .loop .inv) _ (subst (OfNext (c .before .before .before .before .before .before .loop .left) (cut (c .before .before .before .before .before .before .loop .at) (c .before .before .before .before .before .before .loop .end) (now (c .before .before .before .before .before .before .before .before .args .s)))) (c .before .r .given .1) (c .before .before .before .step .ensures))
+returns c =
+    let args = c .before .before .before .before .before .before .before .before .args in
+    let loop = c .before .before .before .before .before .before .loop in
+    rowing.fault (args .first) (args .sound) (now (args .s)) (loop .ends) (loop .lefts) (loop .n) (loop .at) (loop .end) (loop .left) (loop .good) (loop .inv) _ (subst (OfNext (loop .left) (cut (loop .at) (loop .end) (now (args .s)))) (c .before .r .given .1) (c .before .before .before .step .ensures))
 
 enum-known-k : tie.Need-enum-known-k Inv-loop μ-loop
 enum-known-k c = search needs
 
 add-at : tie.Need-add-at Inv-loop μ-loop
-add-at c = record { fits = let P = (subst (OfNext (c .before .before .before .before .before .before .loop .left) (cut (c .before .before .before .before .before .before .loop .at) (c .before .before .before .before .before .before .loop .end) (now (c .before .before .before .before .before .before .before .before .args .s)))) (c .before .k .given .1) (c .before .before .before .step .ensures)) in omega (arith, P .end, rowing.row-length (c .before .before .before .before .before .before .before .before .args .first) (c .before .before .before .before .before .before .before .before .args .sound) (now (c .before .before .before .before .before .before .before .before .args .s)) (c .before .before .before .before .before .before .loop .ends) (c .before .before .before .before .before .before .loop .lefts) (c .before .before .before .before .before .before .loop .n) (c .before .before .before .before .before .before .loop .at) (c .before .before .before .before .before .before .loop .end) (c .before .before .before .before .before .before .loop .left) (c .before .before .before .before .before .before .loop .good) (c .before .before .before .before .before .before .loop .inv), rowing.inside (c .before .before .before .before .before .before .before .before .args .first) (c .before .before .before .before .before .before .before .before .args .sound) (now (c .before .before .before .before .before .before .before .before .args .s)) (c .before .before .before .before .before .before .loop .ends) (c .before .before .before .before .before .before .loop .lefts) (c .before .before .before .before .before .before .loop .n) (c .before .before .before .before .before .before .loop .at) (c .before .before .before .before .before .before .loop .end) (c .before .before .before .before .before .before .loop .left) (c .before .before .before .before .before .before .loop .good) (c .before .before .before .before .before .before .loop .inv), c .before .before .before .before .before .before .loop .inv .short) }
+add-at c =
+    let args = c .before .before .before .before .before .before .before .before .args in
+    let loop = c .before .before .before .before .before .before .loop in
+    record { fits = let P = (subst (OfNext (loop .left) (cut (loop .at) (loop .end) (now (args .s)))) (c .before .k .given .1) (c .before .before .before .step .ensures)) in omega (arith, P .end, rowing.row-length (args .first) (args .sound) (now (args .s)) (loop .ends) (loop .lefts) (loop .n) (loop .at) (loop .end) (loop .left) (loop .good) (loop .inv), rowing.inside (args .first) (args .sound) (now (args .s)) (loop .ends) (loop .lefts) (loop .n) (loop .at) (loop .end) (loop .left) (loop .good) (loop .inv), loop .inv .short) }
 
 loop-less : tie.Need-loop-less Inv-loop μ-loop
-loop-less c = let P = (subst (OfNext (c .before .before .before .before .before .before .loop .left) (cut (c .before .before .before .before .before .before .loop .at) (c .before .before .before .before .before .before .loop .end) (now (c .before .before .before .before .before .before .before .before .args .s)))) (c .before .k .given .1) (c .before .before .before .step .ensures)) in omega (arith, P .some, P .end, rowing.row-length (c .before .before .before .before .before .before .before .before .args .first) (c .before .before .before .before .before .before .before .before .args .sound) (now (c .before .before .before .before .before .before .before .before .args .s)) (c .before .before .before .before .before .before .loop .ends) (c .before .before .before .before .before .before .loop .lefts) (c .before .before .before .before .before .before .loop .n) (c .before .before .before .before .before .before .loop .at) (c .before .before .before .before .before .before .loop .end) (c .before .before .before .before .before .before .loop .left) (c .before .before .before .before .before .before .loop .good) (c .before .before .before .before .before .before .loop .inv), rowing.inside (c .before .before .before .before .before .before .before .before .args .first) (c .before .before .before .before .before .before .before .before .args .sound) (now (c .before .before .before .before .before .before .before .before .args .s)) (c .before .before .before .before .before .before .loop .ends) (c .before .before .before .before .before .before .loop .lefts) (c .before .before .before .before .before .before .loop .n) (c .before .before .before .before .before .before .loop .at) (c .before .before .before .before .before .before .loop .end) (c .before .before .before .before .before .before .loop .left) (c .before .before .before .before .before .before .loop .good) (c .before .before .before .before .before .before .loop .inv))
+loop-less c =
+    let args = c .before .before .before .before .before .before .before .before .args in
+    let loop = c .before .before .before .before .before .before .loop in
+    let P = (subst (OfNext (loop .left) (cut (loop .at) (loop .end) (now (args .s)))) (c .before .k .given .1) (c .before .before .before .step .ensures)) in
+    omega (arith, P .some, P .end, rowing.row-length (args .first) (args .sound) (now (args .s)) (loop .ends) (loop .lefts) (loop .n) (loop .at) (loop .end) (loop .left) (loop .good) (loop .inv), rowing.inside (args .first) (args .sound) (now (args .s)) (loop .ends) (loop .lefts) (loop .n) (loop .at) (loop .end) (loop .left) (loop .good) (loop .inv))
 
 loop-again : tie.Need-loop-again Inv-loop μ-loop
-loop-again c = rowing.past (c .before .before .before .before .before .before .before .before .args .first) (c .before .before .before .before .before .before .before .before .args .sound) (now (c .before .before .before .before .before .before .before .before .args .s)) (c .before .before .before .before .before .before .loop .ends) (c .before .before .before .before .before .before .loop .lefts) (c .before .before .before .before .before .before .loop .n) (c .before .before .before .before .before .before .loop .at) (c .before .before .before .before .before .before .loop .end) (c .before .before .before .before .before .before .loop .left) (c .before .before .before .before .before .before .loop .good) (c .before .before .before .before .before .before .loop .inv) _ (subst (OfNext (c .before .before .before .before .before .before .loop .left) (cut (c .before .before .before .before .before .before .loop .at) (c .before .before .before .before .before .before .loop .end) (now (c .before .before .before .before .before .before .before .before .args .s)))) (c .before .k .given .1) (c .before .before .before .step .ensures))
+loop-again c =
+    let args = c .before .before .before .before .before .before .before .before .args in
+    let loop = c .before .before .before .before .before .before .loop in
+    rowing.past (args .first) (args .sound) (now (args .s)) (loop .ends) (loop .lefts) (loop .n) (loop .at) (loop .end) (loop .left) (loop .good) (loop .inv) _ (subst (OfNext (loop .left) (cut (loop .at) (loop .end) (now (args .s)))) (c .before .k .given .1) (c .before .before .before .step .ensures))
 
 enum-known-a : tie.Need-enum-known-a Inv-loop μ-loop
 enum-known-a c = search needs
@@ -71,31 +84,57 @@ add-n : tie.Need-add-n Inv-loop μ-loop
 add-n c = record { fits = omega (arith, c .before .before .before .before .before .before .loop .inv .room) }
 
 add-end : tie.Need-add-end Inv-loop μ-loop
-add-end c = record { fits = let I = (subst (OfNext (c .before .before .before .before .before .before .loop .left) (cut (c .before .before .before .before .before .before .loop .at) (c .before .before .before .before .before .before .loop .end) (now (c .before .before .before .before .before .before .before .before .args .s)))) (c .before .a .given .1) (c .before .before .before .step .ensures)) in omega (arith, I .at .end, rowing.row-length (c .before .before .before .before .before .before .before .before .args .first) (c .before .before .before .before .before .before .before .before .args .sound) (now (c .before .before .before .before .before .before .before .before .args .s)) (c .before .before .before .before .before .before .loop .ends) (c .before .before .before .before .before .before .loop .lefts) (c .before .before .before .before .before .before .loop .n) (c .before .before .before .before .before .before .loop .at) (c .before .before .before .before .before .before .loop .end) (c .before .before .before .before .before .before .loop .left) (c .before .before .before .before .before .before .loop .good) (c .before .before .before .before .before .before .loop .inv), rowing.inside (c .before .before .before .before .before .before .before .before .args .first) (c .before .before .before .before .before .before .before .before .args .sound) (now (c .before .before .before .before .before .before .before .before .args .s)) (c .before .before .before .before .before .before .loop .ends) (c .before .before .before .before .before .before .loop .lefts) (c .before .before .before .before .before .before .loop .n) (c .before .before .before .before .before .before .loop .at) (c .before .before .before .before .before .before .loop .end) (c .before .before .before .before .before .before .loop .left) (c .before .before .before .before .before .before .loop .good) (c .before .before .before .before .before .before .loop .inv), c .before .before .before .before .before .before .loop .inv .short) }
+add-end c =
+    let args = c .before .before .before .before .before .before .before .before .args in
+    let loop = c .before .before .before .before .before .before .loop in
+    record { fits = let I = (subst (OfNext (loop .left) (cut (loop .at) (loop .end) (now (args .s)))) (c .before .a .given .1) (c .before .before .before .step .ensures)) in omega (arith, I .at .end, rowing.row-length (args .first) (args .sound) (now (args .s)) (loop .ends) (loop .lefts) (loop .n) (loop .at) (loop .end) (loop .left) (loop .good) (loop .inv), rowing.inside (args .first) (args .sound) (now (args .s)) (loop .ends) (loop .lefts) (loop .n) (loop .at) (loop .end) (loop .left) (loop .good) (loop .inv), loop .inv .short) }
 
 add-at-2 : tie.Need-add-at-2 Inv-loop μ-loop
-add-at-2 c = record { fits = let I = (subst (OfNext (c .before .before .before .before .before .before .loop .left) (cut (c .before .before .before .before .before .before .loop .at) (c .before .before .before .before .before .before .loop .end) (now (c .before .before .before .before .before .before .before .before .args .s)))) (c .before .a .given .1) (c .before .before .before .step .ensures)) in omega (arith, I .at .order, I .at .end, rowing.row-length (c .before .before .before .before .before .before .before .before .args .first) (c .before .before .before .before .before .before .before .before .args .sound) (now (c .before .before .before .before .before .before .before .before .args .s)) (c .before .before .before .before .before .before .loop .ends) (c .before .before .before .before .before .before .loop .lefts) (c .before .before .before .before .before .before .loop .n) (c .before .before .before .before .before .before .loop .at) (c .before .before .before .before .before .before .loop .end) (c .before .before .before .before .before .before .loop .left) (c .before .before .before .before .before .before .loop .good) (c .before .before .before .before .before .before .loop .inv), rowing.inside (c .before .before .before .before .before .before .before .before .args .first) (c .before .before .before .before .before .before .before .before .args .sound) (now (c .before .before .before .before .before .before .before .before .args .s)) (c .before .before .before .before .before .before .loop .ends) (c .before .before .before .before .before .before .loop .lefts) (c .before .before .before .before .before .before .loop .n) (c .before .before .before .before .before .before .loop .at) (c .before .before .before .before .before .before .loop .end) (c .before .before .before .before .before .before .loop .left) (c .before .before .before .before .before .before .loop .good) (c .before .before .before .before .before .before .loop .inv), c .before .before .before .before .before .before .loop .inv .short) }
+add-at-2 c =
+    let args = c .before .before .before .before .before .before .before .before .args in
+    let loop = c .before .before .before .before .before .before .loop in
+    record { fits = let I = (subst (OfNext (loop .left) (cut (loop .at) (loop .end) (now (args .s)))) (c .before .a .given .1) (c .before .before .before .step .ensures)) in omega (arith, I .at .order, I .at .end, rowing.row-length (args .first) (args .sound) (now (args .s)) (loop .ends) (loop .lefts) (loop .n) (loop .at) (loop .end) (loop .left) (loop .good) (loop .inv), rowing.inside (args .first) (args .sound) (now (args .s)) (loop .ends) (loop .lefts) (loop .n) (loop .at) (loop .end) (loop .left) (loop .good) (loop .inv), loop .inv .short) }
 
 loop-less-2 : tie.Need-loop-less-2 Inv-loop μ-loop
-loop-less-2 c = let I = (subst (OfNext (c .before .before .before .before .before .before .loop .left) (cut (c .before .before .before .before .before .before .loop .at) (c .before .before .before .before .before .before .loop .end) (now (c .before .before .before .before .before .before .before .before .args .s)))) (c .before .a .given .1) (c .before .before .before .step .ensures)) in omega (arith, I .at .some, I .at .order, I .at .end, rowing.row-length (c .before .before .before .before .before .before .before .before .args .first) (c .before .before .before .before .before .before .before .before .args .sound) (now (c .before .before .before .before .before .before .before .before .args .s)) (c .before .before .before .before .before .before .loop .ends) (c .before .before .before .before .before .before .loop .lefts) (c .before .before .before .before .before .before .loop .n) (c .before .before .before .before .before .before .loop .at) (c .before .before .before .before .before .before .loop .end) (c .before .before .before .before .before .before .loop .left) (c .before .before .before .before .before .before .loop .good) (c .before .before .before .before .before .before .loop .inv), rowing.inside (c .before .before .before .before .before .before .before .before .args .first) (c .before .before .before .before .before .before .before .before .args .sound) (now (c .before .before .before .before .before .before .before .before .args .s)) (c .before .before .before .before .before .before .loop .ends) (c .before .before .before .before .before .before .loop .lefts) (c .before .before .before .before .before .before .loop .n) (c .before .before .before .before .before .before .loop .at) (c .before .before .before .before .before .before .loop .end) (c .before .before .before .before .before .before .loop .left) (c .before .before .before .before .before .before .loop .good) (c .before .before .before .before .before .before .loop .inv), c .before .before .before .before .before .before .loop .inv .order)
+loop-less-2 c =
+    let args = c .before .before .before .before .before .before .before .before .args in
+    let loop = c .before .before .before .before .before .before .loop in
+    let I = (subst (OfNext (loop .left) (cut (loop .at) (loop .end) (now (args .s)))) (c .before .a .given .1) (c .before .before .before .step .ensures)) in
+    omega (arith, I .at .some, I .at .order, I .at .end, rowing.row-length (args .first) (args .sound) (now (args .s)) (loop .ends) (loop .lefts) (loop .n) (loop .at) (loop .end) (loop .left) (loop .good) (loop .inv), rowing.inside (args .first) (args .sound) (now (args .s)) (loop .ends) (loop .lefts) (loop .n) (loop .at) (loop .end) (loop .left) (loop .good) (loop .inv), loop .inv .order)
 
 loop-again-2 : tie.Need-loop-again-2 Inv-loop μ-loop
-loop-again-2 c = rowing.into (c .before .before .before .before .before .before .before .before .args .first) (c .before .before .before .before .before .before .before .before .args .sound) (now (c .before .before .before .before .before .before .before .before .args .s)) (c .before .before .before .before .before .before .loop .ends) (c .before .before .before .before .before .before .loop .lefts) (c .before .before .before .before .before .before .loop .n) (c .before .before .before .before .before .before .loop .at) (c .before .before .before .before .before .before .loop .end) (c .before .before .before .before .before .before .loop .left) (c .before .before .before .before .before .before .loop .good) (c .before .before .before .before .before .before .loop .inv) _ _ _ (subst (OfNext (c .before .before .before .before .before .before .loop .left) (cut (c .before .before .before .before .before .before .loop .at) (c .before .before .before .before .before .before .loop .end) (now (c .before .before .before .before .before .before .before .before .args .s)))) (c .before .a .given .1) (c .before .before .before .step .ensures))
+loop-again-2 c =
+    let args = c .before .before .before .before .before .before .before .before .args in
+    let loop = c .before .before .before .before .before .before .loop in
+    rowing.into (args .first) (args .sound) (now (args .s)) (loop .ends) (loop .lefts) (loop .n) (loop .at) (loop .end) (loop .left) (loop .good) (loop .inv) _ _ _ (subst (OfNext (loop .left) (cut (loop .at) (loop .end) (now (args .s)))) (c .before .a .given .1) (c .before .before .before .step .ensures))
 
 enum-known-a-2 : tie.Need-enum-known-a-2 Inv-loop μ-loop
 enum-known-a-2 c = search needs
 
 add-end-2 : tie.Need-add-end-2 Inv-loop μ-loop
-add-end-2 c = record { fits = let L = (subst (OfNext (c .before .before .before .before .before .before .loop .left) (cut (c .before .before .before .before .before .before .loop .at) (c .before .before .before .before .before .before .loop .end) (now (c .before .before .before .before .before .before .before .before .args .s)))) (c .before .a2 .given .1) (c .before .before .before .step .ensures)) in omega (arith, L .at .end, rowing.row-length (c .before .before .before .before .before .before .before .before .args .first) (c .before .before .before .before .before .before .before .before .args .sound) (now (c .before .before .before .before .before .before .before .before .args .s)) (c .before .before .before .before .before .before .loop .ends) (c .before .before .before .before .before .before .loop .lefts) (c .before .before .before .before .before .before .loop .n) (c .before .before .before .before .before .before .loop .at) (c .before .before .before .before .before .before .loop .end) (c .before .before .before .before .before .before .loop .left) (c .before .before .before .before .before .before .loop .good) (c .before .before .before .before .before .before .loop .inv), rowing.inside (c .before .before .before .before .before .before .before .before .args .first) (c .before .before .before .before .before .before .before .before .args .sound) (now (c .before .before .before .before .before .before .before .before .args .s)) (c .before .before .before .before .before .before .loop .ends) (c .before .before .before .before .before .before .loop .lefts) (c .before .before .before .before .before .before .loop .n) (c .before .before .before .before .before .before .loop .at) (c .before .before .before .before .before .before .loop .end) (c .before .before .before .before .before .before .loop .left) (c .before .before .before .before .before .before .loop .good) (c .before .before .before .before .before .before .loop .inv), c .before .before .before .before .before .before .loop .inv .short) }
+add-end-2 c =
+    let args = c .before .before .before .before .before .before .before .before .args in
+    let loop = c .before .before .before .before .before .before .loop in
+    record { fits = let L = (subst (OfNext (loop .left) (cut (loop .at) (loop .end) (now (args .s)))) (c .before .a2 .given .1) (c .before .before .before .step .ensures)) in omega (arith, L .at .end, rowing.row-length (args .first) (args .sound) (now (args .s)) (loop .ends) (loop .lefts) (loop .n) (loop .at) (loop .end) (loop .left) (loop .good) (loop .inv), rowing.inside (args .first) (args .sound) (now (args .s)) (loop .ends) (loop .lefts) (loop .n) (loop .at) (loop .end) (loop .left) (loop .good) (loop .inv), loop .inv .short) }
 
 add-at-3 : tie.Need-add-at-3 Inv-loop μ-loop
-add-at-3 c = record { fits = let L = (subst (OfNext (c .before .before .before .before .before .before .loop .left) (cut (c .before .before .before .before .before .before .loop .at) (c .before .before .before .before .before .before .loop .end) (now (c .before .before .before .before .before .before .before .before .args .s)))) (c .before .a2 .given .1) (c .before .before .before .step .ensures)) in omega (arith, L .at .order, L .at .end, rowing.row-length (c .before .before .before .before .before .before .before .before .args .first) (c .before .before .before .before .before .before .before .before .args .sound) (now (c .before .before .before .before .before .before .before .before .args .s)) (c .before .before .before .before .before .before .loop .ends) (c .before .before .before .before .before .before .loop .lefts) (c .before .before .before .before .before .before .loop .n) (c .before .before .before .before .before .before .loop .at) (c .before .before .before .before .before .before .loop .end) (c .before .before .before .before .before .before .loop .left) (c .before .before .before .before .before .before .loop .good) (c .before .before .before .before .before .before .loop .inv), rowing.inside (c .before .before .before .before .before .before .before .before .args .first) (c .before .before .before .before .before .before .before .before .args .sound) (now (c .before .before .before .before .before .before .before .before .args .s)) (c .before .before .before .before .before .before .loop .ends) (c .before .before .before .before .before .before .loop .lefts) (c .before .before .before .before .before .before .loop .n) (c .before .before .before .before .before .before .loop .at) (c .before .before .before .before .before .before .loop .end) (c .before .before .before .before .before .before .loop .left) (c .before .before .before .before .before .before .loop .good) (c .before .before .before .before .before .before .loop .inv), c .before .before .before .before .before .before .loop .inv .short) }
+add-at-3 c =
+    let args = c .before .before .before .before .before .before .before .before .args in
+    let loop = c .before .before .before .before .before .before .loop in
+    record { fits = let L = (subst (OfNext (loop .left) (cut (loop .at) (loop .end) (now (args .s)))) (c .before .a2 .given .1) (c .before .before .before .step .ensures)) in omega (arith, L .at .order, L .at .end, rowing.row-length (args .first) (args .sound) (now (args .s)) (loop .ends) (loop .lefts) (loop .n) (loop .at) (loop .end) (loop .left) (loop .good) (loop .inv), rowing.inside (args .first) (args .sound) (now (args .s)) (loop .ends) (loop .lefts) (loop .n) (loop .at) (loop .end) (loop .left) (loop .good) (loop .inv), loop .inv .short) }
 
 loop-less-3 : tie.Need-loop-less-3 Inv-loop μ-loop
-loop-less-3 c = let L = (subst (OfNext (c .before .before .before .before .before .before .loop .left) (cut (c .before .before .before .before .before .before .loop .at) (c .before .before .before .before .before .before .loop .end) (now (c .before .before .before .before .before .before .before .before .args .s)))) (c .before .a2 .given .1) (c .before .before .before .step .ensures)) in omega (arith, L .at .some, L .at .order, L .at .end, rowing.row-length (c .before .before .before .before .before .before .before .before .args .first) (c .before .before .before .before .before .before .before .before .args .sound) (now (c .before .before .before .before .before .before .before .before .args .s)) (c .before .before .before .before .before .before .loop .ends) (c .before .before .before .before .before .before .loop .lefts) (c .before .before .before .before .before .before .loop .n) (c .before .before .before .before .before .before .loop .at) (c .before .before .before .before .before .before .loop .end) (c .before .before .before .before .before .before .loop .left) (c .before .before .before .before .before .before .loop .good) (c .before .before .before .before .before .before .loop .inv), rowing.inside (c .before .before .before .before .before .before .before .before .args .first) (c .before .before .before .before .before .before .before .before .args .sound) (now (c .before .before .before .before .before .before .before .before .args .s)) (c .before .before .before .before .before .before .loop .ends) (c .before .before .before .before .before .before .loop .lefts) (c .before .before .before .before .before .before .loop .n) (c .before .before .before .before .before .before .loop .at) (c .before .before .before .before .before .before .loop .end) (c .before .before .before .before .before .before .loop .left) (c .before .before .before .before .before .before .loop .good) (c .before .before .before .before .before .before .loop .inv), c .before .before .before .before .before .before .loop .inv .order)
+loop-less-3 c =
+    let args = c .before .before .before .before .before .before .before .before .args in
+    let loop = c .before .before .before .before .before .before .loop in
+    let L = (subst (OfNext (loop .left) (cut (loop .at) (loop .end) (now (args .s)))) (c .before .a2 .given .1) (c .before .before .before .step .ensures)) in
+    omega (arith, L .at .some, L .at .order, L .at .end, rowing.row-length (args .first) (args .sound) (now (args .s)) (loop .ends) (loop .lefts) (loop .n) (loop .at) (loop .end) (loop .left) (loop .good) (loop .inv), rowing.inside (args .first) (args .sound) (now (args .s)) (loop .ends) (loop .lefts) (loop .n) (loop .at) (loop .end) (loop .left) (loop .good) (loop .inv), loop .inv .order)
 
 loop-again-3 : tie.Need-loop-again-3 Inv-loop μ-loop
-loop-again-3 c = rowing.last (c .before .before .before .before .before .before .before .before .args .first) (c .before .before .before .before .before .before .before .before .args .sound) (now (c .before .before .before .before .before .before .before .before .args .s)) (c .before .before .before .before .before .before .loop .ends) (c .before .before .before .before .before .before .loop .lefts) (c .before .before .before .before .before .before .loop .n) (c .before .before .before .before .before .before .loop .at) (c .before .before .before .before .before .before .loop .end) (c .before .before .before .before .before .before .loop .left) (c .before .before .before .before .before .before .loop .good) (c .before .before .before .before .before .before .loop .inv) _ _ _ (subst (OfNext (c .before .before .before .before .before .before .loop .left) (cut (c .before .before .before .before .before .before .loop .at) (c .before .before .before .before .before .before .loop .end) (now (c .before .before .before .before .before .before .before .before .args .s)))) (c .before .a2 .given .1) (c .before .before .before .step .ensures))
+loop-again-3 c =
+    let args = c .before .before .before .before .before .before .before .before .args in
+    let loop = c .before .before .before .before .before .before .loop in
+    rowing.last (args .first) (args .sound) (now (args .s)) (loop .ends) (loop .lefts) (loop .n) (loop .at) (loop .end) (loop .left) (loop .good) (loop .inv) _ _ _ (subst (OfNext (loop .left) (cut (loop .at) (loop .end) (now (args .s)))) (c .before .a2 .given .1) (c .before .before .before .step .ensures))
 
 returns-2 : tie.Need-returns-2 Inv-loop μ-loop
 returns-2 c = rowing.finished (c .before .before .before .before .args .first) (c .before .before .before .before .args .sound) (now (c .before .before .before .before .args .s)) (c .before .before .loop .ends) (c .before .before .loop .lefts) (c .before .before .loop .n) (c .before .before .loop .at) (c .before .before .loop .end) (c .before .before .loop .left) (c .before .before .loop .good) (c .before .before .loop .inv) (c .before .if1 .left) (c .if2 .taken)

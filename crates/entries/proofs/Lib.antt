@@ -1,0 +1,3 @@
+pub mod Searches
+pub mod Entries
+pub mod Noting

@@ -1,0 +1,75 @@
+-- `merging::merge::note_all` meets its contract.
+use mathlib.Core.Path.{ap}
+use native.Mathlib.Omega.{arith}
+use lib.ListN.{length}
+use borrow.Author.Needs.{needs}
+use Rattle.rules.proofs.stored.Parts as parts
+use Rattle.merging.proofs.Alike as alike
+use Rattle.merging.proofs.Forms as forms
+use Rattle.merging.proofs.merge.note_all.Statement.{statement}
+use Rattle.merging.proofs.merge.note_all.Tie as tie
+
+abbrev Inv-loop : tie.InvT-loop
+Inv-loop s least table₀ t₀ table t = alike.Noting least s t table
+
+abbrev μ-loop : tie.MeasureT-loop
+μ-loop s least table₀ t₀ table t = length t
+
+loop-holds : tie.Need-loop-holds Inv-loop μ-loop
+loop-holds c = alike.noting-start _ (c .before .before .pre .0) (c .before .before .pre .1)
+
+shared-slice-read-held : tie.Need-shared-slice-read-held Inv-loop μ-loop
+shared-slice-read-held c = search needs
+
+body-requires : tie.Need-body-requires Inv-loop μ-loop
+body-requires c κs = alike.noting-front (c .before .before .loop .inv) (c .before .loop-test .taken) .whole
+
+held-requires : tie.Need-held-requires Inv-loop μ-loop
+held-requires c κs = record { query = alike.noting-front (c .before .before .before .loop .inv) (c .before .before .loop-test .taken) .query; is = rw (c .body .ensures) (forms.front-is (alike.noting-front (c .before .before .before .loop .inv) (c .before .before .loop-test .taken))) }
+
+signature-requires : tie.Need-signature-requires Inv-loop μ-loop
+signature-requires c κs = search needs
+
+slice-read-one-more : tie.Need-slice-read-one-more Inv-loop μ-loop
+slice-read-one-more c = search needs
+
+one-more-requires : tie.Need-one-more-requires Inv-loop μ-loop
+one-more-requires c κs = search needs
+
+slice-write-table : tie.Need-slice-write-table Inv-loop μ-loop
+slice-write-table c = search needs
+
+rest-requires : tie.Need-rest-requires Inv-loop μ-loop
+rest-requires c κs = alike.noting-front (c .before .before .before .before .before .before .before .loop .inv) (c .before .before .before .before .before .before .loop-test .taken) .whole
+
+loop-less : tie.Need-loop-less Inv-loop μ-loop
+loop-less c = let l = ap length (c .rest .ensures) in omega (arith, parts.rest-shorter (c .before .before .before .before .before .before .before .before .loop .t .now) (c .before .before .before .before .before .before .before .loop-test .taken))
+
+loop-again : tie.Need-loop-again Inv-loop μ-loop
+loop-again c = alike.noting-next (c .before .before .before .before .before .before .before .before .loop .inv) (c .before .before .before .before .before .before .before .loop-test .taken) _ (rw (c .before .before .before .before .before .body .ensures) at (c .before .before .before .before .held .ensures)) _ (c .before .before .before .signature .ensures .0) (c .before .before .before .signature .ensures .1) _ (c .rest .ensures) _ (c .before .one-more .ensures)
+
+same-length : tie.Need-same-length Inv-loop μ-loop
+same-length c = omega (arith, c .before .loop .inv .long, c .before .before .before .before .pre .1)
+
+returns : tie.Need-returns Inv-loop μ-loop
+returns c = alike.noting-end (c .before .loop .inv) (c .loop-test .left)
+
+pub note-all-spec : {M : Type 1} → statement M
+note-all-spec =
+    tie.close
+    (tie.spec
+    Inv-loop
+    μ-loop
+    loop-holds
+    shared-slice-read-held
+    body-requires
+    held-requires
+    signature-requires
+    slice-read-one-more
+    one-more-requires
+    slice-write-table
+    rest-requires
+    loop-less
+    loop-again
+    same-length
+    returns)
