@@ -6,6 +6,15 @@ use names::MID_LETTERS_CLASS;
 use names::MID_NUMBERS_CLASS;
 use names::SPACE_CLASS;
 use names::UNDERSCORE_CLASS;
+ghost use mathlib.Core.Path.{_≡_};
+ghost use Rattle.rules.specs.Analysis.{classes};
+
+// The table is that of the rules, entry by entry. A loop names the constant itself: what is returned here is copied once more.
+pub fn table() -> [u8; 128]
+    ensures { λ r. ⌜ r ≡ classes ⌝ }
+{
+    CLASSES
+}
 
 pub const CLASSES: [u8; 128] = [
     0,
