@@ -54,7 +54,7 @@ fn short_words(desk: &mut Desk) {
         for analyzer in [4, 5] {
             let setup = Setup::new(0, analyzer, b"f");
             let answer = answers::parse(&setup, &text);
-            let lent = gorbihesh::Setup {
+            let lent = gorbihesh::calls::Setup {
                 operator: 0,
                 analyzer,
                 field: &setup.field,
