@@ -1,9 +1,11 @@
 // The reader of catalogue lists, by the same parts: 0 where every record and every entry in it is sound, else 22 or 23.
 use names::FIELD_TAG;
 use names::FLOAT_TAG;
+use names::HEADER;
 use names::LIST_MOST;
 use names::LONG_LIST;
 use names::MALFORMED_LIST;
+use names::NUMBER_BYTES;
 use names::PLACE_TAG;
 use names::RECORD_TAG;
 use names::VALUE_TAG;
@@ -31,7 +33,7 @@ ghost use Rattle.lists.specs.List.{isHeld};
 fn is_value(s: &[u8]) -> bool
     ensures { λ r. ⌜ r ≡ isValue (now (s .entry)) ⌝ }
 {
-    is_part_of(s, VALUE_TAG, 8)
+    is_part_of(s, VALUE_TAG, NUMBER_BYTES)
 }
 
 // What stands behind the field of an entry with this tag: a position with a text, or a number.
@@ -74,7 +76,7 @@ fn is_lean(b: &[u8]) -> bool
     if f > n - 10 {
         return false;
     }
-    let at = 3 + f;
+    let at = HEADER + f;
     let t = &b[at..];
     if size_of(t) != n - 6 - f {
         return false;

@@ -4,6 +4,7 @@ use super::ask::is_chosen;
 use super::ask::prepare;
 use entries::slots::SLOTS;
 use lists::check_list;
+use names::HEADER;
 use names::LONG_ANSWER;
 use names::SELECTION_DEPTH;
 use numbers::put_big4;
@@ -73,7 +74,7 @@ fn count(query: &[u8], list: &[u8]) -> usize
     let mut n: usize = 0;
     let mut t = list;
     while t.len() > 0 {
-        let from = list.len() - t.len() + 3;
+        let from = list.len() - t.len() + HEADER;
         n += one(is_chosen(query, body(t), from, plan, &wanted, &mut slots, &mut row));
         let u = rest(t);
         t = u;
@@ -123,7 +124,7 @@ fn fill(query: &[u8], list: &[u8], rows: &mut [u32]) -> usize
     let mut i = FIRST;
     let mut t = list;
     while t.len() > 0 {
-        let from = list.len() - t.len() + 3;
+        let from = list.len() - t.len() + HEADER;
         let y = is_chosen(query, body(t), from, plan, &wanted, &mut slots, &mut row);
         w = put(rows, w, i, y);
         i += 1;
@@ -169,7 +170,7 @@ fn fill_bytes(query: &[u8], list: &[u8], rows: &mut [u8]) -> usize
     let mut i = FIRST;
     let mut t = list;
     while t.len() > 0 {
-        let from = list.len() - t.len() + 3;
+        let from = list.len() - t.len() + HEADER;
         let y = is_chosen(query, body(t), from, plan, &wanted, &mut slots, &mut row);
         w = put_bytes(rows, w, i, y);
         i += 1;
