@@ -39,6 +39,9 @@ ghost use Rattle.entries.specs.Slots.{Told};
 ghost use Rattle.matching.specs.Level.{carries};
 ghost use Rattle.matching.specs.Truth.{IsLeaf, Truth, StoredFor, cut, Open, outcome, AtClause, At, Leads, Past};
 
+// Where the number of a Boolean's minimum stands: behind its header and that of the minimum.
+const MINIMUM_AT: usize = HEADER + HEADER;
+
 // Where the walk goes next: nowhere, or to the query from `at` to `end`, inside so many Booleans.
 pub enum Next {
     Done(bool),
@@ -147,7 +150,7 @@ fn enter(q: &[u8], row: &mut [u64], depth: usize, at: usize, end: usize) -> Next
 {
     let x = &q[at..end];
     if x.len() > BOOLEAN_FRONT {
-        let asked = big2(&x[HEADER + HEADER..]);
+        let asked = big2(&x[MINIMUM_AT..]);
         let l = Level {
             end,
             asked,
