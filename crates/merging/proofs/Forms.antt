@@ -34,9 +34,6 @@ is-same {p = p} {q = q} i j = encode-injective p q (i .valid) (j .valid) (i .for
 pub are-same : {s : List ℕ} {cs ds : Clauses} → Are s cs → Are s ds → cs ≡ ds
 are-same {cs = cs} {ds = ds} i j = encodes-injective cs ds (i .valid) (j .valid) (i .form ∙ sym (j .form))
 
-pub whole-of : (s : List ℕ) → Stored s → wholeOf s ≡ true
-whole-of s c = viewed (c .query) s (c .is .form) .whole
-
 pub long-of : {s : List ℕ} {q : Query} → Is s q → 3 ≤ length s
 long-of {s} {q} i = omega (arith, length-encode q, ap length (i .form))
 

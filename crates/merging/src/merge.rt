@@ -42,7 +42,7 @@ ghost use Rattle.merging.specs.Signatures.{signatures, Noted, Alone};
 ghost use Rattle.merging.specs.Merge.{Eats, Fed, First, Eatable, Ate, reboostedBytes, mergedSize, Way, Mergeable};
 
 // The bytes below which clauses are so few that they are compared with no table.
-const FEW: usize = 160;
+const FEW: usize = 256;
 
 // Before a boosted clause's base stand a header, a boost's header and its bits.
 const BITS: usize = HEADER + HEADER;
