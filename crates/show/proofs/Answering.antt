@@ -294,9 +294,14 @@ cleared s out room h = rw (le-leb rewriteRoom (length room) h) (by (leb (length 
     by true = refl
     by false = refl
 
+-- what is left of l, with another room
+abbrev told : Left → List ℕ → Left
+told l u = record { answer = l .answer; output = l .output; room = u }
+
 pub whole-left : (s out room : List ℕ) → rewriteRoom ≤ length room → (r : Shown) (t out′ room′ : List ℕ) → leftOf r out′ [] ≡ delivered t out [] → t ≡ showText s
     → room′ ≡ zeros room → leftOf r out′ room′ ≡ showLeft s out room
-whole-left s out room h r t out′ room′ D e z = by r ∙ rw (D, e, z) (cleared s out room h)
+whole-left s out room h r t out′ room′ D e z =
+    by r ∙ ap (λ (l : Left). told l room′) D ∙ ap (λ (u : List ℕ). told (delivered u out []) room′) e ∙ ap (told (delivered (showText s) out [])) z ∙ cleared s out room h
   where
     by : (q : Shown) → leftOf q out′ room′ ≡ record { answer = leftOf q out′ [] .answer; output = leftOf q out′ [] .output; room = room′ }
     by (shown.Refused n) = refl
