@@ -302,7 +302,7 @@ pub whole-left : (s out room : List ℕ) → rewriteRoom ≤ length room → (r 
     → room′ ≡ zeros room → leftOf r out′ room′ ≡ showLeft s out room
 whole-left s out room h r t out′ room′ D e z =
     ap (λ (l : Left). told l room′) D ∙ ap (λ (u : List ℕ). told (delivered u out []) room′) e
-        ∙ ap (told (delivered (showText s) out [])) z ∙ cleared s out room h
+    ∙ ap (told (delivered (showText s) out [])) z ∙ cleared s out room h
 
 pub short-left : (s out room room′ : List ℕ) → length room < rewriteRoom → room′ ≡ zeros room → leftOf (shown.Refused 32) out room′ ≡ showLeft s out room
 unfolding showLeft call
