@@ -114,6 +114,9 @@ static void rewriting(void) {
     print("rewrite", "Booleans to depth 64, by Filters", call_rewrite);
     put_nested_boosts(GORBIHESH_REWRITE_DEPTH_MOST);
     print("rewrite", "boosts and constant scores to depth 64", call_rewrite);
+    put_wide(40);
+    for (size_t i = 2; i < GORBIHESH_REWRITE_DEPTH_MOST; i++) wrap(&query, i % 2 ? 0x05 : 0x04, i % 2 ? "" : "40000000");
+    print("rewrite", "40 clauses under boosts and scores to depth 64", call_rewrite);
     put_wide(2100);
     print("rewrite", "2,100 clauses", call_rewrite);
     put_nested(GORBIHESH_REWRITE_DEPTH_MOST + 1, 0x20);

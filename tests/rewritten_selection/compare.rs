@@ -19,7 +19,7 @@ use tally::{Tally, generator, hold};
 
 /// What the second room has to have at least, and what is enough for the first.
 const HELD: usize = 38_229;
-const ROOM: usize = 114_687;
+const ROOM: usize = 38_229;
 
 /// The refusal's number or 0, the records chosen, the rounds made: what the call returns.
 #[repr(C)]

@@ -19,7 +19,7 @@ pub const VERSION: u32 = 1_000_000;
 /// The bytes of working room that [`calls::parse`] needs.
 pub const PARSE_ROOM: usize = 5_120;
 /// The bytes of working room that [`calls::rewrite`] needs.
-pub const REWRITE_ROOM: usize = 114_687;
+pub const REWRITE_ROOM: usize = 38_229;
 /// The bytes of working room that [`calls::select`] needs.
 pub const SELECT_ROOM: usize = 0;
 

@@ -1,6 +1,7 @@
 // An entry of a record: its kind, its field, and its text and position or the bits of its number.
 use names::FLOAT_TAG;
 use names::PLACE_TAG;
+use names::POSITION_BYTES;
 use names::WHOLE_TAG;
 use numbers::big4;
 use numbers::big8;
@@ -44,7 +45,7 @@ pub fn text(e: &[u8]) -> &[u8]
     ensures { λ r. ⌜ now r ≡ textOf (entryOf (now (e .entry))) ⌝ }
 {
     let w = body(rest(body(e)));
-    &w[4..]
+    &w[POSITION_BYTES..]
 }
 
 pub fn position(e: &[u8]) -> u64

@@ -1,10 +1,11 @@
 // The reader of catalogue lists, by the same parts: 0 where every record and every entry in it is sound, else 22 or 23.
-use names::FIELD_MOST;
 use names::FIELD_TAG;
 use names::FLOAT_TAG;
+use names::HEADER;
 use names::LIST_MOST;
 use names::LONG_LIST;
 use names::MALFORMED_LIST;
+use names::NUMBER_BYTES;
 use names::PLACE_TAG;
 use names::RECORD_TAG;
 use names::VALUE_TAG;
@@ -13,30 +14,47 @@ use names::WORD_TAG;
 use parts::part::body;
 use parts::part::is_field_part;
 use parts::part::is_part;
+use parts::part::is_part_of;
 use parts::part::rest;
 use parts::part::size_of;
 use parts::part::tag_of;
 use parts::part::whole;
 use stored::read::is_word;
 use stretches::is_middle_text;
-use stretches::is_text;
 ghost use mathlib.Core.Path.{_≡_};
 ghost use mathlib.Core.Bool.{true};
-ghost use Rattle.rules.specs.Numbers.{wordTag};
+ghost use Rattle.rules.specs.Numbers.{placeTag, wordTag};
 ghost use Rattle.rules.specs.Bytes.{every};
-ghost use Rattle.rules.specs.Reading.{isWord, numberOf};
+ghost use Rattle.rules.specs.Reading.{numberOf};
 ghost use Rattle.rules.specs.Lists.{isValue, isFieldWith, isEntry, isRecord, readList};
 ghost use Rattle.parts.specs.Part.{Plain};
+ghost use Rattle.lists.specs.List.{isHeld};
 
-// A field with a position and a text behind it, and nothing more.
-fn is_fielded(b: &[u8]) -> bool
-    ensures { λ r. ⌜ r ≡ isFieldWith isWord (now (b .entry)) ⌝ }
+fn is_value(s: &[u8]) -> bool
+    ensures { λ r. ⌜ r ≡ isValue (now (s .entry)) ⌝ }
+{
+    is_part_of(s, VALUE_TAG, NUMBER_BYTES)
+}
+
+// What stands behind the field of an entry with this tag: a position with a text, or a number.
+fn is_held(tag: u8, s: &[u8]) -> bool
+    ensures { λ r. ⌜ r ≡ isHeld tag (now (s .entry)) ⌝ }
+{
+    if tag == PLACE_TAG {
+        is_word(s)
+    } else {
+        is_value(s)
+    }
+}
+
+fn is_fielded(tag: u8, b: &[u8]) -> bool
+    ensures { λ r. ⌜ r ≡ isFieldWith (isHeld tag) (now (b .entry)) ⌝ }
 {
     if !is_field_part(b) {
         return false;
     }
     let w = rest(b);
-    if !is_word(w) {
+    if !is_held(tag, w) {
         return false;
     }
     rest(w).len() == 0
@@ -58,7 +76,7 @@ fn is_lean(b: &[u8]) -> bool
     if f > n - 10 {
         return false;
     }
-    let at = 3 + f;
+    let at = HEADER + f;
     let t = &b[at..];
     if size_of(t) != n - 6 - f {
         return false;
@@ -74,41 +92,12 @@ fn is_lean(b: &[u8]) -> bool
 
 // A position with a text behind the field, short ones first.
 fn is_place(b: &[u8]) -> bool
-    ensures { λ r. ⌜ r ≡ isFieldWith isWord (now (b .entry)) ⌝ }
+    ensures { λ r. ⌜ r ≡ isFieldWith (isHeld placeTag) (now (b .entry)) ⌝ }
 {
     if is_lean(b) {
         return true;
     }
-    is_fielded(b)
-}
-
-// A field with the bits of a number behind it, and nothing more: each length follows from the whole.
-fn is_valued(b: &[u8]) -> bool
-    ensures { λ r. ⌜ r ≡ isFieldWith isValue (now (b .entry)) ⌝ }
-{
-    let n = b.len();
-    if n < 14 {
-        return false;
-    }
-    if n > FIELD_MOST + 14 {
-        return false;
-    }
-    let f = size_of(b);
-    if f + 14 != n {
-        return false;
-    }
-    if tag_of(b) != FIELD_TAG {
-        return false;
-    }
-    let at = 3 + f;
-    let t = &b[at..];
-    if size_of(t) != 8 {
-        return false;
-    }
-    if tag_of(t) != VALUE_TAG {
-        return false;
-    }
-    is_text(&b[3..at])
+    is_fielded(PLACE_TAG, b)
 }
 
 fn is_entry(s: &[u8]) -> bool
@@ -120,8 +109,8 @@ fn is_entry(s: &[u8]) -> bool
     let b = body(s);
     match s[0] {
         PLACE_TAG => is_place(b),
-        WHOLE_TAG => is_valued(b),
-        FLOAT_TAG => is_valued(b),
+        WHOLE_TAG => is_fielded(WHOLE_TAG, b),
+        FLOAT_TAG => is_fielded(FLOAT_TAG, b),
         _ => false,
     }
 }

@@ -1,5 +1,7 @@
 // The two orders of ranges, over 64 bits each: whole numbers are signed, and floats go by IEEE, so that a NaN is in no order and both zeros
 // are equal. `float` says which.
+use names::WIDE_INFINITY;
+use names::WIDE_SIGN;
 ghost use mathlib.Core.Path.{_≡_};
 ghost use lib.Ieee.{binary64, ofBits, isNan};
 ghost use Rattle.rules.specs.Query.{whole, float};
@@ -7,13 +9,15 @@ ghost use Rattle.rules.specs.Matching.{isNumber};
 ghost use Rattle.entries.specs.Entry.{numbers};
 ghost use Rattle.matching.specs.Order.{Turned, ordered};
 
-const TOP: u64 = 0x8000_0000_0000_0000;
-
 // With its top bit turned: the signed order of x is the unsigned order of the answer.
 fn turned(x: u64) -> u64
     ensures { λ r. ⌜ Turned x r ⌝ }
 {
-    if x < TOP { x + TOP } else { x - TOP }
+    if x < WIDE_SIGN {
+        x + WIDE_SIGN
+    } else {
+        x - WIDE_SIGN
+    }
 }
 
 fn whole_ordered(strict: bool, a: u64, b: u64) -> bool
@@ -28,7 +32,7 @@ fn whole_ordered(strict: bool, a: u64, b: u64) -> bool
 fn is_nan(x: u64) -> bool
     ensures { λ r. ⌜ r ≡ isNan (ofBits binary64 x) ⌝ }
 {
-    0x7ff0_0000_0000_0000 < x % 0x8000_0000_0000_0000
+    WIDE_INFINITY < x % WIDE_SIGN
 }
 
 fn float_ordered(strict: bool, a: u64, b: u64) -> bool

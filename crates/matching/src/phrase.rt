@@ -4,6 +4,7 @@
 use entries::entry::position;
 use entries::here::is_here;
 use entries::slots::is_missing;
+use names::POSITION_BYTES;
 use numbers::big4;
 use parts::part::body;
 use parts::part::rest;
@@ -53,7 +54,7 @@ fn follow(f: &[u8], p: u64, x: u64, ws: &[u8], rec: &[u8]) -> bool
     while s.len() > 0 {
         let w = body(s);
         let o = big4(w) as u64;
-        if !has_at(f, &w[4..], p, o + x, rec) {
+        if !has_at(f, &w[POSITION_BYTES..], p, o + x, rec) {
             return false;
         }
         let u = rest(s);
@@ -96,7 +97,7 @@ fn any_missing(f: &[u8], ws: &[u8], rec: &[u8], from: usize, slots: &[u16]) -> b
     let mut s = ws;
     while s.len() > 0 {
         let w = body(s);
-        if is_missing(f, &w[4..], rec, from, slots) {
+        if is_missing(f, &w[POSITION_BYTES..], rec, from, slots) {
             return true;
         }
         let u = rest(s);
@@ -118,5 +119,5 @@ pub fn phrase_true(q: &[u8], rec: &[u8], from: usize, slots: &[u16]) -> bool
         return false;
     }
     let w = body(ws);
-    has_start(body(b), big4(w) as u64, &w[4..], rest(ws), rec)
+    has_start(body(b), big4(w) as u64, &w[POSITION_BYTES..], rest(ws), rec)
 }

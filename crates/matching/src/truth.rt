@@ -9,11 +9,15 @@ use super::level::unpacked;
 use super::phrase::phrase_true;
 use super::range::range_true;
 use super::term::term_true;
+use names::BOOLEAN_FRONT;
 use names::BOOLEAN_TAG;
+use names::BOOST_FRONT;
 use names::BOOST_TAG;
 use names::CONSTANT_SCORE_TAG;
 use names::FLOAT_RANGE_TAG;
+use names::HEADER;
 use names::MATCH_ALL_TAG;
+use names::NO_TAG;
 use names::PHRASE_TAG;
 use names::SHOULD_TAG;
 use names::TERM_TAG;
@@ -34,6 +38,9 @@ ghost use Rattle.rules.specs.Matching.{matches};
 ghost use Rattle.entries.specs.Slots.{Told};
 ghost use Rattle.matching.specs.Level.{carries};
 ghost use Rattle.matching.specs.Truth.{IsLeaf, Truth, StoredFor, cut, Open, outcome, AtClause, At, Leads, Past};
+
+// Where the number of a Boolean's minimum stands: behind its header and that of the minimum.
+const MINIMUM_AT: usize = HEADER + HEADER;
 
 // Where the walk goes next: nowhere, or to the query from `at` to `end`, inside so many Booleans.
 pub enum Next {
@@ -69,7 +76,7 @@ fn clause(q: &[u8], row: &mut [u64], depth: usize, at: usize, l: Level) -> Next
         met: l.met,
         kind: tag_of(t),
     });
-    let next = at + 3;
+    let next = at + HEADER;
     Next::Query {
         depth: depth + 1,
         at: next,
@@ -89,7 +96,7 @@ fn past_shoulds(q: &[u8], at: usize, end: usize) -> usize
         if tag_of(t) != SHOULD_TAG {
             return p;
         }
-        p += 3 + size_of(t);
+        p += HEADER + size_of(t);
     }
     p
 }
@@ -142,15 +149,15 @@ fn enter(q: &[u8], row: &mut [u64], depth: usize, at: usize, end: usize) -> Next
         → Leads es (now (q .entry)) (now (row .exit)) at (outcome es (t .around) (matches es (t .query))) r) ⌝ }
 {
     let x = &q[at..end];
-    if x.len() > 8 {
-        let asked = big2(&x[6..]);
+    if x.len() > BOOLEAN_FRONT {
+        let asked = big2(&x[MINIMUM_AT..]);
         let l = Level {
             end,
             asked,
             met: false,
-            kind: 0,
+            kind: NO_TAG,
         };
-        return clause(q, row, depth, at + 8, l);
+        return clause(q, row, depth, at + BOOLEAN_FRONT, l);
     }
     settle(q, row, depth, end, false)
 }
@@ -177,12 +184,12 @@ fn step(
         BOOLEAN_TAG => enter(q, row, depth, at, end),
         BOOST_TAG => Next::Query {
             depth,
-            at: at + 7,
+            at: at + BOOST_FRONT,
             end,
         },
         CONSTANT_SCORE_TAG => Next::Query {
             depth,
-            at: at + 3,
+            at: at + HEADER,
             end,
         },
         _ => {

@@ -8,10 +8,10 @@ use native.Mathlib.Omega.{arith}
 use lib.ListN.{length, take, drop}
 use lib.Dec.{leb, eqb}
 use borrow.Author.Tests.{eqb-true, eq-eqb}
-use Rattle.rules.specs.Bytes.{ofBig, tagOf, bodyOf, restOf, wholeOf}
+use Rattle.rules.specs.Bytes.{ofBig, tagOf, bodyOf, restOf}
 use Rattle.rules.specs.Query.{Kind, must, should, mustNot, filter, Query, term, phrase, boolean, boost, constantScore, matchAll, matchNone, range, whole, float, Clauses, none}
 use Rattle.rules.specs.Stored.{kindTag, encode, Valid}
-use Rattle.rules.specs.Checked.{Is, Are, Stored}
+use Rattle.rules.specs.Checked.{Is, Are}
 use Rattle.rules.specs.Reading.{kindOf}
 use Rattle.rules.specs.Floats.{widened}
 use Rattle.rules.specs.Rewriting.{isNeeded, ifShould, summable, standsFor, base, boostOf}
@@ -22,7 +22,7 @@ use Rattle.rules.proofs.stored.Tags.{kind-back}
 use Rattle.rules.proofs.stored.Inverse.{boost-below}
 use Rattle.rules.proofs.stored.Equal.{encode-injective, encodes-injective}
 use Rattle.rules.proofs.stored.Sizes.{length-encode}
-use Rattle.rules.proofs.stored.Views.{Front, front-of, no-front, viewed}
+use Rattle.rules.proofs.stored.Views.{Front, front-of, no-front}
 use Rattle.rules.proofs.rewriting.Boosts.{widened-one}
 use Rattle.rules.proofs.rewriting.Kinds.{stands-is, stands-self}
 
@@ -33,9 +33,6 @@ is-same {p = p} {q = q} i j = encode-injective p q (i .valid) (j .valid) (i .for
 
 pub are-same : {s : List ℕ} {cs ds : Clauses} → Are s cs → Are s ds → cs ≡ ds
 are-same {cs = cs} {ds = ds} i j = encodes-injective cs ds (i .valid) (j .valid) (i .form ∙ sym (j .form))
-
-pub whole-of : (s : List ℕ) → Stored s → wholeOf s ≡ true
-whole-of s c = viewed (c .query) s (c .is .form) .whole
 
 pub long-of : {s : List ℕ} {q : Query} → Is s q → 3 ≤ length s
 long-of {s} {q} i = omega (arith, length-encode q, ap length (i .form))

@@ -14,7 +14,7 @@ use Rattle.places.specs.Within.{within}
 
 -- how many there are
 abbrev pub signatures : ℕ
-signatures = 4093
+signatures = 3067
 
 unfoldable pub signatureOf : List ℕ → ℕ
 signatureOf s = cond (ltb (length s) 4) 0 ((ofBig (take 4 (drop (length s - 4) s)) + length s % signatures * 31) % signatures)

@@ -41,8 +41,8 @@ ghost use Rattle.places.specs.Within.{within, Stands};
 ghost use Rattle.merging.specs.Signatures.{signatures, Noted, Alone};
 ghost use Rattle.merging.specs.Merge.{Eats, Fed, First, Eatable, Ate, reboostedBytes, mergedSize, Way, Mergeable};
 
-// The bytes below which clauses are so few that they are compared with no table.
-const FEW: usize = 160;
+// So many clauses are compared with no table.
+const FEW: usize = 8;
 
 // Before a boosted clause's base stand a header, a boost's header and its bits.
 const BITS: usize = HEADER + HEADER;
@@ -328,12 +328,29 @@ fn merge_many(room: &mut [u8], end: usize, least: usize) -> usize
     merge_all(room, end, least, &table)
 }
 
+// Are there so few clauses that a table is not worth its clearing? Whatever it answers, merging gives the same.
+fn is_few(clauses: &[u8]) -> bool
+    requires { ⌜ StoredClauses (now clauses) ⌝ }
+{
+    let mut t = clauses;
+    let mut n: usize = 0;
+    while t.len() > 0 {
+        if n == FEW {
+            return false;
+        }
+        n += 1;
+        let u = rest(t);
+        t = u;
+    }
+    true
+}
+
 // Merges the clauses that stand in the first `end` bytes, and lays what is kept at the front. Few clauses are compared with no table.
 pub fn merge_clauses(room: &mut [u8], end: usize, least: usize) -> usize
     requires { ⌜ Mergeable end (now room) ⌝ }
     ensures { λ r. ⌜ ((cs : Clauses) → Are (within 0 end (now (room .entry))) cs → Stands 0 (now (room .entry)) r (encodes (mergedClauses least cs)) (now (room .exit))) ⌝ }
 {
-    if end < FEW {
+    if is_few(&room[0..end]) {
         return merge_all(room, end, least, b"");
     }
     merge_many(room, end, least)

@@ -7,7 +7,7 @@ ghost use Prim.Native.Nat.{_<_};
 ghost use lib.ListN.{getD};
 ghost use Rattle.merging.specs.Signatures.{signatures, signatureOf, oneMore};
 
-pub const SIGNATURES: usize = 4093;
+pub const SIGNATURES: usize = 3067;
 
 fn upper(x: u32) -> usize
     ensures { λ r. ⌜ (r ≡ x) × (r < 4294967296) ⌝ }

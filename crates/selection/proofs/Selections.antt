@@ -31,7 +31,7 @@ use Rattle.wanted.specs.Wanted.{callsBy}
 use Rattle.wanted.specs.Marks.{isMarked, Marks}
 use Rattle.wanted.proofs.Occurring.{unwanted-empty}
 use Rattle.matching.specs.Truth.{Truth, StoredFor}
-use Rattle.selection.specs.Select.{listed, within, answerOf, rowsAfter, Selects, told, SelectsBytes}
+use Rattle.selection.specs.Select.{listed, within, coded, rowsOf, answerOf, rowsAfter, Selects, told, SelectsBytes}
 
 -- ---- what was checked
 
@@ -174,15 +174,19 @@ unfolding flat
 flat-append code [] ns = refl
 flat-append code (m ∷ ms) ns = ap {B = List ℕ} (λ l. code m ++ l) (flat-append code ms ns) ∙ sym (append-assoc (code m) (flat code ms) (flat code ns))
 
-pub flat-one : (ns : List ℕ) → flat (λ n. n ∷ []) ns ≡ ns
+flat-one : (ns : List ℕ) → flat (λ n. n ∷ []) ns ≡ ns
 unfolding flat
 flat-one [] = refl
 flat-one (n ∷ ns) = ap {B = List ℕ} (λ l. n ∷ l) (flat-one ns)
 
-pub flat-four : (ns : List ℕ) → flat (big 4) ns ≡ rowBytes ns
+flat-four : (ns : List ℕ) → flat (big 4) ns ≡ rowBytes ns
 unfolding flat rowBytes
 flat-four [] = refl
 flat-four (n ∷ ns) = ap {B = List ℕ} (λ l. big 4 n ++ l) (flat-four ns)
+
+pub flat-rows : (in-bytes : Bool) (ns : List ℕ) → flat (coded in-bytes) ns ≡ rowsOf in-bytes ns
+flat-rows true ns = flat-four ns
+flat-rows false ns = flat-one ns
 
 -- laid behind what was written before
 laid-behind : (front before : List ℕ) (w : ℕ) (bs : List ℕ) → length front ≡ w

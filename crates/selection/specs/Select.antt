@@ -1,11 +1,13 @@
 -- What a selection answers, and what it leaves in the rows and in the room.
 use mathlib.Core.Path.{_≡_}
 use Prim.Native.Nat.{ℕ, _*_, _/_, _≤_}
-use mathlib.Core.List.{List, [], _++_}
+use mathlib.Core.Bool.{Bool, cond}
+use mathlib.Core.List.{List, [], _∷_, _++_}
 use lib.ListN.{length, drop}
 use lib.Dec.{leb}
 use Rattle.rules.specs.Numbers.{listMost, longAnswer, number, Read, got, refused, need, andThen}
-use Rattle.rules.specs.Answers.{Answer, selected, selectLeft}
+use Rattle.rules.specs.Bytes.{big}
+use Rattle.rules.specs.Answers.{Answer, selected, rowBytes, selectLeft}
 use Rattle.selection.specs.declared.select.Selected.{Selected}
 use Rattle.selection.specs.declared.select.Selected.the-variants.{Refused, Chosen}
 
@@ -17,6 +19,19 @@ listed (refused r) = []
 -- with room for n numbers: 18 comes after all other refusals
 abbrev pub within : ℕ → Read (List ℕ) → Read (List ℕ)
 within n o = andThen o (λ ns. need (leb (length ns) n) longAnswer (got ns))
+
+-- ---- rows of either kind
+
+-- one number, and all numbers, as the rows hold them
+abbrev pub coded : Bool → ℕ → List ℕ
+coded in-bytes n = cond in-bytes (big 4 n) (n ∷ [])
+
+abbrev pub rowsOf : Bool → List ℕ → List ℕ
+rowsOf in-bytes ns = cond in-bytes (rowBytes ns) ns
+
+-- which of the two are filled
+abbrev pub filled : Bool → List ℕ → List ℕ → List ℕ
+filled in-bytes rows bytes = cond in-bytes bytes rows
 
 -- ---- rows of numbers
 

@@ -4,6 +4,7 @@ use super::ask::is_chosen;
 use super::ask::prepare;
 use entries::slots::SLOTS;
 use lists::check_list;
+use names::HEADER;
 use names::LONG_ANSWER;
 use names::SELECTION_DEPTH;
 use numbers::put_big4;
@@ -14,16 +15,16 @@ use stretches::clear;
 ghost use mathlib.Core.Path.{_≡_};
 ghost use Prim.Native.Nat.{_+_, _≤_};
 ghost use mathlib.Core.Bool.{true, cond};
-ghost use mathlib.Core.List.{[], _∷_, _++_};
+ghost use mathlib.Core.List.{[], _++_};
 ghost use lib.Dec.{leb};
 ghost use lib.ListN.{length, drop};
-ghost use Rattle.rules.specs.Bytes.{big, every, each};
+ghost use Rattle.rules.specs.Bytes.{every, each};
 ghost use Rattle.rules.specs.Reading.{numberOf};
 ghost use Rattle.rules.specs.Lists.{isRecord, recordOf};
 ghost use Rattle.rules.specs.Matching.{bit};
-ghost use Rattle.rules.specs.Answers.{selected, rowBytes};
+ghost use Rattle.rules.specs.Answers.{selected};
 ghost use Rattle.numbers.specs.Laid.{Put};
-ghost use Rattle.selection.specs.Select.{listed, Selects, SelectsBytes};
+ghost use Rattle.selection.specs.Select.{listed, coded, rowsOf, filled, Selects, SelectsBytes};
 
 // A refusal by its number, or how many records were chosen.
 pub enum Selected {
@@ -73,7 +74,7 @@ fn count(query: &[u8], list: &[u8]) -> usize
     let mut n: usize = 0;
     let mut t = list;
     while t.len() > 0 {
-        let from = list.len() - t.len() + 3;
+        let from = list.len() - t.len() + HEADER;
         n += one(is_chosen(query, body(t), from, plan, &wanted, &mut slots, &mut row));
         let u = rest(t);
         t = u;
@@ -95,25 +96,30 @@ fn fits(query: &[u8], list: &[u8], n: usize) -> bool
 // The number of a list's first record.
 const FIRST: u32 = 0;
 
-// ---- rows of 32-bit numbers
+// ---- rows of either kind: `in_bytes` says which of the two are filled, and the caller lends empty ones for the others
 
 // The number i goes to w where y is true; the answer is where the next one goes.
-fn put(rows: &mut [u32], w: usize, i: u32, y: bool) -> usize
-    requires { ⌜ w + length (cond y (i ∷ []) []) ≤ length (now rows) ⌝ }
-    ensures { λ r. ⌜ Put (now (rows .entry)) w (cond y (i ∷ []) []) r (now (rows .exit)) ⌝ }
+fn put(rows: &mut [u32], bytes: &mut [u8], in_bytes: bool, w: usize, i: u32, y: bool) -> usize
+    requires { ⌜ w + length (cond y (coded in_bytes i) []) ≤ length (filled in_bytes (now rows) (now bytes)) ⌝ }
+    ensures { λ r. ⌜ Put (filled in_bytes (now (rows .entry)) (now (bytes .entry))) w (cond y (coded in_bytes i) []) r
+        (filled in_bytes (now (rows .exit)) (now (bytes .exit))) ⌝ }
 {
-    if y {
-        rows[w] = i;
-        w + 1
-    } else {
-        w
+    if !y {
+        return w;
     }
+    if in_bytes {
+        return put_big4(bytes, w, i);
+    }
+    rows[w] = i;
+    w + 1
 }
 
-fn fill(query: &[u8], list: &[u8], rows: &mut [u32]) -> usize
-    requires { ⌜ (numberOf (selected (now query) (now list)) ≡ 0) × (length (listed (selected (now query) (now list))) ≤ length (now rows)) ⌝ }
-    ensures { λ r. ⌜ (r ≡ length (listed (selected (now (query .entry)) (now (list .entry)))))
-        × (now (rows .exit) ≡ listed (selected (now (query .entry)) (now (list .entry))) ++ drop r (now (rows .entry))) ⌝ }
+fn fill(query: &[u8], list: &[u8], rows: &mut [u32], bytes: &mut [u8], in_bytes: bool) -> usize
+    requires { ⌜ (numberOf (selected (now query) (now list)) ≡ 0)
+        × (length (rowsOf in_bytes (listed (selected (now query) (now list)))) ≤ length (filled in_bytes (now rows) (now bytes))) ⌝ }
+    ensures { λ r. ⌜ (r ≡ length (rowsOf in_bytes (listed (selected (now (query .entry)) (now (list .entry))))))
+        × (filled in_bytes (now (rows .exit)) (now (bytes .exit))
+        ≡ rowsOf in_bytes (listed (selected (now (query .entry)) (now (list .entry)))) ++ drop r (filled in_bytes (now (rows .entry)) (now (bytes .entry)))) ⌝ }
 {
     let mut row = [0u64; SELECTION_DEPTH];
     let mut slots = [0u16; SLOTS];
@@ -123,15 +129,17 @@ fn fill(query: &[u8], list: &[u8], rows: &mut [u32]) -> usize
     let mut i = FIRST;
     let mut t = list;
     while t.len() > 0 {
-        let from = list.len() - t.len() + 3;
+        let from = list.len() - t.len() + HEADER;
         let y = is_chosen(query, body(t), from, plan, &wanted, &mut slots, &mut row);
-        w = put(rows, w, i, y);
+        w = put(rows, bytes, in_bytes, w, i, y);
         i += 1;
         let u = rest(t);
         t = u;
     }
     w
 }
+
+// ---- rows of 32-bit numbers
 
 pub fn select(query: &[u8], list: &[u8], rows: &mut [u32]) -> Selected
     ensures { λ r. ⌜ Selects (now (query .entry)) (now (list .entry)) (now (rows .entry)) (now (rows .exit)) r ⌝ }
@@ -143,41 +151,12 @@ pub fn select(query: &[u8], list: &[u8], rows: &mut [u32]) -> Selected
     if !fits(query, list, rows.len()) {
         return Selected::Refused(LONG_ANSWER);
     }
-    let k = fill(query, list, rows);
+    let mut none = [0u8; 0];
+    let k = fill(query, list, rows, &mut none, false);
     Selected::Chosen(k)
 }
 
 // ---- rows of bytes: four for each number, big-endian, as everything stored is
-
-fn put_bytes(rows: &mut [u8], w: usize, i: u32, y: bool) -> usize
-    requires { ⌜ w + length (cond y (big 4 i) []) ≤ length (now rows) ⌝ }
-    ensures { λ r. ⌜ Put (now (rows .entry)) w (cond y (big 4 i) []) r (now (rows .exit)) ⌝ }
-{
-    if y { put_big4(rows, w, i) } else { w }
-}
-
-fn fill_bytes(query: &[u8], list: &[u8], rows: &mut [u8]) -> usize
-    requires { ⌜ (numberOf (selected (now query) (now list)) ≡ 0) × (length (rowBytes (listed (selected (now query) (now list)))) ≤ length (now rows)) ⌝ }
-    ensures { λ r. ⌜ (r ≡ length (rowBytes (listed (selected (now (query .entry)) (now (list .entry))))))
-        × (now (rows .exit) ≡ rowBytes (listed (selected (now (query .entry)) (now (list .entry)))) ++ drop r (now (rows .entry))) ⌝ }
-{
-    let mut row = [0u64; SELECTION_DEPTH];
-    let mut slots = [0u16; SLOTS];
-    let mut wanted = [0u8; SLOTS];
-    let plan = prepare(query, &mut wanted, &slots, &mut row);
-    let mut w: usize = 0;
-    let mut i = FIRST;
-    let mut t = list;
-    while t.len() > 0 {
-        let from = list.len() - t.len() + 3;
-        let y = is_chosen(query, body(t), from, plan, &wanted, &mut slots, &mut row);
-        w = put_bytes(rows, w, i, y);
-        i += 1;
-        let u = rest(t);
-        t = u;
-    }
-    w
-}
 
 // The call of programs in other languages. It needs no room, and clears what it is lent.
 pub fn select_bytes(query: &[u8], list: &[u8], rows: &mut [u8], room: &mut [u8]) -> Selected
@@ -191,6 +170,7 @@ pub fn select_bytes(query: &[u8], list: &[u8], rows: &mut [u8], room: &mut [u8])
     if !fits(query, list, rows.len() / 4) {
         return Selected::Refused(LONG_ANSWER);
     }
-    let w = fill_bytes(query, list, rows);
+    let mut none = [0u32; 0];
+    let w = fill(query, list, &mut none, rows, true);
     Selected::Chosen(w / 4)
 }

@@ -294,10 +294,15 @@ cleared s out room h = rw (le-leb rewriteRoom (length room) h) (by (leb (length 
     by true = refl
     by false = refl
 
+-- what is left of l, with another room
+abbrev told : Left → List ℕ → Left
+told l u = record { answer = l .answer; output = l .output; room = u }
+
 pub whole-left : (s out room : List ℕ) → rewriteRoom ≤ length room → (r : Shown) (t out′ room′ : List ℕ) → leftOf r out′ [] ≡ delivered t out [] → t ≡ showText s
     → room′ ≡ zeros room → leftOf r out′ room′ ≡ showLeft s out room
 whole-left s out room h r t out′ room′ D e z =
-    ap (λ (x : Left). record { answer = x .answer; output = x .output; room = room′ }) D ∙ rw (e, z) (cleared s out room h)
+    ap (λ (l : Left). told l room′) D ∙ ap (λ (u : List ℕ). told (delivered u out []) room′) e
+    ∙ ap (told (delivered (showText s) out [])) z ∙ cleared s out room h
 
 pub short-left : (s out room room′ : List ℕ) → length room < rewriteRoom → room′ ≡ zeros room → leftOf (shown.Refused 32) out room′ ≡ showLeft s out room
 unfolding showLeft call

@@ -6,6 +6,7 @@ use entries::entry::text;
 use entries::slots::SLOTS;
 use entries::slots::hash;
 use names::FIELD_TAG;
+use names::POSITION_BYTES;
 use names::TEXT_TAG;
 use names::WORD_TAG;
 use parts::part::body;
@@ -74,8 +75,8 @@ fn look_behind(wanted: &mut [u8], f: &[u8], t: &[u8]) -> bool
         return true;
     }
     let w = body(t);
-    if w.len() >= 4 {
-        mark(wanted, hash(f, &w[4..]));
+    if w.len() >= POSITION_BYTES {
+        mark(wanted, hash(f, &w[POSITION_BYTES..]));
     }
     false
 }

@@ -6,9 +6,10 @@ use borrow.Author.Needs.{needs}
 use Rattle.rules.proofs.choosing.Entries as entries
 use Rattle.rules.proofs.stored.Parts as parts
 use Rattle.rules.proofs.Bools as bools
-use Rattle.rules.specs.Lists.{isValue, isFieldWith}
-use Rattle.rules.specs.Reading.{isWord}
+use Rattle.rules.specs.Lists.{isFieldWith}
 use Rattle.rules.specs.Query.{whole, float}
+use Rattle.rules.specs.Numbers.{placeTag, wholeTag, floatTag}
+use Rattle.lists.specs.List.{isHeld}
 use Rattle.lists.proofs.is_entry.Statement.{statement}
 use Rattle.lists.proofs.is_entry.Tie as tie
 
@@ -27,20 +28,20 @@ shared-slice-read-match c = omega (arith, parts.whole-le _ (bools.told-yes (c .b
 is-place-requires : tie.Need-is-place-requires
 is-place-requires c κs = search needs
 
-is-valued-requires : tie.Need-is-valued-requires
-is-valued-requires c κs = search needs
+is-fielded-requires : tie.Need-is-fielded-requires
+is-fielded-requires c κs = search needs
 
-is-valued-requires-2 : tie.Need-is-valued-requires-2
-is-valued-requires-2 c κs = search needs
+is-fielded-requires-2 : tie.Need-is-fielded-requires-2
+is-fielded-requires-2 c κs = search needs
 
 returns-2 : tie.Need-returns-2
-returns-2 c = c .is-place .ensures ∙ ap (isFieldWith isWord) (c .before .before .before .body .ensures) ∙ sym (entries.place-entry (now (c .before .before .before .before .before .before .before .args .s)) (bools.told-yes (c .before .before .before .before .before .whole .ensures) (c .before .before .before .before .if1 .left)) (c .before .match .keys1))
+returns-2 c = c .is-place .ensures ∙ ap (isFieldWith (isHeld placeTag)) (c .before .before .before .body .ensures) ∙ sym (entries.place-entry (now (c .before .before .before .before .before .before .before .args .s)) (bools.told-yes (c .before .before .before .before .before .whole .ensures) (c .before .before .before .before .if1 .left)) (c .before .match .keys1))
 
 returns-3 : tie.Need-returns-3
-returns-3 c = c .is-valued .ensures ∙ ap (isFieldWith isValue) (c .before .before .before .body .ensures) ∙ sym (entries.value-entry (now (c .before .before .before .before .before .before .before .args .s)) whole (bools.told-yes (c .before .before .before .before .before .whole .ensures) (c .before .before .before .before .if1 .left)) (c .before .match .keys2))
+returns-3 c = c .is-fielded .ensures ∙ ap (isFieldWith (isHeld wholeTag)) (c .before .before .before .body .ensures) ∙ sym (entries.value-entry (now (c .before .before .before .before .before .before .before .args .s)) whole (bools.told-yes (c .before .before .before .before .before .whole .ensures) (c .before .before .before .before .if1 .left)) (c .before .match .keys2))
 
 returns-4 : tie.Need-returns-4
-returns-4 c = c .is-valued2 .ensures ∙ ap (isFieldWith isValue) (c .before .before .before .body .ensures) ∙ sym (entries.value-entry (now (c .before .before .before .before .before .before .before .args .s)) float (bools.told-yes (c .before .before .before .before .before .whole .ensures) (c .before .before .before .before .if1 .left)) (c .before .match .keys3))
+returns-4 c = c .is-fielded2 .ensures ∙ ap (isFieldWith (isHeld floatTag)) (c .before .before .before .body .ensures) ∙ sym (entries.value-entry (now (c .before .before .before .before .before .before .before .args .s)) float (bools.told-yes (c .before .before .before .before .before .whole .ensures) (c .before .before .before .before .if1 .left)) (c .before .match .keys3))
 
 returns-5 : tie.Need-returns-5
 returns-5 c = sym (entries.no-entry (now (c .before .before .before .before .before .before .args .s)) (c .match .rest .0 .0 .1) (c .match .rest .0 .1) (c .match .rest .1))
@@ -54,8 +55,8 @@ is-entry-spec =
     body-requires
     shared-slice-read-match
     is-place-requires
-    is-valued-requires
-    is-valued-requires-2
+    is-fielded-requires
+    is-fielded-requires-2
     returns-2
     returns-3
     returns-4

@@ -21,7 +21,7 @@ same-length : tie.Need-same-length
 same-length c = c .before .before .before .before .clear .kept .0
 
 returns : tie.Need-returns
-returns c = selections.refuse-bytes (now (c .before .before .before .before .before .before .before .before .before .before .args .query)) (now (c .before .before .before .before .before .before .before .before .before .before .args .list)) (now (c .before .before .before .before .before .before .before .before .before .before .args .rows)) (now (c .before .before .before .before .before .before .before .before .before .before .args .room)) (c .before .before .before .before .clear .ensures) (c .before .checked .result) (c .before .checked .ensures) (c .if1 .taken)
+returns c = let start = c .before .before .before .before .before .before .before .before .before .before in selections.refuse-bytes (now (start .args .query)) (now (start .args .list)) (now (start .args .rows)) (now (start .args .room)) (c .before .before .before .before .clear .ensures) (c .before .checked .result) (c .before .checked .ensures) (c .if1 .taken)
 
 fits-requires : tie.Need-fits-requires
 fits-requires c κs = (sym (c .before .checked .ensures) ∙ c .if1 .left)
@@ -30,19 +30,33 @@ same-length-2 : tie.Need-same-length-2
 same-length-2 c = c .before .before .before .before .before .before .clear .kept .0
 
 returns-2 : tie.Need-returns-2
-returns-2 c = selections.no-room-bytes (now (c .before .before .before .before .before .before .before .before .before .before .before .before .args .query)) (now (c .before .before .before .before .before .before .before .before .before .before .before .before .args .list)) (now (c .before .before .before .before .before .before .before .before .before .before .before .before .args .rows)) (now (c .before .before .before .before .before .before .before .before .before .before .before .before .args .room)) (c .before .before .before .before .before .before .clear .ensures) (sym (c .before .before .before .checked .ensures) ∙ c .before .before .if1 .left) (bools.told-no (c .before .fits2 .ensures) (c .if2 .taken))
+returns-2 c =
+    let start = c .before .before .before .before .before .before .before .before .before .before .before .before in
+    selections.no-room-bytes (now (start .args .query)) (now (start .args .list)) (now (start .args .rows)) (now (start .args .room)) (c .before .before .before .before .before .before .clear .ensures) (sym (c .before .before .before .checked .ensures) ∙ c .before .before .if1 .left) (bools.told-no (c .before .fits2 .ensures) (c .if2 .taken))
 
-fill-bytes-requires : tie.Need-fill-bytes-requires
-fill-bytes-requires c κs = ((sym (c .before .before .before .before .checked .ensures) ∙ c .before .before .before .if1 .left), selections.fits-bytes (listed (selected (now (c .before .before .before .before .before .before .before .before .before .before .before .before .before .args .query)) (now (c .before .before .before .before .before .before .before .before .before .before .before .before .before .args .list)))) (length (now (c .before .before .before .before .before .before .before .before .before .before .before .before .before .args .rows))) (bools.told-yes (c .before .before .fits2 .ensures) (c .before .if2 .left)))
+slice-aggregate-fill : tie.Need-slice-aggregate-fill
+slice-aggregate-fill c = search needs
+
+fill-requires : tie.Need-fill-requires
+fill-requires c κs =
+    let start = c .before .before .before .before .before .before .before .before .before .before .before .before .before .before in (
+      sym (c .before .before .before .before .before .checked .ensures) ∙ c .before .before .before .before .if1 .left,
+      selections.fits-bytes (listed (selected (now (start .args .query)) (now (start .args .list)))) (length (now (start .args .rows))) (bools.told-yes (c .before .before .before .fits2 .ensures) (c .before .before .if2 .left)),
+    )
 
 same-length-3 : tie.Need-same-length-3
-same-length-3 c = c .before .before .fill-bytes .kept .1 .1 .0
+same-length-3 c = c .before .before .before .fill .kept .1 .1 .1 .0
 
 same-length-4 : tie.Need-same-length-4
-same-length-4 c = c .before .before .before .before .before .before .before .before .before .before .clear .kept .0
+same-length-4 c = c .before .before .before .before .before .before .before .before .before .before .before .before .clear .kept .0
 
 returns-3 : tie.Need-returns-3
-returns-3 c = selections.choose-bytes (now (c .before .before .before .before .before .before .before .before .before .before .before .before .before .before .before .before .args .query)) (now (c .before .before .before .before .before .before .before .before .before .before .before .before .before .before .before .before .args .list)) (now (c .before .before .before .before .before .before .before .before .before .before .before .before .before .before .before .before .args .rows)) (now (c .before .before .before .before .before .before .before .before .before .before .before .before .before .before .before .before .args .room)) (c .before .before .before .before .before .before .before .before .before .before .clear .ensures) (sym (c .before .before .before .before .before .before .before .checked .ensures) ∙ c .before .before .before .before .before .before .if1 .left) _ (c .before .before .fill-bytes .result) (bools.told-yes (c .before .before .before .before .before .fits2 .ensures) (c .before .before .before .before .if2 .left)) (selections.listed-most (selections.ready (now (c .before .before .before .before .before .before .before .before .before .before .before .before .before .before .before .before .args .query)) (now (c .before .before .before .before .before .before .before .before .before .before .before .before .before .before .before .before .args .list)) (λ i. omega (arith, c .before .before .before .before .before .before .before .before .before .before .before .before .before .before .before .shared-slice-known .given i)) (sym (c .before .before .before .before .before .before .before .checked .ensures) ∙ c .before .before .before .before .before .before .if1 .left))) (c .before .before .fill-bytes .ensures .0) (c .before .before .fill-bytes .ensures .1)
+returns-3 c =
+    let start = c .before .before .before .before .before .before .before .before .before .before .before .before .before .before .before .before .before .before in
+    let write = c .before .before .before in
+    let check = c .before .before .before .before .before .before .before .before .before in
+    let first = c .before .before .before .before .before .before .before .before in
+    selections.choose-bytes (now (start .args .query)) (now (start .args .list)) (now (start .args .rows)) (now (start .args .room)) (c .before .before .before .before .before .before .before .before .before .before .before .before .clear .ensures) (sym (check .checked .ensures) ∙ first .if1 .left) _ (write .fill .result) (bools.told-yes (c .before .before .before .before .before .before .before .fits2 .ensures) (c .before .before .before .before .before .before .if2 .left)) (selections.listed-most (selections.ready (now (start .args .query)) (now (start .args .list)) (λ i. omega (arith, c .before .before .before .before .before .before .before .before .before .before .before .before .before .before .before .before .before .shared-slice-known .given i)) (sym (check .checked .ensures) ∙ first .if1 .left))) (write .fill .ensures .0) (write .fill .ensures .1)
 
 pub select-bytes-spec : {M : Type 1} → statement M
 select-bytes-spec =
@@ -55,7 +69,8 @@ select-bytes-spec =
     fits-requires
     same-length-2
     returns-2
-    fill-bytes-requires
+    slice-aggregate-fill
+    fill-requires
     same-length-3
     same-length-4
     returns-3)
