@@ -98,23 +98,23 @@ module _ (room ys : List ℕ) (a : ℕ) (low : a ≤ length room) where
 
 -- ---- a query of another form, nested in the first
 
-pub record BoostAt (at : ℕ) (room : List ℕ) (q : Query) : Type 0 where
-  pub bits : ℕ
+-- the one query in it, behind k bytes
+pub record InnerAt (k at : ℕ) (room : List ℕ) (q : Query) : Type 0 where
   pub inner : Query
-  pub is : q ≡ boost bits inner
-  pub read : ofBig (take 4 (drop (at + 3) room)) ≡ bits
-  pub low : at + 10 ≤ length room
-  pub here : Is (drop (at + 7) room) inner
-  pub size : bulk q ≡ 7 + bulk inner
+  pub low : at + k + 3 ≤ length room
+  pub here : Is (drop (at + k) room) inner
+  pub size : bulk q ≡ k + bulk inner
   pub count : clauseCount q ≡ clauseCount inner
 
+pub record BoostAt (at : ℕ) (room : List ℕ) (q : Query) : Type 0 where
+  pub bits : ℕ
+  pub nested : InnerAt 7 at room q
+  pub is : q ≡ boost bits (nested .inner)
+  pub read : ofBig (take 4 (drop (at + 3) room)) ≡ bits
+
 pub record ScoreAt (at : ℕ) (room : List ℕ) (q : Query) : Type 0 where
-  pub inner : Query
-  pub is : q ≡ constantScore inner
-  pub low : at + 6 ≤ length room
-  pub here : Is (drop (at + 3) room) inner
-  pub size : bulk q ≡ 3 + bulk inner
-  pub count : clauseCount q ≡ clauseCount inner
+  pub nested : InnerAt 3 at room q
+  pub is : q ≡ constantScore (nested .inner)
 
 pub record BooleanAt (at : ℕ) (room : List ℕ) (q : Query) : Type 0 where
   pub least : ℕ
@@ -146,6 +146,33 @@ module _ {at : ℕ} {room : List ℕ} (R : Room at room) where
   read-at : (n k : ℕ) → ofBig (take n (within (at + k) (length room) room)) ≡ ofBig (take n (drop (at + k) room))
   read-at n k = ap (λ (l : List ℕ). ofBig (take n l)) (cut-from (at + k) room)
 
+  -- ---- the one query in it
+
+  module _ {k : ℕ} (N : InnerAt k at room (R .query)) where
+    inner-lent : Is (drop at (within k (length room) room)) (N .inner)
+    inner-lent = record { valid = N .here .valid; form = N .here .form ∙ sym (lent-drop room k at) }
+
+    inner-room : Room at (within k (length room) room)
+    inner-room = record { query = N .inner; is = inner-lent; fits = omega (arith, R .fits, N .count); small = omega (arith, R .small, N .size) }
+
+    -- the stretch from k on came back as ys
+    module _ {n : ℕ} {ys : List ℕ} (T : (q : Query) → Is (drop at (within k (length room) room)) q → Stands 0 (within k (length room) room) n (encode (rewriteOnce q)) ys) where
+      inner-stands : Stands k room n (encode (rewriteOnce (N .inner))) (returned k room ys)
+      inner-stands = let l = N .low in returned-stands room ys k (omega arith) (T (N .inner) inner-lent)
+
+      inner-is : Is (take n (drop k (returned k room ys))) (rewriteOnce (N .inner))
+      inner-is = record { valid = valid-once (N .inner) (N .here .valid); form = sym (inner-stands .there) }
+
+      inner-inside : Inner k n (returned k room ys)
+      inner-inside =
+          let b = once-bulk (N .inner) in
+          record {
+            query = rewriteOnce (N .inner);
+            is = inner-is;
+            fits = omega (arith, inner-stands .size, inner-stands .long, R .fits, N .size, N .count, inside, bulk-is (R .query));
+            small = omega (arith, inner-stands .size, R .small, N .size);
+          }
+
   -- ---- a phrase
 
   module _ (h : getD room at 0 ≡ 2) where
@@ -176,13 +203,15 @@ module _ {at : ℕ} {room : List ℕ} (R : Room at room) where
       let i = as-form (F .2) in
       record {
         bits = F .0;
-        inner = F .1;
+        nested = record {
+          inner = F .1;
+          low = omega (arith, ap length (i .form), length-drop at room, length-encode (F .1));
+          here = record { valid = i .valid .1; form = ap (drop 7) (i .form) ∙ drop-drop 7 at room };
+          size = ap bulk (F .2);
+          count = ap clauseCount (F .2);
+        };
         is = F .2;
         read = ap (λ (l : List ℕ). ofBig (take 4 l)) (sym (drop-drop 3 at room) ∙ ap (drop 3) (sym (i .form))) ∙ read-big 4 (F .0) (boost-below (F .0) (i .valid .0));
-        low = omega (arith, ap length (i .form), length-drop at room, length-encode (F .1));
-        here = record { valid = i .valid .1; form = ap (drop 7) (i .form) ∙ drop-drop 7 at room };
-        size = ap bulk (F .2);
-        count = ap clauseCount (F .2);
       }
 
   module _ (h : getD room at 0 ≡ 4) where
@@ -190,16 +219,13 @@ module _ {at : ℕ} {room : List ℕ} (R : Room at room) where
     B = boost-at h
 
     pub boost-low : at + 10 ≤ length room
-    boost-low = B .low
+    boost-low = let l = B .nested .low in omega arith
 
     pub boost-room-one : Room (at + 7) room
-    boost-room-one = record { query = B .inner; is = B .here; fits = omega (arith, R .fits, B .count); small = omega (arith, R .small, B .size) }
-
-    boost-lent : Is (drop at (within 7 (length room) room)) (B .inner)
-    boost-lent = record { valid = B .here .valid; form = B .here .form ∙ sym (lent-drop room 7 at) }
+    boost-room-one = let N = B .nested in record { query = N .inner; is = N .here; fits = omega (arith, R .fits, N .count); small = omega (arith, R .small, N .size) }
 
     pub boost-room : Room at (within 7 (length room) room)
-    boost-room = record { query = B .inner; is = boost-lent; fits = omega (arith, R .fits, B .count); small = omega (arith, R .small, B .size) }
+    boost-room = inner-room (B .nested)
 
     module _ (b : ℕ) (eb : b ≡ ofBig (take 4 (within (at + 3) (length room) room))) (o : Bool) (eo : o ≡ isOne (widened b)) where
       test : isOne (widened (B .bits)) ≡ o
@@ -209,25 +235,12 @@ module _ {at : ℕ} {room : List ℕ} (R : Room at room) where
           → (q : Query) → Is (drop at room) q → Stands 0 room r (encode (rewriteOnce q)) room′
       unfolding rewriteOnce
       boost-one t {r} {room′} S =
-          for-all (subst (λ (q : Query). Stands 0 room r (encode (rewriteOnce q)) room′) (sym (B .is)) (rw (test ∙ t) (S (B .inner) (B .here))))
+          for-all (subst (λ (q : Query). Stands 0 room r (encode (rewriteOnce q)) room′) (sym (B .is)) (rw (test ∙ t) (S (B .nested .inner) (B .nested .here))))
 
     -- the stretch from 7 on came back as ys
     module _ {n : ℕ} {ys : List ℕ} (T : (q : Query) → Is (drop at (within 7 (length room) room)) q → Stands 0 (within 7 (length room) room) n (encode (rewriteOnce q)) ys) where
-      S : Stands 7 room n (encode (rewriteOnce (B .inner))) (returned 7 room ys)
-      S = let l = B .low in returned-stands room ys 7 (omega arith) (T (B .inner) boost-lent)
-
-      boost-is : Is (take n (drop 7 (returned 7 room ys))) (rewriteOnce (B .inner))
-      boost-is = record { valid = valid-once (B .inner) (B .here .valid); form = sym (S .there) }
-
       pub boost-inside : Inner 7 n (returned 7 room ys)
-      boost-inside =
-          let b = once-bulk (B .inner) in
-          record {
-            query = rewriteOnce (B .inner);
-            is = boost-is;
-            fits = omega (arith, S .size, S .long, R .fits, B .size, B .count, inside, bulk-is (R .query));
-            small = omega (arith, S .size, R .small, B .size);
-          }
+      boost-inside = inner-inside (B .nested) T
 
       pub boost-done : (b : ℕ) → b ≡ ofBig (take 4 (within (at + 3) (length room) room)) → (o : Bool) → o ≡ isOne (widened b) → o ≡ false → {r : ℕ} {room₂ : List ℕ}
           → ((q : Query) → Is (take n (drop 7 (returned 7 room ys))) q → Stands 0 (returned 7 room ys) r (encode (boosted b q)) room₂)
@@ -235,9 +248,9 @@ module _ {at : ℕ} {room : List ℕ} (R : Room at room) where
       unfolding rewriteOnce
       boost-done b eb o eo f {r} {room₂} U =
           let e = eb ∙ read-at 4 3 ∙ B .read in
-          let X = stands-over S (U (rewriteOnce (B .inner)) boost-is) (omega arith) in
+          let X = stands-over (inner-stands (B .nested) T) (U (rewriteOnce (B .nested .inner)) (inner-is (B .nested) T)) (omega arith) in
           for-all (subst (λ (q : Query). Stands 0 room r (encode (rewriteOnce q)) room₂) (sym (B .is))
-          (rw (test b eb o eo ∙ f) (subst (λ (x : ℕ). Stands 0 room r (encode (boosted x (rewriteOnce (B .inner)))) room₂) e X)))
+          (rw (test b eb o eo ∙ f) (subst (λ (x : ℕ). Stands 0 room r (encode (boosted x (rewriteOnce (B .nested .inner)))) room₂) e X)))
 
   -- ---- a constant score
 
@@ -247,12 +260,14 @@ module _ {at : ℕ} {room : List ℕ} (R : Room at room) where
       let F = score-form (R .query) (sym tag-here ∙ h) in
       let i = as-form (F .1) in
       record {
-        inner = F .0;
+        nested = record {
+          inner = F .0;
+          low = omega (arith, ap length (i .form), length-drop at room, length-encode (F .0));
+          here = record { valid = i .valid; form = ap (drop 3) (i .form) ∙ drop-drop 3 at room };
+          size = ap bulk (F .1);
+          count = ap clauseCount (F .1);
+        };
         is = F .1;
-        low = omega (arith, ap length (i .form), length-drop at room, length-encode (F .0));
-        here = record { valid = i .valid; form = ap (drop 3) (i .form) ∙ drop-drop 3 at room };
-        size = ap bulk (F .1);
-        count = ap clauseCount (F .1);
       }
 
   module _ (h : getD room at 0 ≡ 5) where
@@ -260,38 +275,23 @@ module _ {at : ℕ} {room : List ℕ} (R : Room at room) where
     C = score-at h
 
     pub score-low : at + 6 ≤ length room
-    score-low = C .low
-
-    score-lent : Is (drop at (within 3 (length room) room)) (C .inner)
-    score-lent = record { valid = C .here .valid; form = C .here .form ∙ sym (lent-drop room 3 at) }
+    score-low = let l = C .nested .low in omega arith
 
     pub score-room : Room at (within 3 (length room) room)
-    score-room = record { query = C .inner; is = score-lent; fits = omega (arith, R .fits, C .count); small = omega (arith, R .small, C .size) }
+    score-room = inner-room (C .nested)
 
     -- the stretch from 3 on came back as ys
     module _ {n : ℕ} {ys : List ℕ} (T : (q : Query) → Is (drop at (within 3 (length room) room)) q → Stands 0 (within 3 (length room) room) n (encode (rewriteOnce q)) ys) where
-      S₃ : Stands 3 room n (encode (rewriteOnce (C .inner))) (returned 3 room ys)
-      S₃ = let l = C .low in returned-stands room ys 3 (omega arith) (T (C .inner) score-lent)
-
-      score-is : Is (take n (drop 3 (returned 3 room ys))) (rewriteOnce (C .inner))
-      score-is = record { valid = valid-once (C .inner) (C .here .valid); form = sym (S₃ .there) }
-
       pub score-inside : Inner 3 n (returned 3 room ys)
-      score-inside =
-          let b = once-bulk (C .inner) in
-          record {
-            query = rewriteOnce (C .inner);
-            is = score-is;
-            fits = omega (arith, S₃ .size, S₃ .long, R .fits, C .size, C .count, inside, bulk-is (R .query));
-            small = omega (arith, S₃ .size, R .small, C .size);
-          }
+      score-inside = inner-inside (C .nested) T
 
       pub score-done : {r : ℕ} {room₂ : List ℕ}
           → ((q : Query) → Is (take n (drop 3 (returned 3 room ys))) q → Stands 0 (returned 3 room ys) r (encode (scored q)) room₂)
           → (q : Query) → Is (drop at room) q → Stands 0 room r (encode (rewriteOnce q)) room₂
       unfolding rewriteOnce
       score-done {r} {room₂} U =
-          for-all (subst (λ (q : Query). Stands 0 room r (encode (rewriteOnce q)) room₂) (sym (C .is)) (stands-over S₃ (U (rewriteOnce (C .inner)) score-is) (omega arith)))
+          for-all (subst (λ (q : Query). Stands 0 room r (encode (rewriteOnce q)) room₂) (sym (C .is)) (stands-over (inner-stands (C .nested) T)
+          (U (rewriteOnce (C .nested .inner)) (inner-is (C .nested) T)) (omega arith)))
 
   -- ---- a Boolean
 
