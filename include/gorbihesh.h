@@ -72,7 +72,9 @@ enum gorbihesh_operator { GORBIHESH_OR = 0, GORBIHESH_AND = 1 };
 enum gorbihesh_analyzer {
     GORBIHESH_WHITESPACE = 1, /* cuts at blanks */
     GORBIHESH_SIMPLE = 2,     /* runs of letters, in lower case */
-    GORBIHESH_KEYWORD = 3     /* the text whole */
+    GORBIHESH_KEYWORD = 3,    /* the text whole */
+    GORBIHESH_WORDS = 4,      /* words as UAX #29 cuts them, in lower case: don't, 3.5, rack_7 */
+    GORBIHESH_ENGLISH = 5     /* the same without 33 stop words, whose positions stay empty */
 };
 
 /* ---- refusals: each is given exactly when its line says */

@@ -47,6 +47,8 @@ class Analyzer(IntEnum):
     WHITESPACE = 1  # cuts at blanks
     SIMPLE = 2  # runs of letters, in lower case
     KEYWORD = 3  # the text whole
+    WORDS = 4  # words as UAX #29 cuts them, in lower case
+    ENGLISH = 5  # the same without 33 stop words, whose positions stay empty
 
 
 class Refusal(IntEnum):

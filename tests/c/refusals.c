@@ -68,8 +68,8 @@ static void setups(void) {
     s = plain_setup();
     s.analyzer = 0;
     setup_refused("analyzer 0", s);
-    s.analyzer = 4;
-    setup_refused("analyzer 4", s);
+    s.analyzer = GORBIHESH_ENGLISH + 1;
+    setup_refused("analyzer 6", s);
     s = plain_setup();
     s.field = TEXT("\x80");
     setup_refused("a field that is not ASCII", s);
@@ -80,8 +80,8 @@ static void setups(void) {
     setup_refused("an entry of one byte", s);
     s.fields = TEXT("\1\2g");
     setup_refused("a name that breaks off", s);
-    s.fields = TEXT("\4\1g");
-    setup_refused("an entry with analyzer 4", s);
+    s.fields = TEXT("\6\1g");
+    setup_refused("an entry with analyzer 6", s);
     s.fields = TEXT("\1\1\x80");
     setup_refused("an entry that is not ASCII", s);
     s.fields = TEXT("\1\1a\1\1a\1\1a\1\1a\1\1a\1\1a\1\1a\1\1a\1\1a");

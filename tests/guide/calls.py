@@ -6,7 +6,7 @@ import sys
 import tempfile
 
 OR, AND = 0, 1
-WHITESPACE, SIMPLE, KEYWORD = 1, 2, 3
+WHITESPACE, SIMPLE, KEYWORD, WORDS = 1, 2, 3, 4
 ARCHIVE = os.environ.get("ARCHIVE") or "target/lib/libgorbihesh.a"
 OUT = "target/tests/guide"
 SITE = "examples/site"

@@ -88,9 +88,9 @@ def foreign():
 
 
 def analyzers():
-    rows = pages.with_columns(text(), "Typed", "whitespace", "simple", "keyword")
+    rows = pages.with_columns(text(), "Typed", "whitespace", "simple", "keyword", "words")
     told = []
-    for name, number in (("whitespace", calls.WHITESPACE), ("simple", calls.SIMPLE), ("keyword", calls.KEYWORD)):
+    for name, number in (("whitespace", calls.WHITESPACE), ("simple", calls.SIMPLE), ("keyword", calls.KEYWORD), ("words", calls.WORDS)):
         told += readings(name, rows, analyzer=number, fields=b"")
     return told
 

@@ -23,6 +23,10 @@ pub enum Analyzer {
     Simple = 2,
     /// The text whole.
     Keyword = 3,
+    /// Words as UAX #29 cuts them, in lower case.
+    Words = 4,
+    /// The same without 33 stop words, whose positions stay empty.
+    English = 5,
 }
 
 /// How a selector is read: the field of clauses that name none, the analyzer of each field, and what joins

@@ -105,7 +105,13 @@ fn operators_and_analyzers_are_the_headers() {
     let numbers = |of| -> Vec<_> { members(of).iter().map(|m| (camel(m.0), m.1)).collect() };
     let own = [Operator::Or, Operator::And].map(|o| (format!("{o:?}"), o as u32));
     assert_eq!(numbers("gorbihesh_operator"), own);
-    let own = [Analyzer::Whitespace, Analyzer::Simple, Analyzer::Keyword];
+    let own = [
+        Analyzer::Whitespace,
+        Analyzer::Simple,
+        Analyzer::Keyword,
+        Analyzer::Words,
+        Analyzer::English,
+    ];
     let own = own.map(|a| (format!("{a:?}"), a as u32));
     assert_eq!(numbers("gorbihesh_analyzer"), own);
 }

@@ -8,10 +8,10 @@ use lib.Dec.{eqb}
 use lib.ListN.{length, take, drop, length-take, length-drop, drop-of-length-le}
 use lib.Seq.{take-all}
 use Rattle.rules.specs.Numbers.{chunkMost}
-use Rattle.rules.specs.Analysis.{front}
+use Rattle.rules.specs.Analysis.{front, isWords}
 use Rattle.rules.proofs.text.Pieces.{outside, front-nil, front-most, front-take}
 use Rattle.analysis.specs.Tokens.{byAnalyzer, inside, wanted, spanFrom, firstOf, startFrom, textFrom, Found}
-use Rattle.analysis.proofs.Steps.{text-most, whole-start, whole-text, every-inside, found}
+use Rattle.analysis.proofs.Steps.{whole-start, whole-text, every-inside, found}
 
 -- ---- analyzers that take a text whole, by the code's test
 
@@ -28,22 +28,12 @@ cut-first a r = pass (eqb a 1) (eqb a 2)
     pass false true h = refl
     pass false false h = absurd (true≢false h)
 
-module _ (a : ℕ) (s : List ℕ) (at : ℕ) where
-  -- past the end
-  past-start : length s ≤ at → startFrom (inside a) s at ≡ at
-  unfolding startFrom
-  past-start h =
-      let d : drop at s ≡ [] = drop-of-length-le s {i = at} h in
-      rw (d, front-nil (outside (inside a))) (omega arith)
-
-  pub past : length s ≤ at → Found a s at at 0
-  past h = let p = past-start h in found a s at at 0 (sym p) (omega (arith, text-most (inside a) a s at))
-
+module _ (a : ℕ) (s : List ℕ) (x : isWords a ≡ false) (at : ℕ) where
   pub whole : byAnalyzer a false false true ≡ true → Found a s at at (length s - at)
   whole h =
       let n = whole-not a h in
       let q = every-inside a (n .0) (n .1) in
-      found a s at at (length s - at) (sym (whole-start (inside a) q s at)) (rw (whole-text (inside a) q s at a (n .0) (n .1), length-drop))
+      found a s x at at (length s - at) (sym (whole-start (inside a) q s at)) (rw (whole-text (inside a) q s at a (n .0) (n .1), length-drop))
 
   pub skipped : spanFrom (wanted a false) s at (length s) ≡ startFrom (inside a) s at
   unfolding spanFrom wanted startFrom
@@ -53,9 +43,9 @@ module _ (a : ℕ) (s : List ℕ) (at : ℕ) where
       byAnalyzer a false false true ≡ false → Found a s at start (spanFrom (wanted a true) s start end - start)
   unfolding spanFrom wanted textFrom
   chunk start end p e w =
-      let x = drop start s in
-      let f = front (inside a) x in
+      let u = drop start s in
+      let f = front (inside a) u in
       let m : length (take (end - start) f) ≡ length (take chunkMost f) =
-      rw (length-take, length-take chunkMost f) (omega (arith, front-most (inside a) x, length-drop start s)) in
-      found a s at start (spanFrom (wanted a true) s start end - start) p
-      (rw (← p, cut-first a f w, front-take (inside a) (end - start) x, m) (omega arith))
+      rw (length-take, length-take chunkMost f) (omega (arith, front-most (inside a) u, length-drop start s)) in
+      found a s x at start (spanFrom (wanted a true) s start end - start) p
+      (rw (← p, cut-first a f w, front-take (inside a) (end - start) u, m) (omega arith))

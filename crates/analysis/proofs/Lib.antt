@@ -1,7 +1,10 @@
 pub mod Spans
 pub mod Steps
 pub mod Chunks
-pub mod Walks
-pub mod Words
 pub mod Spelling
+pub mod OneToken
+pub mod Keeping
 pub mod Only
+pub mod Bridges
+pub mod Seeking
+pub mod Packing

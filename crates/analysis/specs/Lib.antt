@@ -1,1 +1,3 @@
+pub mod Words
+pub mod Stops
 pub mod Tokens

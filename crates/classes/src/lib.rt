@@ -1,16 +1,31 @@
 // The classes of bytes: what a lent table says of a byte, and letters, gaps and capitals by comparison.
+use names::ASCII_MOST;
 ghost use mathlib.Core.Path.{_≡_};
 ghost use Prim.Native.Nat.{_<_};
 ghost use lib.ListN.{getD};
-ghost use Rattle.rules.specs.Analysis.{isLetter, isGap};
+ghost use Rattle.rules.specs.Analysis.{isLetter, isGap, classOf, classes};
 ghost use Rattle.rules.specs.Analysis.{lower as lowered};
 
-// The classes of an ASCII byte, by the lexer's table. A constant is laid out anew wherever it is read, so a loop names the table once and lends it.
+pub mod table;
+
+// The classes of an ASCII byte, by a table. A constant is laid out anew wherever it is read, so a loop names the table once and lends it.
 pub fn class_at(table: &[u8; 128], c: u8) -> u8
     requires { ⌜ c < 128 ⌝ }
     ensures { λ r. ⌜ r ≡ getD (now (table .entry)) c 0 ⌝ }
 {
     table[c as usize]
+}
+
+// The classes of any byte: those from 128 on have none.
+pub fn class_of(table: &[u8; 128], c: u8) -> u8
+    requires { ⌜ now table ≡ classes ⌝ }
+    ensures { λ r. ⌜ r ≡ classOf c ⌝ }
+{
+    if c <= ASCII_MOST {
+        table[c as usize]
+    } else {
+        0
+    }
 }
 
 // Letters and gaps are told by comparison: the analyzers ask one byte at a time and have no table at hand.

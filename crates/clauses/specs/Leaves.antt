@@ -1,4 +1,4 @@
--- Terms and phrases as the code measures and writes them: by the tokens' texts, one after the other.
+-- Terms and phrases as the code measures and writes them: by the tokens, one after the other.
 use mathlib.Core.Path.{_≡_}
 use Prim.Native.Nat.{ℕ, _+_}
 use mathlib.Core.List.{List, [], _∷_, _++_}
@@ -6,21 +6,21 @@ use lib.ListN.{length}
 use mathlib.Core.Bool.{Bool, true, false}
 use Rattle.rules.specs.Numbers.{Refusal, Read, fuzzyTerm, sloppyPhrase}
 use Rattle.rules.specs.Bytes.{part}
-use Rattle.rules.specs.Query.{Word, term}
+use Rattle.rules.specs.Query.{Word, word, term}
 use Rattle.rules.specs.Lexing.{Token, termKind, quotedKind}
 use Rattle.rules.specs.Setup.{Setup}
 use Rattle.rules.specs.Parsing.{Made, Found, termOf, phraseOf, plainAt, quotedAt}
 use Rattle.rules.specs.Stored.{encode}
 
 -- the bytes of all the texts, with `each` more for every one
-unfoldable pub tallied : ℕ → List (List ℕ) → ℕ
+unfoldable pub tallied : ℕ → List Word → ℕ
 tallied each [] = 0
-tallied each (t ∷ ts) = each + length t + tallied each ts
+tallied each (word p t ∷ ws) = each + length t + tallied each ws
 
 -- clauses of one kind, a term each
-unfoldable pub termRow : ℕ → List ℕ → List (List ℕ) → List ℕ
+unfoldable pub termRow : ℕ → List ℕ → List Word → List ℕ
 termRow tag f [] = []
-termRow tag f (t ∷ ts) = part tag (encode (term f t)) ++ termRow tag f ts
+termRow tag f (word p t ∷ ws) = part tag (encode (term f t)) ++ termRow tag f ws
 
 -- ---- a term, and with false a quoted text
 
@@ -42,6 +42,6 @@ leafAt false st ts f i = quotedAt st ts f i
 
 -- ---- the tokens of a text counted
 
-pub record Tallied (ts : List (List ℕ)) (each count bytes : ℕ) : Type 0 where
-  pub counted : count ≡ length ts
-  pub size : bytes ≡ tallied each ts
+pub record Tallied (ws : List Word) (each count bytes : ℕ) : Type 0 where
+  pub counted : count ≡ length ws
+  pub size : bytes ≡ tallied each ws

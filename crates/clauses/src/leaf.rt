@@ -20,14 +20,14 @@ ghost use mathlib.Core.Path.{_≡_};
 ghost use mathlib.Core.Bool.{true};
 ghost use mathlib.Core.List.{List, [], _∷_, _++_};
 ghost use Rattle.analysis.specs.Tokens.{OneWord};
-ghost use Prim.Native.Nat.{ℕ, _+_, _*_, _≤_, _<_};
+ghost use Prim.Native.Nat.{ℕ, _+_, _*_, _-_, _≤_, _<_};
 ghost use lib.ListN.{length};
 ghost use Rattle.rules.specs.Numbers.{textMost, fieldMost, wordTag};
 ghost use Rattle.rules.specs.Bytes.{part, big};
-ghost use Rattle.rules.specs.Query.{term, phrase, boolean};
+ghost use Rattle.rules.specs.Query.{word, term, phrase, boolean};
 ghost use Rattle.rules.specs.Stored.{encode, encodeWords};
-ghost use Rattle.rules.specs.Analysis.{tokenTexts, tokenize};
-ghost use Rattle.rules.specs.Parsing.{operatorKind, termClauses, termOf, phraseOf};
+ghost use Rattle.rules.specs.Analysis.{tokenize};
+ghost use Rattle.rules.specs.Parsing.{operatorKind, termClauses, termOf, fromFirst, phraseOf};
 ghost use Rattle.analysis.specs.Tokens.{spelled};
 ghost use Rattle.numbers.specs.Laid.{Put};
 ghost use Rattle.counted.specs.Kinds.{madeLength, madeBytes};
@@ -56,13 +56,14 @@ pub struct Tally {
 // The tokens of a text: how many there are, and their bytes, with `each` more for every token.
 fn count_tokens(text: &[u8], analyzer: u8, each: usize) -> Tally
     requires { ⌜ (each ≤ 44) × (length (now text) ≤ textMost) ⌝ }
-    ensures { λ r. ⌜ Tallied (tokenTexts analyzer (now (text .entry))) each (r .count) (r .bytes) ⌝ }
+    ensures { λ r. ⌜ Tallied (tokenize analyzer (now (text .entry))) each (r .count) (r .bytes) ⌝ }
 {
     let mut at: usize = 0;
+    let mut position: usize = 0;
     let mut count: usize = 0;
     let mut bytes: usize = 0;
     loop {
-        let t = tokens::next_token(text, analyzer, at);
+        let t = tokens::next_token(text, analyzer, at, position);
         if t.len == 0 {
             return Tally {
                 count: count,
@@ -72,6 +73,7 @@ fn count_tokens(text: &[u8], analyzer: u8, each: usize) -> Tally
         count += 1;
         bytes = bytes + each + t.len;
         at = t.start + t.len;
+        position = t.position + 1;
     }
 }
 
@@ -107,23 +109,37 @@ fn phrase_len(text: &[u8], analyzer: u8, field: usize) -> usize
     PHRASE_FRONT + field + t.bytes
 }
 
-// The text is one token: all of it to a keyword, and to the others where it is known to be a word.
-pub fn is_one(word: bool, analyzer: u8, text: &[u8]) -> bool
-    requires { ⌜ (word ≡ true → OneWord (now text)) ⌝ }
-    ensures { λ r. ⌜ (r ≡ true → tokenTexts analyzer (now (text .entry)) ≡ spelled analyzer (now (text .entry)) ∷ []) ⌝ }
+// A word that is not left out.
+fn is_one_word(known: bool, analyzer: u8, text: &[u8]) -> bool
+    requires { ⌜ (known ≡ true → OneWord (now text)) ⌝ }
+    ensures { λ r. ⌜ (r ≡ true → tokenize analyzer (now (text .entry)) ≡ word 0 (spelled analyzer (now (text .entry))) ∷ []) ⌝ }
+{
+    if known {
+        return !tokens::is_left_out(analyzer, text);
+    }
+    false
+}
+
+// The text is one token: all of it to a keyword, and to the others where it is known to be a word; English may leave it out.
+pub fn is_one(known: bool, analyzer: u8, text: &[u8]) -> bool
+    requires { ⌜ (known ≡ true → OneWord (now text)) ⌝ }
+    ensures { λ r. ⌜ (r ≡ true → tokenize analyzer (now (text .entry)) ≡ word 0 (spelled analyzer (now (text .entry))) ∷ []) ⌝ }
 {
     if analyzer == WHITESPACE_ANALYZER {
-        return word;
+        return known;
     }
     if analyzer == SIMPLE_ANALYZER {
-        return word;
+        return known;
+    }
+    if tokens::is_words(analyzer) {
+        return is_one_word(known, analyzer, text);
     }
     0 < text.len()
 }
 
 // How long the query of a term's text is, or of a quoted text. Where the text is known to be one token, nothing is counted.
 pub fn leaf_len(plain: bool, one: bool, text: &[u8], analyzer: u8, field: usize) -> usize
-    requires { ⌜ (field ≤ fieldMost) × (length (now text) ≤ textMost) × (one ≡ true → tokenTexts analyzer (now text) ≡ spelled analyzer (now text) ∷ []) ⌝ }
+    requires { ⌜ (field ≤ fieldMost) × (length (now text) ≤ textMost) × (one ≡ true → tokenize analyzer (now text) ≡ word 0 (spelled analyzer (now text)) ∷ []) ⌝ }
     ensures made { λ r. ⌜ ((o : ℕ) (f : List ℕ) → length f ≡ field → r ≡ madeLength (leafOf plain o f (tokenize analyzer (now (text .entry))))) ⌝ }
     ensures bound { λ r. ⌜ r ≤ 8 + 45 * length (now (text .entry)) ⌝ }
 {
@@ -179,13 +195,14 @@ fn put_word(out: &mut [u8], at: usize, position: u32, analyzer: u8, s: &[u8]) ->
 
 // A clause for each token of the text.
 fn put_clauses(out: &mut [u8], at: usize, tag: u8, field: &[u8], analyzer: u8, text: &[u8]) -> usize
-    requires { ⌜ (at + length (termRow tag (now field) (tokenTexts analyzer (now text))) ≤ length (now out)) × (length (now field) ≤ fieldMost) × (length (now text) ≤ textMost) ⌝ }
-    ensures { λ r. ⌜ Put (now (out .entry)) at (termRow tag (now (field .entry)) (tokenTexts analyzer (now (text .entry)))) r (now (out .exit)) ⌝ }
+    requires { ⌜ (at + length (termRow tag (now field) (tokenize analyzer (now text))) ≤ length (now out)) × (length (now field) ≤ fieldMost) × (length (now text) ≤ textMost) ⌝ }
+    ensures { λ r. ⌜ Put (now (out .entry)) at (termRow tag (now (field .entry)) (tokenize analyzer (now (text .entry)))) r (now (out .exit)) ⌝ }
 {
     let mut from: usize = 0;
+    let mut position: usize = 0;
     let mut w = at;
     loop {
-        let t = tokens::next_token(text, analyzer, from);
+        let t = tokens::next_token(text, analyzer, from, position);
         if t.len == 0 {
             return w;
         }
@@ -193,27 +210,44 @@ fn put_clauses(out: &mut [u8], at: usize, tag: u8, field: &[u8], analyzer: u8, t
         let end = start + t.len;
         w = put_clause(out, w, tag, field, analyzer, &text[start..end]);
         from = end;
+        position = t.position + 1;
     }
 }
 
-// A word for each token of the text, at positions from 0.
-fn put_words(out: &mut [u8], at: usize, analyzer: u8, text: &[u8]) -> usize
-    requires { ⌜ (at + length (encodeWords (tokenize analyzer (now text))) ≤ length (now out)) × (length (now text) ≤ textMost) ⌝ }
-    ensures { λ r. ⌜ Put (now (out .entry)) at (encodeWords (tokenize analyzer (now (text .entry)))) r (now (out .exit)) ⌝ }
+// How far a position is behind the first one.
+fn offset(position: usize, base: usize) -> u32
+    requires { ⌜ (base ≤ position) × (position ≤ textMost) ⌝ }
+    ensures { λ r. ⌜ r ≡ position - base ⌝ }
 {
+    (position - base) as u32
+}
+
+// A word for each token of the text, at positions from that of the first.
+fn put_words(out: &mut [u8], at: usize, analyzer: u8, text: &[u8]) -> usize
+    requires { ⌜ (at + length (encodeWords (fromFirst (tokenize analyzer (now text)))) ≤ length (now out)) × (length (now text) ≤ textMost) ⌝ }
+    ensures { λ r. ⌜ Put (now (out .entry)) at (encodeWords (fromFirst (tokenize analyzer (now (text .entry))))) r (now (out .exit)) ⌝ }
+{
+    let first = tokens::next_token(text, analyzer, 0, 0);
+    let base = first.position;
     let mut from: usize = 0;
+    let mut position: usize = 0;
     let mut w = at;
-    let mut position: u32 = 0;
     loop {
-        let t = tokens::next_token(text, analyzer, from);
+        let t = tokens::next_token(text, analyzer, from, position);
         if t.len == 0 {
             return w;
         }
         let start = t.start;
         let end = start + t.len;
-        w = put_word(out, w, position, analyzer, &text[start..end]);
-        position += 1;
+        w = put_word(
+            out,
+            w,
+            offset(t.position, base),
+            analyzer,
+            &text[start..end],
+        );
         from = end;
+        position = t.position + 1;
     }
 }
 
@@ -244,8 +278,8 @@ fn write_boolean(
 
 // A phrase of the tokens. Its header is laid last, when its length is known.
 fn write_phrase(field: &[u8], analyzer: u8, text: &[u8], out: &mut [u8], at: usize) -> usize
-    requires { ⌜ (at + length (encode (phrase (now field) (tokenize analyzer (now text)))) ≤ length (now out)) × (length (now field) ≤ fieldMost) × (length (now text) ≤ textMost) × (length (now out) ≤ 65000) ⌝ }
-    ensures { λ r. ⌜ Put (now (out .entry)) at (encode (phrase (now (field .entry)) (tokenize analyzer (now (text .entry))))) r (now (out .exit)) ⌝ }
+    requires { ⌜ (at + length (encode (phrase (now field) (fromFirst (tokenize analyzer (now text))))) ≤ length (now out)) × (length (now field) ≤ fieldMost) × (length (now text) ≤ textMost) × (length (now out) ≤ 65000) ⌝ }
+    ensures { λ r. ⌜ Put (now (out .entry)) at (encode (phrase (now (field .entry)) (fromFirst (tokenize analyzer (now (text .entry)))))) r (now (out .exit)) ⌝ }
 {
     let b = put_part(out, at + HEADER, FIELD_TAG, field);
     let w = put_words(out, b, analyzer, text);
@@ -265,19 +299,19 @@ pub fn write_text(
     out: &mut [u8],
     at: usize,
 ) -> usize
-    requires { ⌜ (HasRoom (leafOf plain operator (now field) (tokenize analyzer (now text))) at (length (now out))) × (length (now field) ≤ fieldMost) × (length (now text) ≤ textMost) × (length (now out) ≤ 65000) × (one ≡ true → tokenTexts analyzer (now text) ≡ spelled analyzer (now text) ∷ []) ⌝ }
+    requires { ⌜ (HasRoom (leafOf plain operator (now field) (tokenize analyzer (now text))) at (length (now out))) × (length (now field) ≤ fieldMost) × (length (now text) ≤ textMost) × (length (now out) ≤ 65000) × (one ≡ true → tokenize analyzer (now text) ≡ word 0 (spelled analyzer (now text)) ∷ []) ⌝ }
     ensures { λ r. ⌜ Put (now (out .entry)) at (madeBytes (leafOf plain operator (now (field .entry)) (tokenize analyzer (now (text .entry))))) r (now (out .exit)) ⌝ }
 {
     if one {
         return put_term(out, at, field, analyzer, text);
     }
-    let t = tokens::next_token(text, analyzer, 0);
+    let t = tokens::next_token(text, analyzer, 0, 0);
     if t.len == 0 {
         return at;
     }
     let start = t.start;
     let end = start + t.len;
-    let u = tokens::next_token(text, analyzer, end);
+    let u = tokens::next_token(text, analyzer, end, t.position + 1);
     if u.len == 0 {
         return put_term(out, at, field, analyzer, &text[start..end]);
     }

@@ -9,7 +9,8 @@ ghost use mathlib.Core.Path.{_≡_};
 ghost use mathlib.Core.Bool.{true};
 ghost use mathlib.Core.List.{[], _∷_};
 ghost use Prim.Native.Nat.{_≤_, _<_};
-ghost use Rattle.rules.specs.Analysis.{tokenTexts};
+ghost use Rattle.rules.specs.Query.{word};
+ghost use Rattle.rules.specs.Analysis.{tokenize};
 ghost use Rattle.analysis.specs.Tokens.{spelled};
 ghost use Rattle.row.specs.Row.{tokenAt};
 ghost use Rattle.clauses.specs.Measured.{Rowed};
@@ -47,7 +48,7 @@ pub fn clause_start(room: &[u8], n: usize, from: usize, analyzer: u8, i: usize) 
 // That the text of the token at i is known to be one token: nobody need look for more.
 pub fn one_at(room: &[u8], n: usize, i: usize, analyzer: u8) -> bool
     requires { ⌜ (Rowed (now room) n) × (i < n) ⌝ }
-    ensures { λ r. ⌜ (r ≡ true → tokenTexts analyzer (tokenAt (now (room .entry)) i .text) ≡ spelled analyzer (tokenAt (now (room .entry)) i .text) ∷ []) ⌝ }
+    ensures { λ r. ⌜ (r ≡ true → tokenize analyzer (tokenAt (now (room .entry)) i .text) ≡ word 0 (spelled analyzer (tokenAt (now (room .entry)) i .text)) ∷ []) ⌝ }
 {
     is_one(is_word_at(room, i), analyzer, text_at(room, i))
 }

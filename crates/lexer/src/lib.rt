@@ -1,4 +1,5 @@
 // The lexer: the whole text becomes a row of tokens over unescaped bytes, or is refused for its first fault from the left.
+use classes::table::CLASSES;
 use names::END_CLASS;
 use names::SPACE_CLASS;
 use names::TEXT_MOST;
@@ -19,7 +20,6 @@ ghost use Rattle.rules.specs.Lexing.{lex};
 ghost use Rattle.row.specs.Row.{roomLeast, entryAt, entry};
 ghost use Rattle.lexer.specs.Lexing.{answerOf, Row};
 
-mod table;
 mod tokens;
 
 pub enum Lexed {
@@ -45,7 +45,7 @@ pub fn lex(text: &[u8], room: &mut [u8]) -> Lexed
     ensures answer { λ r. ⌜ r ≡ answerOf (lex (now (text .entry))) ⌝ }
     ensures row { λ r. ⌜ Row (lex (now (text .entry))) (now (room .exit)) ⌝ }
 {
-    let table = table::CLASSES;
+    let table = CLASSES;
     let mut i = 0;
     let mut n: usize = 0;
     while i < text.len() {

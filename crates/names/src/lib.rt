@@ -49,6 +49,10 @@ pub const SIMPLE_ANALYZER: u8 = 2;
 
 pub const KEYWORD_ANALYZER: u8 = 3;
 
+pub const WORDS_ANALYZER: u8 = 4;
+
+pub const ENGLISH_ANALYZER: u8 = 5;
+
 // ---- bytes of the stored form: a part's header is a tag and a length of two bytes
 
 pub const HEADER: usize = 3;
@@ -157,13 +161,22 @@ pub const CARET_KIND: u8 = 11;
 
 pub const TILDE_KIND: u8 = 12;
 
-// ---- classes of bytes, as flags of the lexer's table
+// ---- classes of bytes, as flags of one table: what a text's end and its words ask. The higher ones are told by comparison.
 
 pub const SPACE_CLASS: u8 = 1;
 
 pub const END_CLASS: u8 = 2;
 
-pub const LETTER_CLASS: u8 = 4;
+// what joins two letters, and two digits, in a word
+pub const MID_LETTERS_CLASS: u8 = 4;
+
+pub const MID_NUMBERS_CLASS: u8 = 8;
+
+pub const UNDERSCORE_CLASS: u8 = 16;
+
+pub const DIGIT_CLASS: u8 = 32;
+
+pub const LETTER_CLASS: u8 = 64;
 
 // ---- patterns of floats with no sign, the sign, and the step from one exponent to the next: at 32 bits, then at 64
 

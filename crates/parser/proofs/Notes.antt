@@ -35,8 +35,8 @@ module _ {i a n : ℕ} {room after : List ℕ} (N : Renoted i a room after) (R :
 
 -- ---- what is noted is an analyzer
 
-pub analyzer-small : (a : ℕ) → isAnalyzer a ≡ true → a ≤ 3
-analyzer-small a e = leb→le a 3 (subst T (sym (and-r (leb 1 a) (leb a 3) e)) tt)
+pub analyzer-small : (a : ℕ) → isAnalyzer a ≡ true → a ≤ 5
+analyzer-small a e = leb→le a 5 (subst T (sym (and-r (leb 1 a) (leb a 5) e)) tt)
 
 pub among-analyzers : (a : ℕ) (es : List FieldEntry) (f : List ℕ) → isAnalyzer a ≡ true → all isFieldEntry es ≡ true → isAnalyzer (analyzerAmong a es f) ≡ true
 unfolding analyzerAmong all

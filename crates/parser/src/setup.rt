@@ -4,9 +4,9 @@ use fields::analyzer_of;
 use names::AND_OPERATOR;
 use names::ASCII_MOST;
 use names::COLON_KIND;
+use names::ENGLISH_ANALYZER;
 use names::ENTRIES_MOST;
 use names::FIELD_MOST;
-use names::KEYWORD_ANALYZER;
 use names::TERM_KIND;
 use names::WHITESPACE_ANALYZER;
 use row::kind_at;
@@ -38,7 +38,7 @@ fn is_analyzer(a: u8) -> bool
     if a < WHITESPACE_ANALYZER {
         return false;
     }
-    a <= KEYWORD_ANALYZER
+    a <= ENGLISH_ANALYZER
 }
 
 // FIELD_MOST as a byte.

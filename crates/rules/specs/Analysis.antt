@@ -4,14 +4,13 @@ use mathlib.Core.List.{List, [], _∷_, _++_, map}
 use mathlib.Core.Bool.{Bool, not, _&&_, _||_, cond}
 use lib.ListN.{length, take, drop}
 use lib.Dec.{leb, eqb}
-use Rattle.rules.specs.Numbers.{chunkMost, whitespaceAnalyzer, simpleAnalyzer}
-use Rattle.rules.specs.Bytes.{ascii, isEmpty, some}
-use Rattle.rules.specs.Query.{Word, word}
+use Rattle.rules.specs.Numbers.{chunkMost, whitespaceAnalyzer, simpleAnalyzer, wordsAnalyzer, englishAnalyzer}
+pub use Rattle.rules.specs.Bytes.{between, isCapital, isLetter, isDigit}
+use Rattle.rules.specs.Bytes.{ascii, isEmpty, some, those}
+use Rattle.rules.specs.Query.{Word, word, textOf}
+use Rattle.rules.specs.Words.{is, extendNumLet, isMidLetters, isMidNumbers, wordBreak, words, isStopWord}
 
 -- ---- classes
-
-abbrev pub between : ℕ → ℕ → ℕ → Bool
-between a b c = leb a c && leb c b
 
 -- the lexer's whitespace
 abbrev pub isSpace : ℕ → Bool
@@ -24,34 +23,30 @@ isMark c = some (eqb c) (ascii "!():^\"~[]{}*?")
 abbrev pub endsTerm : ℕ → Bool
 endsTerm c = isSpace c || isMark c
 
-abbrev pub isCapital : ℕ → Bool
-isCapital c = between 0x41 0x5a c
-
-abbrev pub isLetter : ℕ → Bool
-isLetter c = isCapital c || between 0x61 0x7a c
-
 -- where the whitespace analyzer splits: 1C to 1F too
 abbrev pub isGap : ℕ → Bool
 isGap c = isSpace c || between 0x1c 0x1f c
 
--- a byte's classes as flags: 1 whitespace, 2 term end, 4 letter
+-- a byte's classes as flags: 1 whitespace, 2 term end, 4 and 8 what joins two letters and two digits, 16 `_`, 32 digit, 64 letter
 abbrev pub flag : Bool → ℕ → ℕ
 flag b n = cond b n 0
 
 unfoldable pub classOf : ℕ → ℕ
-classOf c = flag (isSpace c) 1 + flag (endsTerm c) 2 + flag (isLetter c) 4
+classOf c =
+    flag (isSpace c) 1 + flag (endsTerm c) 2 + flag (isMidLetters (wordBreak c)) 4 + flag (isMidNumbers (wordBreak c)) 8
+    + flag (is (wordBreak c) extendNumLet) 16 + flag (isDigit c) 32 + flag (isLetter c) 64
 
 -- the constant table of 128 entries
 unfoldable pub classes : List ℕ
 classes =
     0 ∷ 0 ∷ 0 ∷ 0 ∷ 0 ∷ 0 ∷ 0 ∷ 0 ∷ 0 ∷ 3 ∷ 3 ∷ 3 ∷ 3 ∷ 3 ∷ 0 ∷ 0
     ∷ 0 ∷ 0 ∷ 0 ∷ 0 ∷ 0 ∷ 0 ∷ 0 ∷ 0 ∷ 0 ∷ 0 ∷ 0 ∷ 0 ∷ 0 ∷ 0 ∷ 0 ∷ 0
-    ∷ 3 ∷ 2 ∷ 2 ∷ 0 ∷ 0 ∷ 0 ∷ 0 ∷ 0 ∷ 2 ∷ 2 ∷ 2 ∷ 0 ∷ 0 ∷ 0 ∷ 0 ∷ 0
-    ∷ 0 ∷ 0 ∷ 0 ∷ 0 ∷ 0 ∷ 0 ∷ 0 ∷ 0 ∷ 0 ∷ 0 ∷ 2 ∷ 0 ∷ 0 ∷ 0 ∷ 0 ∷ 2
-    ∷ 0 ∷ 4 ∷ 4 ∷ 4 ∷ 4 ∷ 4 ∷ 4 ∷ 4 ∷ 4 ∷ 4 ∷ 4 ∷ 4 ∷ 4 ∷ 4 ∷ 4 ∷ 4
-    ∷ 4 ∷ 4 ∷ 4 ∷ 4 ∷ 4 ∷ 4 ∷ 4 ∷ 4 ∷ 4 ∷ 4 ∷ 4 ∷ 2 ∷ 0 ∷ 2 ∷ 2 ∷ 0
-    ∷ 0 ∷ 4 ∷ 4 ∷ 4 ∷ 4 ∷ 4 ∷ 4 ∷ 4 ∷ 4 ∷ 4 ∷ 4 ∷ 4 ∷ 4 ∷ 4 ∷ 4 ∷ 4
-    ∷ 4 ∷ 4 ∷ 4 ∷ 4 ∷ 4 ∷ 4 ∷ 4 ∷ 4 ∷ 4 ∷ 4 ∷ 4 ∷ 2 ∷ 0 ∷ 2 ∷ 2 ∷ 0
+    ∷ 3 ∷ 2 ∷ 2 ∷ 0 ∷ 0 ∷ 0 ∷ 0 ∷ 12 ∷ 2 ∷ 2 ∷ 2 ∷ 0 ∷ 8 ∷ 0 ∷ 12 ∷ 0
+    ∷ 32 ∷ 32 ∷ 32 ∷ 32 ∷ 32 ∷ 32 ∷ 32 ∷ 32 ∷ 32 ∷ 32 ∷ 6 ∷ 8 ∷ 0 ∷ 0 ∷ 0 ∷ 2
+    ∷ 0 ∷ 64 ∷ 64 ∷ 64 ∷ 64 ∷ 64 ∷ 64 ∷ 64 ∷ 64 ∷ 64 ∷ 64 ∷ 64 ∷ 64 ∷ 64 ∷ 64 ∷ 64
+    ∷ 64 ∷ 64 ∷ 64 ∷ 64 ∷ 64 ∷ 64 ∷ 64 ∷ 64 ∷ 64 ∷ 64 ∷ 64 ∷ 2 ∷ 0 ∷ 2 ∷ 2 ∷ 16
+    ∷ 0 ∷ 64 ∷ 64 ∷ 64 ∷ 64 ∷ 64 ∷ 64 ∷ 64 ∷ 64 ∷ 64 ∷ 64 ∷ 64 ∷ 64 ∷ 64 ∷ 64 ∷ 64
+    ∷ 64 ∷ 64 ∷ 64 ∷ 64 ∷ 64 ∷ 64 ∷ 64 ∷ 64 ∷ 64 ∷ 64 ∷ 64 ∷ 2 ∷ 0 ∷ 2 ∷ 2 ∷ 0
     ∷ []
 
 -- ---- runs and chunks
@@ -111,14 +106,30 @@ simpleTokens s = map lowercase (cut (runs isLetter s))
 unfoldable pub keywordTokens : List ℕ → List (List ℕ)
 keywordTokens s = wholeText s
 
+-- words, lowercased; what is English about one analyzer is which of them are kept
+unfoldable pub wordTokens : List ℕ → List (List ℕ)
+wordTokens s = map lowercase (cut (words s))
+
+abbrev pub isWords : ℕ → Bool
+isWords a = between wordsAnalyzer englishAnalyzer a
+
 unfoldable pub tokenTexts : ℕ → List ℕ → List (List ℕ)
 tokenTexts a s =
-    cond (eqb a whitespaceAnalyzer) (whitespaceTokens s) (cond (eqb a simpleAnalyzer) (simpleTokens s) (keywordTokens s))
+    cond (eqb a whitespaceAnalyzer) (whitespaceTokens s)
+    (cond (eqb a simpleAnalyzer) (simpleTokens s)
+    (cond (isWords a) (wordTokens s) (keywordTokens s)))
 
 -- one position each, from p on
 unfoldable pub placedFrom : ℕ → List (List ℕ) → List Word
 placedFrom p [] = []
 placedFrom p (t ∷ ts) = word p t ∷ placedFrom (suc p) ts
 
+-- English leaves out the stop words, and their positions stay empty
+abbrev pub isLeftOut : ℕ → List ℕ → Bool
+isLeftOut a t = eqb a englishAnalyzer && isStopWord t
+
+unfoldable pub keptOf : ℕ → List Word → List Word
+keptOf a ws = those (λ w. not (isLeftOut a (textOf w))) ws
+
 abbrev pub tokenize : ℕ → List ℕ → List Word
-tokenize a s = placedFrom 0 (tokenTexts a s)
+tokenize a s = keptOf a (placedFrom 0 (tokenTexts a s))

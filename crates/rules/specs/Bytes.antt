@@ -12,6 +12,19 @@ use Rattle.rules.specs.Numbers.{fieldMost, fieldTag}
 abbrev pub Bytes : List ℕ → Type 0
 Bytes s = (i : ℕ) → getD s i 0 < 256
 
+-- a byte by a range, and by its kind
+abbrev pub between : ℕ → ℕ → ℕ → Bool
+between a b c = leb a c && leb c b
+
+abbrev pub isCapital : ℕ → Bool
+isCapital c = between 0x41 0x5a c
+
+abbrev pub isLetter : ℕ → Bool
+isLetter c = isCapital c || between 0x61 0x7a c
+
+abbrev pub isDigit : ℕ → Bool
+isDigit c = between 0x30 0x39 c
+
 -- the bytes of a quoted text
 unfoldable pub ascii : String → List ℕ
 ascii «[]ˢ» = []
@@ -110,3 +123,8 @@ some P (x ∷ xs) = P x || some P xs
 unfoldable pub all : {A : Type 0} → (A → Bool) → List A → Bool
 all P [] = true
 all P (x ∷ xs) = P x && all P xs
+
+-- the elements that P is true of
+unfoldable pub those : {A : Type 0} → (A → Bool) → List A → List A
+those P [] = []
+those P (x ∷ xs) = let more = those P xs in cond (P x) (x ∷ more) more

@@ -4,7 +4,9 @@ pub mod Query
 pub mod Stored
 pub mod Reading
 pub mod Checked
+pub mod Words
 pub mod Analysis
+pub mod InWords
 pub mod Lexing
 pub mod Numerals
 pub mod Setup

@@ -66,6 +66,12 @@ simpleAnalyzer = 2
 abbrev pub keywordAnalyzer : ℕ
 keywordAnalyzer = 3
 
+abbrev pub wordsAnalyzer : ℕ
+wordsAnalyzer = 4
+
+abbrev pub englishAnalyzer : ℕ
+englishAnalyzer = 5
+
 -- ---- tags: queries
 
 abbrev pub termTag : ℕ

@@ -8,9 +8,10 @@ use lib.ListN.{length}
 use lib.Dec.{leb, ltb, eqb}
 use lib.Ieee.{binary32, round, toBits}
 use Rattle.rules.specs.Numbers.{Read, got, refused, need, badNumeral, longNumeral, numeralMost}
+pub use Rattle.rules.specs.Bytes.{isDigit}
 use Rattle.rules.specs.Bytes.{ascii, same, isEmpty}
 use Rattle.rules.specs.Stored.{theNan}
-use Rattle.rules.specs.Analysis.{between, lowercase, front, after}
+use Rattle.rules.specs.Analysis.{lowercase, front, after}
 
 -- ---- the grammar
 
@@ -18,9 +19,6 @@ use Rattle.rules.specs.Analysis.{between, lowercase, front, after}
 pub data Numeral : Type 0 where
   bad infinite notNumber : Numeral
   decimal : ℕ → ℕ → ℕ → Numeral
-
-abbrev pub isDigit : ℕ → Bool
-isDigit c = between 0x30 0x39 c
 
 -- the number that the digits of s make, after d
 unfoldable pub digitsOn : ℕ → List ℕ → ℕ

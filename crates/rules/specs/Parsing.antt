@@ -1,5 +1,5 @@
 -- Parsing, with every refusal where it is met. Section 'Lexing and parsing', from 'The grammar is mutual', and 'Parse order'.
-use Prim.Native.Nat.{ℕ, zero, suc, _+_}
+use Prim.Native.Nat.{ℕ, zero, suc, _+_, _-_}
 use mathlib.Core.List.{List, [], _∷_}
 use mathlib.Core.Bool.{Bool, not, _&&_, _||_, cond}
 use lib.ListN.{length, getD}
@@ -52,10 +52,19 @@ termOf o f [] = nothing
 termOf o f (word p t ∷ []) = made (term f t)
 termOf o f (v ∷ w ∷ ws) = made (boolean 0 (termClauses (operatorKind o) f (v ∷ w ∷ ws)))
 
+-- a phrase's positions start from its first token
+unfoldable pub countedFrom : ℕ → List Word → List Word
+countedFrom b [] = []
+countedFrom b (word p t ∷ ws) = word (p - b) t ∷ countedFrom b ws
+
+unfoldable pub fromFirst : List Word → List Word
+fromFirst [] = []
+fromFirst (word p t ∷ ws) = countedFrom p (word p t ∷ ws)
+
 unfoldable pub phraseOf : List ℕ → List Word → Made
 phraseOf f [] = nothing
 phraseOf f (word p t ∷ []) = made (term f t)
-phraseOf f (v ∷ w ∷ ws) = made (phrase f (v ∷ w ∷ ws))
+phraseOf f (v ∷ w ∷ ws) = made (phrase f (fromFirst (v ∷ w ∷ ws)))
 
 -- ---- a clause, in the field f and below d open brackets; `sub` reads a query
 

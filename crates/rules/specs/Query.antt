@@ -12,6 +12,9 @@ pub data Word : Type 0 where
   word : ℕ → List ℕ → Word
   deriving Discrete as word-discrete
 
+abbrev pub textOf : Word → List ℕ
+textOf (word p t) = t
+
 pub data Kind : Type 0 where
   must should mustNot filter : Kind
   deriving Discrete as kind-discrete

@@ -4,7 +4,7 @@ use mathlib.Core.List.{List, [], _∷_}
 use mathlib.Core.Bool.{Bool, _&&_, cond}
 use lib.ListN.{length, take, drop}
 use lib.Dec.{leb}
-use Rattle.rules.specs.Numbers.{Read, got, refused, need, onRead, andThen, badSetup, entriesMost, andOperator, whitespaceAnalyzer, keywordAnalyzer}
+use Rattle.rules.specs.Numbers.{Read, got, refused, need, onRead, andThen, badSetup, entriesMost, andOperator, whitespaceAnalyzer, englishAnalyzer}
 use Rattle.rules.specs.Bytes.{same, isEmpty, isField, all}
 use Rattle.rules.specs.Analysis.{between}
 
@@ -19,7 +19,7 @@ pub record Setup : Type 0 where
   pub entries : List FieldEntry
 
 abbrev pub isAnalyzer : ℕ → Bool
-isAnalyzer a = between whitespaceAnalyzer keywordAnalyzer a
+isAnalyzer a = between whitespaceAnalyzer englishAnalyzer a
 
 abbrev pub isFieldEntry : FieldEntry → Bool
 isFieldEntry (fieldEntry a name) = isAnalyzer a && isField name

@@ -18,20 +18,20 @@ text-byte [] i h = omega arith
 text-byte (x ∷ s) zero h = let l = leb-true x 0x7f (and-l (leb x 0x7f) (isText s) h) in omega (arith, l)
 text-byte (x ∷ s) (suc i) h = text-byte s i (and-r (leb x 0x7f) (isText s) h)
 
--- ---- an entry of 4 or more is 4
+-- ---- an entry of 64 or more is 64
 
-four : ℕ → ℕ → Bool
-four k x = ltb x 4 || eqb x 4
+highest : ℕ → ℕ → Bool
+highest k x = ltb x 64 || eqb x 64
 
-four-each : T (everyFrom four 0 classes)
-unfolding four classes
-four-each = tt
+highest-each : T (everyFrom highest 0 classes)
+unfolding highest classes
+highest-each = tt
 
-letter-four : (c : ℕ) → c < 128 → 4 ≤ getD classes c 0 → getD classes c 0 ≡ 4
-unfolding four
-letter-four c h l =
-    let t : T (eqb (getD classes c 0) 4) = rw (le-ltb (getD classes c 0) 4 l) at (at-each four classes four-each c (rw entries h)) in
-    eqb→eq (getD classes c 0) 4 t
+letter-highest : (c : ℕ) → c < 128 → 64 ≤ getD classes c 0 → getD classes c 0 ≡ 64
+unfolding highest
+letter-highest c h l =
+    let t : T (eqb (getD classes c 0) 64) = rw (le-ltb (getD classes c 0) 64 l) at (at-each highest classes highest-each c (rw entries h)) in
+    eqb→eq (getD classes c 0) 64 t
 
 -- ---- what the code reads in the table
 
@@ -61,15 +61,15 @@ module _ {t : List ℕ} {x : ℕ} (c : ℕ) (h : c < 128) (e : x ≡ getD t c 0)
   no-end-told g = end-is ∙ ne-eqb (x / 2 % 2) 1 g
 
   -- a letter does not end a term
-  module _ (g : 4 ≤ x) where
-    is-four : x ≡ 4
-    is-four = entry-is ∙ letter-four c h (rw entry-is at g)
+  module _ (g : 64 ≤ x) where
+    is-highest : x ≡ 64
+    is-highest = entry-is ∙ letter-highest c h (rw entry-is at g)
 
     pub letter-told : isLetter c ≡ true
-    letter-told = sym (letter-flag c) ∙ ap (λ (y : ℕ). eqb (y / 4) 1) (class-is ∙ is-four)
+    letter-told = sym (letter-flag c) ∙ ap (λ (y : ℕ). leb 64 y) (class-is ∙ is-highest)
 
     pub letter-goes-on : endsTerm c ≡ false
-    letter-goes-on = end-is ∙ ap (λ (y : ℕ). eqb (y / 2 % 2) 1) is-four
+    letter-goes-on = end-is ∙ ap (λ (y : ℕ). eqb (y / 2 % 2) 1) is-highest
 
 -- a letter is not a byte that is none
 pub letter-other : (c : ℕ) → isLetter c ≡ true → (x : ℕ) → isLetter x ≡ false → eqb c x ≡ false

@@ -1,5 +1,4 @@
-// A line of the list of tokens: an analyzer, a text, and for each token its position, its start and its text. Each way to a token is held to
-// it: by its number, from token to token, and by the count.
+// A line of the list of tokens: an analyzer, a text, and for each token its position, its start and its text.
 use crate::line;
 use analysis::tokens;
 ghost use Prim.Native.Nat.{_≤_, _<_};
@@ -20,40 +19,11 @@ fn write_token(token: &[u8], analyzer: u8, out: &mut [u8]) -> usize
     n
 }
 
-// The k-th token has this position, this start and this text.
-fn is_token(
-    text: &[u8],
-    analyzer: u8,
-    k: usize,
-    position: usize,
-    start: usize,
-    hex: &[u8],
-) -> bool {
-    let t = tokens::nth_token(text, analyzer, k);
-    if t.position != position {
-        return false;
-    }
-    if t.start != start {
-        return false;
-    }
-    let from = t.start;
-    let end = t.start + t.len;
+// The token reads as the digits say.
+fn is_token(token: &[u8], analyzer: u8, hex: &[u8]) -> bool {
     let mut room = [0u8; names::TEXT_MOST];
-    let n = write_token(&text[from..end], analyzer, &mut room);
+    let n = write_token(token, analyzer, &mut room);
     line::is_hex(&room[0..n], hex)
-}
-
-// Behind k tokens none is left, by each way to ask.
-fn is_last(text: &[u8], analyzer: u8, k: usize, from: usize) -> bool {
-    let t = tokens::nth_token(text, analyzer, k);
-    if t.len != 0 {
-        return false;
-    }
-    let u = tokens::next_token(text, analyzer, from);
-    if u.len != 0 {
-        return false;
-    }
-    tokens::token_count(text, analyzer) == k
 }
 
 // What a row says of a token: its position, its start, the digits of its text, and where the next token's columns begin.
@@ -86,30 +56,35 @@ fn token_columns(row: &[u8], at: usize) -> Columns
     }
 }
 
-// The tokens are those of the row.
+// The tokens are those of the row, and none is left behind them.
 fn are_tokens(text: &[u8], analyzer: u8, row: &[u8]) -> bool {
-    let mut k: usize = 0;
     let mut from: usize = 0;
+    let mut position: usize = 0;
     let mut at: usize = 0;
     while at < row.len() {
         let c = token_columns(row, at);
-        let hex = c.hex;
-        let end = c.end;
-        if !is_token(text, analyzer, k, c.position, c.start, &row[hex..end]) {
+        let t = tokens::next_token(text, analyzer, from, position);
+        if t.len == 0 {
             return false;
         }
-        let t = tokens::next_token(text, analyzer, from);
-        if t.len == 0 {
+        if t.position != c.position {
             return false;
         }
         if t.start != c.start {
             return false;
         }
-        from = t.start + t.len;
-        k += 1;
+        let start = t.start;
+        let end = start + t.len;
+        let hex = c.hex;
+        let hex_end = c.end;
+        if !is_token(&text[start..end], analyzer, &row[hex..hex_end]) {
+            return false;
+        }
+        from = end;
+        position = t.position + 1;
         at = c.next;
     }
-    is_last(text, analyzer, k, from)
+    tokens::next_token(text, analyzer, from, position).len == 0
 }
 
 pub fn agrees(line: &[u8]) -> bool {

@@ -1,7 +1,8 @@
 //! The original's answers in document 01's terms: refusal numbers, stored bytes, rounds, bits.
 
 use crate::analysis::{
-    Analyzer, KeywordAnalyzer, PerFieldAnalyzer, SimpleAnalyzer, WhitespaceAnalyzer,
+    Analyzer, KeywordAnalyzer, PerFieldAnalyzer, SimpleAnalyzer, StandardAnalyzer,
+    WhitespaceAnalyzer,
 };
 use crate::error::Error;
 use crate::queryparser::{Operator, QueryParser};
@@ -11,7 +12,7 @@ use crate::shape::{has_nan, some};
 use crate::stored::{boost_bits, decode, encode};
 
 /// A setup as the parsing call takes it: operator (0 Or, 1 And), default analyzer (1 whitespace,
-/// 2 simple, 3 keyword), default field, and the entries for fields: analyzer, length of name, name.
+/// 2 simple, 3 keyword, 4 words, 5 words in English), default field, and the entries for fields: analyzer, length of name, name.
 #[derive(Clone, Debug, PartialEq, Eq)]
 pub struct Setup {
     pub operator: u8,
@@ -70,11 +71,15 @@ impl Setup {
     }
 }
 
-fn analyzer(number: u8) -> Box<dyn Analyzer> {
+/// The original's analyzer of a number. Panics where there is none.
+#[must_use]
+pub fn analyzer(number: u8) -> Box<dyn Analyzer> {
     match number {
         1 => Box::new(WhitespaceAnalyzer),
         2 => Box::new(SimpleAnalyzer),
         3 => Box::new(KeywordAnalyzer),
+        4 => Box::new(StandardAnalyzer::new()),
+        5 => Box::new(StandardAnalyzer::english()),
         n => panic!("analyzer {n}"),
     }
 }

@@ -50,11 +50,12 @@ pub fn passes(list: &mut List, setup: &Setup, text: &[u8]) {
 }
 
 fn setups(list: &mut List) {
-    // "operator (0 Or, 1 And), default field, default analyzer (1 whitespace, 2 simple, 3 keyword)"
+    // "operator (0 Or, 1 And), default field, default analyzer (1 whitespace, 2 simple, 3 keyword)";
+    // order 1: "3 now accepts analyzers 4 and 5"
     for operator in [2, 3, 255] {
         refused(list, &Setup::new(operator, 2, b"f"), b"a", 3);
     }
-    for analyzer in [0, 4, 5, 255] {
+    for analyzer in [0, 6, 7, 255] {
         refused(list, &Setup::new(0, analyzer, b"f"), b"a", 3);
     }
     // "A field name has 0 to 32 ASCII bytes."
@@ -102,7 +103,7 @@ fn broken_entries(list: &mut List) {
     refused(list, &or_simple().entry(1, &[b'n'; 33]), b"A-1", 3);
     refused(list, &or_simple().entry(1, &[0x80]), b"A-1", 3);
     // An analyzer that is none, though replaced.
-    for analyzer in [0, 4, 255] {
+    for analyzer in [0, 6, 255] {
         refused(list, &or_simple().entry(analyzer, b"g"), b"a", 3);
         refused(
             list,

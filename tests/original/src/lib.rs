@@ -18,3 +18,4 @@ pub mod random_query;
 pub mod random_text;
 pub mod shape;
 pub mod stored;
+pub mod words;

@@ -20,7 +20,7 @@ fn is_name(name: &[u8]) -> bool {
 /// Whether document 01 takes the setup: else it gives refusal 3.
 #[must_use]
 pub fn setup_is_sound(setup: &Setup) -> bool {
-    let is_analyzer = |n: u8| (1..=3).contains(&n);
+    let is_analyzer = |n: u8| (1..=5).contains(&n);
     setup.operator <= 1
         && is_analyzer(setup.analyzer)
         && is_name(&setup.field)

@@ -13,6 +13,7 @@ mod parse_tables;
 mod rewrite_cases;
 mod rewrite_sums;
 mod token_cases;
+mod word_cases;
 
 use std::path::Path;
 

@@ -28,6 +28,7 @@ pub fn list(seed: u64) -> List {
     clauses(&mut list);
     chunks(&mut list);
     fields(&mut list);
+    words(&mut list);
     longest(&mut list);
     random(&mut list, seed);
     list
@@ -38,6 +39,8 @@ const AND: u8 = 1;
 const WHITESPACE: u8 = 1;
 const SIMPLE: u8 = 2;
 const KEYWORD: u8 = 3;
+const WORDS: u8 = 4;
+const ENGLISH: u8 = 5;
 
 fn setup(operator: u8, analyzer: u8) -> Setup {
     Setup::new(operator, analyzer, b"f")
@@ -189,6 +192,30 @@ fn fields(list: &mut List) {
     for field in ["", "AND", "a b", "f:", "\x7f\x00"] {
         let setup = Setup::new(OR, SIMPLE, field.as_bytes());
         ask(list, &setup, &["a", "\"a b\"", "wi-fi^2", "f:a b"]);
+    }
+}
+
+/// Words, and the clauses that stop words leave: one of several is a term, none is no clause, a phrase
+/// starts from its first kept token.
+fn words(list: &mut List) {
+    for operator in [OR, AND] {
+        for analyzer in [WORDS, ENGLISH] {
+            ask(list, &setup(operator, analyzer), tables::WORDS);
+        }
+    }
+    let note = setup(OR, SIMPLE).entry(ENGLISH, b"note").entry(WORDS, b"g");
+    ask(
+        list,
+        &note,
+        &[
+            "note:the-lid note:The g:The",
+            "note:\"of the rack\" g:\"of the rack\"",
+        ],
+    );
+    let long = "x".repeat(255);
+    for behind in ["the", "'the", "a'b", "_"] {
+        let text = format!("{long}{behind} \"The {long}{behind} lid\"");
+        list.parsed(&setup(OR, ENGLISH), text.as_bytes());
     }
 }
 

@@ -114,3 +114,28 @@ pub const FIELDS: &[&str] = &[
     r"g:Wi-Fi Wi-Fi k:Wi\ Fi", "g:\"A B\" k:\"A B\" \"A B\"", "g:(A-1 k:A-1) A-1", "k:(A-1 g:B-1)^2 G:A-1",
     r"\g:A-1 f:A-1", "g:(f:A-1)", "A-1", "\"A-1 B-2\"", r"A\ B", "k:1 AND g:1 OR 1", "k:\"\" name-of-eight:A-1",
 ];
+
+pub const WORDS: &[&str] = &[
+    "don't move the 3.5 kg lid",
+    "\"don't move the 3.5 kg lid\"",
+    "\"The lid\"",
+    "\"the\"",
+    "\"of the\"",
+    "\"lid of the rack\"^2",
+    "the",
+    "the^2",
+    "the AND lid",
+    "lid AND the",
+    "lid OR the rack",
+    "-the",
+    "(the of)",
+    "the-lid",
+    "rack-of-lids",
+    "a.b",
+    "3.5",
+    "_",
+    "a\\:b a\\:1",
+    "x_1.5,7",
+    "It's",
+    "NOT the",
+];

@@ -17,11 +17,11 @@ const FIELDS: [&str; 8] = [
 
 /// A setup with few entries, names often repeated.
 pub fn setup(r: &mut Random) -> Setup {
-    let analyzer = r.pick(&[2, 2, 1, 3]);
+    let analyzer = r.pick(&[2, 2, 1, 3, 4, 5, 5]);
     let mut setup = Setup::new(r.pick(&[0, 0, 1]), analyzer, r.pick(&FIELDS).as_bytes());
     let entries = r.pick(&[0, 0, 0, 1, 2, 3, 8]);
     for _ in 0..entries {
-        setup = setup.entry(r.pick(&[1, 2, 3]), r.pick(&FIELDS).as_bytes());
+        setup = setup.entry(r.pick(&[1, 2, 3, 4, 5]), r.pick(&FIELDS).as_bytes());
     }
     setup
 }
@@ -88,22 +88,23 @@ fn clause(r: &mut Random, deepest: usize, out: &mut String) {
     }
 }
 
-const WORDS: [&str; 44] = [
+const WORDS: [&str; 60] = [
     "a", "a", "a", "b", "b", "c", "red", "red", "Fox", "fox", "wi-fi", "A1", "1", "42", "3.5kg",
     "don't", "x_y", "a+b", "a-b", "a&b", "a&&b", "a|b", "|x", "&y", "&", "\\AND", "\\+a", "a\\ b",
     "a\\:b", "\\(", "\\\\", "a\x1cb", "\x1d", "a\x7fb", "andy", "And", "NOT1", "a/b", "tape#7",
-    ",", ".", "a=b", "ZZ-top", "\\*",
+    ",", ".", "a=b", "ZZ-top", "\\*", "the", "The", "of", "then", "o'clock", "x.y", "1,5", "a'",
+    "'a", "_", "_1", "3.", "a\\:b.c", "1;2", "the-lid", "not",
 ];
 
 fn quoted(r: &mut Random, out: &mut String) {
-    const INSIDE: [&str; 16] = [
+    const INSIDE: [&str; 26] = [
         "red", "red", "fox", "Fox", "a", "b", "1", "B2", "AND", "(", "^2", "\\\"", "\\\\", "\\a",
-        "*", "wi-fi",
+        "*", "wi-fi", "the", "of", "don't", "3.5", "x:y", "1,000", "a_b", "'", "_", "to",
     ];
     out.push('"');
     for i in 0..r.pick(&[0, 1, 1, 2, 2, 2, 3, 4]) {
         if i > 0 {
-            out.push_str(r.pick(&[" ", " ", " ", "\t", "\x1c", "-"]));
+            out.push_str(r.pick(&[" ", " ", " ", "\t", "\x1c", "-", "'", ".", ",", "\r\n"]));
         }
         out.push_str(r.pick(&INSIDE));
     }

@@ -1,9 +1,11 @@
 //! The cases of tokens.txt: the tokens that each analyzer makes of a text.
 
 use crate::lists::{self, List};
-use original::analysis::{KeywordAnalyzer, SimpleAnalyzer, WhitespaceAnalyzer, tokenize};
-use original::answers::ascii;
+use crate::word_cases;
+use original::analysis::tokenize;
+use original::answers::{analyzer, ascii};
 use original::random::Random;
+use original::words;
 
 const RANDOM: usize = 150;
 
@@ -18,14 +20,18 @@ pub fn list(seed: u64) -> List {
         ],
     );
     for text in BY_HAND {
-        all_three(&mut list, text);
+        every(&mut list, text);
     }
     for c in 0..128 {
-        all_three(&mut list, &[c]);
-        all_three(&mut list, &[b'A', c, b'b']);
+        every(&mut list, &[c]);
+        every(&mut list, &[b'A', c, b'b']);
+        ask(&mut list, 4, &[b'1', c, b'2']);
     }
     for n in [1, 254, 255, 256, 510, 511, 512] {
         long(&mut list, n);
+    }
+    for (analyzer, text) in word_cases::all() {
+        ask(&mut list, analyzer, &text);
     }
     random(&mut list, &mut Random::new(seed));
     list
@@ -42,16 +48,16 @@ const BY_HAND: &[&[u8]] = &[
 /// Runs at the lengths where chunks end, alone and among other tokens.
 fn long(list: &mut List, n: usize) {
     let run: Vec<u8> = (b'A'..=b'Z').chain(b'a'..=b'z').cycle().take(n).collect();
-    all_three(list, &run);
-    all_three(list, &[b" ", run.as_slice(), b"\x1cB "].concat());
-    all_three(list, &[run.as_slice(), b"1", &run[..n.min(3)]].concat());
+    every(list, &run);
+    every(list, &[b" ", run.as_slice(), b"\x1cB "].concat());
+    every(list, &[run.as_slice(), b"1", &run[..n.min(3)]].concat());
 }
 
 fn random(list: &mut List, r: &mut Random) {
     for _ in 0..RANDOM {
         let longest = r.pick(&[4, 12, 40]);
         let text: Vec<u8> = (0..r.below(longest + 1)).map(|_| byte(r)).collect();
-        all_three(list, &text);
+        every(list, &text);
     }
 }
 
@@ -65,24 +71,38 @@ fn byte(r: &mut Random) -> u8 {
     }
 }
 
-fn all_three(list: &mut List, text: &[u8]) {
-    for analyzer in 1..=3 {
-        list.tokens(analyzer, text, &tokens(analyzer, text));
+fn every(list: &mut List, text: &[u8]) {
+    for analyzer in 1..=5 {
+        ask(list, analyzer, text);
     }
 }
 
-/// Position, start and text of each token. The original tells no start: a token's first byte is the
-/// first from the last token's end on that a token can have, so it is the first place that fits.
-fn tokens(analyzer: u8, text: &[u8]) -> Vec<(u32, usize, String)> {
+fn ask(list: &mut List, analyzer: u8, text: &[u8]) {
+    list.tokens(analyzer, text, &tokens(analyzer, text));
+}
+
+/// Position, start and text of each token. The original tells no start. Words stand where the library
+/// cuts them, and a stop word keeps its place; other tokens at the first place that fits from the last
+/// one's end on, for a token's first byte is the first there that a token can have.
+fn tokens(number: u8, text: &[u8]) -> Vec<(u32, usize, String)> {
     let text = ascii(text);
-    let (made, looked_in) = match analyzer {
-        1 => (tokenize(&WhitespaceAnalyzer, "f", text), text.to_string()),
-        2 => (tokenize(&SimpleAnalyzer, "f", text), text.to_ascii_lowercase()),
-        _ => (tokenize(&KeywordAnalyzer, "f", text), text.to_string()),
+    let made = tokenize(&analyzer(number), "f", text);
+    let starts = words::starts(text);
+    let looked_in = if number == 2 {
+        text.to_ascii_lowercase()
+    } else {
+        text.to_string()
     };
     let mut from = 0;
     let placed = |(token, position): (String, u32)| {
-        let start = from + looked_in[from..].find(&token).expect("the token in the text");
+        let start = match number {
+            4 | 5 => starts[usize::try_from(position).expect("a small position")],
+            _ => {
+                from + looked_in[from..]
+                    .find(&token)
+                    .expect("the token in the text")
+            }
+        };
         from = start + token.len();
         (position, start, token)
     };

@@ -11,7 +11,7 @@ use desk::Desk;
 use original::answers::{self, Setup};
 use original::limits;
 use original::random::Random as Numbers;
-use original::{random_query, random_text, stored};
+use original::{random_query, random_text, stored, words};
 use plain::damage::damaged;
 use plain::faults::{self, Fields};
 use plain::queries::{self, Kind, Query as Tree, REWRITER};
@@ -28,6 +28,7 @@ fn main() {
         texts.count(&parse(&mut r, &mut desk));
     }
     texts.print();
+    short_words(&mut desk);
     let mut rewritings = Tally::new("rewrite beside the original");
     let (mut apart, mut most) = (0, 0);
     for i in 0..count {
@@ -42,6 +43,29 @@ fn main() {
     }
     rewritings.print();
     println!("  at most {most} rounds; {apart} more had a NaN in some round and are not compared");
+}
+
+/// Every text of up to four bytes over a dozen of different classes, in quotes and so with positions,
+/// under both analyzers of words.
+fn short_words(desk: &mut Desk) {
+    let mut texts = Tally::new("short words beside the original");
+    for text in (0..=4).flat_map(words::texts) {
+        let text = [b"\"", text.as_slice(), b"\""].concat();
+        for analyzer in [4, 5] {
+            let setup = Setup::new(0, analyzer, b"f");
+            let answer = answers::parse(&setup, &text);
+            let lent = gorbihesh::calls::Setup {
+                operator: 0,
+                analyzer,
+                field: &setup.field,
+                fields: &setup.fields,
+            };
+            let archive = desk.parse(lent, &text, 1_000);
+            hold("parse", &archive, &answer, &[("text", &text)]);
+            texts.count(&archive);
+        }
+    }
+    texts.print();
 }
 
 /// An output that fits or is longer, and once in a while one that is short; and then 18.

@@ -26,7 +26,7 @@ fn change(r: &mut Random, numbers: &mut Numbers, setup: &mut Setup, text: &mut V
         0 => insert(r, text, name),
         1 => insert(r, text, |r| numeral(r, numbers)),
         2 => bracketed(r, text),
-        3 => insert(r, text, |r| vec![b'w'; 250 + r.below(270)]),
+        3 => insert(r, text, long_word),
         4 => lengthened(r, text),
         5 => insert(r, text, |r| vec![r.pick(&[0x80, 0xC3, 0xFF])]),
         6 => broken_setup(r, setup),
@@ -42,6 +42,22 @@ fn insert(r: &mut Random, text: &mut Vec<u8>, what: impl FnOnce(&mut Random) -> 
 
 fn random_byte(r: &mut Random) -> Vec<u8> {
     vec![u8::try_from(r.below(128)).expect("ASCII")]
+}
+
+/// A word of about one chunk or two, joined to what may be a stop word behind the chunk's end.
+fn long_word(r: &mut Random) -> Vec<u8> {
+    let mut out = vec![r.pick(b"w7_"); 250 + r.below(270)];
+    out.extend(r.pick(&[
+        &b""[..],
+        b"the",
+        b"'the",
+        b".5",
+        b",7",
+        b"_",
+        b"'s of",
+        b"a",
+    ]));
+    out
 }
 
 /// A name of about 32 bytes and its colon, some bytes escaped.
@@ -93,12 +109,12 @@ fn lengthened(r: &mut Random, text: &mut Vec<u8>) {
 fn broken_setup(r: &mut Random, setup: &mut Setup) {
     match r.below(6) {
         0 => setup.operator = r.pick(&[2, 3, 255]),
-        1 => setup.analyzer = r.pick(&[0, 4, 5, 255]),
+        1 => setup.analyzer = r.pick(&[0, 6, 7, 255]),
         2 => setup.field = vec![b'n'; r.pick(&[32, 33, 40])],
         3 => setup.field = vec![b'n', r.pick(&[0x7F, 0x80])],
         4 => setup
             .fields
-            .extend([r.pick(&[0, 1, 3, 4]), r.pick(&[0, 0, 1, 33, 255])]),
+            .extend([r.pick(&[0, 1, 3, 5, 6]), r.pick(&[0, 0, 1, 33, 255])]),
         _ => {
             let cut = r.below(setup.fields.len() + 1);
             setup.fields.truncate(cut);

@@ -1,6 +1,6 @@
 -- The class table's rule, by one test over all its entries, and what each flag says. Assumes nothing.
 use mathlib.Core.Path.{_≡_, refl, sym, _∙_, subst}
-use mathlib.Core.Bool.{Bool, true, false, _&&_, and-eq-true-iff}
+use mathlib.Core.Bool.{Bool, true, false, not, _&&_, _||_, and-eq-true-iff}
 use mathlib.Core.List.{List, [], _∷_}
 use Prim.Native.Nat.{ℕ, zero, suc, _+_, _/_, _%_, _≤_, _<_}
 use native.Mathlib.Nat.{add-zero, zero-add, add-suc, suc-add, le-of-suc-le-suc, not-suc-le-zero}
@@ -10,15 +10,16 @@ use lib.Dec.{T, leb, ltb, eqb, eqb→eq}
 use lib.ListN.{length, getD, List·getD-eq-default}
 use borrow.Author.Tests.{lt-leb, ne-eqb, ltb-true}
 use Rattle.rules.specs.Bytes.{ascii, some, all}
-use Rattle.rules.specs.Analysis.{between, isSpace, endsTerm, isLetter, flag, classOf, classes}
+use Rattle.rules.specs.Words.{WordBreak, other, is, aLetter, numeric, extendNumLet, isMidLetters, isMidNumbers, isAlphanumeric, wordBreak}
+use Rattle.rules.specs.Analysis.{between, isSpace, endsTerm, isLetter, isDigit, flag, classOf, classes}
 
 -- ---- a table's rule at each entry, from a test that computes over all of them
 
-both-left : (a b : Bool) → T (a && b) → T a
+pub both-left : (a b : Bool) → T (a && b) → T a
 both-left true b t = tt
 both-left false b t = t
 
-both-right : (a b : Bool) → T (a && b) → T b
+pub both-right : (a b : Bool) → T (a && b) → T b
 both-right true b t = t
 both-right false b t = absurd t
 
@@ -48,7 +49,7 @@ unfolding classes
 entries = refl
 
 right-each : T (everyFrom right 0 classes)
-unfolding right classes classOf some ascii
+unfolding right classes classOf wordBreak some ascii
 right-each = tt
 
 pub class-within : (c : ℕ) → c < 128 → getD classes c 0 ≡ classOf c
@@ -76,6 +77,10 @@ marks-below : all (λ x. ltb x 128) (ascii "!():^\"~[]{}*?") ≡ true
 unfolding all ascii
 marks-below = refl
 
+two-below : all (λ x. ltb x 128) (0x2c ∷ 0x3b ∷ []) ≡ true
+unfolding all
+two-below = refl
+
 module _ (c : ℕ) (h : 128 ≤ c) where
   pub no-space : isSpace c ≡ false
   no-space = rw (above 0x09 0x0d c (omega arith), ne-eqb c 0x20 (λ e. omega arith))
@@ -86,9 +91,33 @@ module _ (c : ℕ) (h : 128 ≤ c) where
   pub no-letter : isLetter c ≡ false
   no-letter = rw (above 0x41 0x5a c (omega arith), above 0x61 0x7a c (omega arith))
 
+  pub no-digit : isDigit c ≡ false
+  no-digit = above 0x30 0x39 c (omega arith)
+
+  not-one : (x : ℕ) → ltb x 128 ≡ true → some (eqb c) (x ∷ []) ≡ false
+  unfolding all
+  not-one x k = none-of c (x ∷ []) h (rw k)
+
+  pub no-value : wordBreak c ≡ other
+  unfolding wordBreak ascii
+  no-value =
+      rw (
+        ne-eqb c 0x0d (λ e. omega arith),
+        ne-eqb c 0x0a (λ e. omega arith),
+        above 0x0b 0x0c c (omega arith),
+        ne-eqb c 0x20 (λ e. omega arith),
+        no-letter,
+        no-digit,
+        not-one 0x5f refl,
+        not-one 0x3a refl,
+        none-of c (0x2c ∷ 0x3b ∷ []) h two-below,
+        not-one 0x2e refl,
+        not-one 0x27 refl,
+      )
+
   pub class-beyond : classOf c ≡ 0
   unfolding classOf
-  class-beyond = rw (no-end, no-space, no-letter)
+  class-beyond = rw (no-end, no-space, no-letter, no-digit, no-value)
 
 -- the table's entry is the byte's class, also past its end
 pub class-at : (c : ℕ) → getD classes c 0 ≡ classOf c
@@ -100,29 +129,103 @@ class-at c = pass (decLt c 128)
 
 -- ---- what each flag says
 
--- the flags of a number that is made of them
-flags : (a b d : Bool) →
-    (eqb ((flag a 1 + flag b 2 + flag d 4) % 2) 1 ≡ a)
-    × (eqb ((flag a 1 + flag b 2 + flag d 4) / 2 % 2) 1 ≡ b)
-    × (eqb ((flag a 1 + flag b 2 + flag d 4) / 4) 1 ≡ d)
-flags true true true = (refl, refl, refl)
-flags true true false = (refl, refl, refl)
-flags true false true = (refl, refl, refl)
-flags true false false = (refl, refl, refl)
-flags false true true = (refl, refl, refl)
-flags false true false = (refl, refl, refl)
-flags false false true = (refl, refl, refl)
-flags false false false = (refl, refl, refl)
+-- what holds of seven flags, by one test over all their values
+abbrev everyFlag : (Bool → Bool) → Bool
+everyFlag P = P true && P false
+
+of-flag : (P : Bool → Bool) → T (everyFlag P) → (b : Bool) → T (P b)
+of-flag P t true = both-left (P true) (P false) t
+of-flag P t false = both-right (P true) (P false) t
+
+module _ (P : Bool → Bool → Bool → Bool → Bool → Bool → Bool → Bool) where
+  abbrev everyThree : Bool → Bool → Bool → Bool → Bool
+  everyThree s e m n = everyFlag (λ u. everyFlag (λ d. everyFlag (λ l. P s e m n u d l)))
+
+  abbrev everySeven : Bool
+  everySeven = everyFlag (λ s. everyFlag (λ e. everyFlag (λ m. everyFlag (λ n. everyThree s e m n))))
+
+  of-three : (s e m n u d l : Bool) → T (everyThree s e m n) → T (P s e m n u d l)
+  of-three s e m n u d l t =
+      of-flag (λ l. P s e m n u d l) (of-flag (λ d. everyFlag (λ l. P s e m n u d l)) (of-flag (λ u. everyFlag (λ d. everyFlag (λ l. P s e m n u d l))) t u) d) l
+
+  of-seven : (s e m n u d l : Bool) → T everySeven → T (P s e m n u d l)
+  of-seven s e m n u d l t =
+      of-three s e m n u d l
+      (of-flag (λ n. everyThree s e m n)
+      (of-flag (λ m. everyFlag (λ n. everyThree s e m n))
+      (of-flag (λ e. everyFlag (λ m. everyFlag (λ n. everyThree s e m n)))
+      (of-flag (λ s. everyFlag (λ e. everyFlag (λ m. everyFlag (λ n. everyThree s e m n)))) t s) e) m) n)
+
+abbrev pub sameFlag : Bool → Bool → Bool
+sameFlag true b = b
+sameFlag false true = false
+sameFlag false false = true
+
+pub same-flag : (a b : Bool) → T (sameFlag a b) → a ≡ b
+same-flag true true t = refl
+same-flag true false t = absurd t
+same-flag false true t = absurd t
+same-flag false false t = refl
+
+abbrev sum : Bool → Bool → Bool → Bool → Bool → Bool → Bool → ℕ
+sum s e m n u d l = flag s 1 + flag e 2 + flag m 4 + flag n 8 + flag u 16 + flag d 32 + flag l 64
+
+-- a byte of a word: a letter, a digit or `_`
+abbrev pub isPlain : ℕ → Bool
+isPlain c = isAlphanumeric c || is (wordBreak c) extendNumLet
 
 module _ (c : ℕ) where
-  pub space-flag : eqb (classOf c % 2) 1 ≡ isSpace c
+  -- what f tells from the sum of seven flags it tells from a byte's class
+  flag-law : (f : ℕ → Bool) (g : Bool → Bool → Bool → Bool → Bool → Bool → Bool → Bool) →
+      T (everySeven (λ s e m n u d l. sameFlag (f (sum s e m n u d l)) (g s e m n u d l))) →
+      f (classOf c) ≡ g (isSpace c) (endsTerm c) (isMidLetters (wordBreak c)) (isMidNumbers (wordBreak c)) (is (wordBreak c) extendNumLet) (isDigit c) (isLetter c)
   unfolding classOf
-  space-flag = flags (isSpace c) (endsTerm c) (isLetter c) .0
+  flag-law f g t =
+      same-flag _ _
+      (of-seven (λ s e m n u d l. sameFlag (f (sum s e m n u d l)) (g s e m n u d l))
+      (isSpace c) (endsTerm c) (isMidLetters (wordBreak c)) (isMidNumbers (wordBreak c)) (is (wordBreak c) extendNumLet) (isDigit c) (isLetter c) t)
+
+  pub space-flag : eqb (classOf c % 2) 1 ≡ isSpace c
+  space-flag = flag-law (λ x. eqb (x % 2) 1) (λ s e m n u d l. s) tt
 
   pub end-flag : eqb (classOf c / 2 % 2) 1 ≡ endsTerm c
-  unfolding classOf
-  end-flag = flags (isSpace c) (endsTerm c) (isLetter c) .1
+  end-flag = flag-law (λ x. eqb (x / 2 % 2) 1) (λ s e m n u d l. e) tt
 
-  pub letter-flag : eqb (classOf c / 4) 1 ≡ isLetter c
-  unfolding classOf
-  letter-flag = flags (isSpace c) (endsTerm c) (isLetter c) .2
+  pub letters-flag : eqb (classOf c / 4 % 2) 1 ≡ isMidLetters (wordBreak c)
+  letters-flag = flag-law (λ x. eqb (x / 4 % 2) 1) (λ s e m n u d l. m) tt
+
+  pub numbers-flag : eqb (classOf c / 8 % 2) 1 ≡ isMidNumbers (wordBreak c)
+  numbers-flag = flag-law (λ x. eqb (x / 8 % 2) 1) (λ s e m n u d l. n) tt
+
+  pub joins-flag : eqb (classOf c / 4 % 4) 0 ≡ not (isMidLetters (wordBreak c) || isMidNumbers (wordBreak c))
+  joins-flag = flag-law (λ x. eqb (x / 4 % 4) 0) (λ s e m n u d l. not (m || n)) tt
+
+  -- the higher ones are told by comparison
+  pub plain-flag : leb 16 (classOf c) ≡ isPlain c
+  plain-flag = flag-law (λ x. leb 16 x) (λ s e m n u d l. (l || d) || u) tt
+
+  pub alphanumeric-flag : leb 32 (classOf c) ≡ isAlphanumeric c
+  alphanumeric-flag = flag-law (λ x. leb 32 x) (λ s e m n u d l. l || d) tt
+
+  pub letter-flag : leb 64 (classOf c) ≡ isLetter c
+  letter-flag = flag-law (λ x. leb 64 x) (λ s e m n u d l. l) tt
+
+-- ---- the value of a letter and of a digit
+
+-- what has the value v is what P is true of, by one test over ASCII, and P is true of nothing beyond
+module _ (v : WordBreak) (P : ℕ → Bool) (n : is other v ≡ false) (none : (c : ℕ) → 128 ≤ c → P c ≡ false)
+    (t : T (everyFrom (λ k x. sameFlag (is (wordBreak k) v) (P k)) 0 classes)) (c : ℕ) where
+  pub value-law : is (wordBreak c) v ≡ P c
+  value-law = pass (decLt c 128)
+    where
+      pass : Dec (c < 128) → is (wordBreak c) v ≡ P c
+      pass (yes h) = same-flag _ _ (at-each (λ k x. sameFlag (is (wordBreak k) v) (P k)) classes t c (rw entries h))
+      pass (no m) = let h : 128 ≤ c = omega arith in rw (no-value c h, none c h) n
+
+pub letter-value : (c : ℕ) → is (wordBreak c) aLetter ≡ isLetter c
+unfolding classes wordBreak some ascii
+letter-value c = value-law aLetter isLetter refl no-letter tt c
+
+pub digit-value : (c : ℕ) → is (wordBreak c) numeric ≡ isDigit c
+unfolding classes wordBreak some ascii
+digit-value c = value-law numeric isDigit refl no-digit tt c

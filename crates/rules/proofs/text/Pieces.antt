@@ -3,14 +3,14 @@
 use mathlib.Core.Path.{_≡_, refl, sym, ap, _∙_}
 use mathlib.Core.Bool.{Bool, true, false, not, and-eq-true-iff}
 use mathlib.Core.List.{List, [], _∷_, _++_, cons-ne-nil}
-use Prim.Native.Nat.{ℕ, zero, suc, _+_, _≤_, _<_}
+use Prim.Native.Nat.{ℕ, zero, suc, _+_, _-_, _≤_, _<_, min}
 use native.Mathlib.Decide.{decLt}
 use native.Mathlib.Omega.{arith}
 use lib.ListN.{length, take, drop, length-append, length-take, length-drop, drop-of-length-le}
-use lib.Seq.{take-all, length-take-le, take-append-seam, drop-append-seam}
+use lib.Seq.{take-nil, take-all, length-take-le, take-append-seam, drop-append-seam}
 use borrow.Author.Tests.{not-false}
 use Rattle.rules.specs.Numbers.{chunkMost}
-use Rattle.rules.specs.Bytes.{all}
+use Rattle.rules.specs.Bytes.{all, those}
 use Rattle.rules.specs.Analysis.{front, after, runsIn, runs, chunksIn, chunks, cut}
 
 pub by-test : {A : Type 0} (b : Bool) → (b ≡ true → A) → (b ≡ false → A) → A
@@ -20,6 +20,24 @@ by-test false f g = g refl
 pub by-list : {A : Type 0} (t : List ℕ) → (t ≡ [] → A) → ((c : ℕ) (u : List ℕ) → t ≡ c ∷ u → A) → A
 by-list [] f g = f refl
 by-list (c ∷ u) f g = g c u refl
+
+-- ---- parts of a list
+
+pub take-take : (k n : ℕ) (l : List ℕ) → take k (take n l) ≡ take (min k n) l
+take-take zero n l = let z : 0 ≡ min 0 n = omega arith in ap (λ (m : ℕ). take m l) z
+take-take (suc k) zero l = let z : 0 ≡ min (suc k) 0 = omega arith in ap (λ (m : ℕ). take m l) z
+take-take (suc k) (suc n) [] = sym (take-nil (min (suc k) (suc n)))
+take-take (suc k) (suc n) (x ∷ l) =
+    let z : suc (min k n) ≡ min (suc k) (suc n) = omega arith in
+    ap (λ (t : List ℕ). x ∷ t) (take-take k n l) ∙ ap (λ (m : ℕ). take m (x ∷ l)) z
+
+pub drop-take : (k n : ℕ) (l : List ℕ) → drop k (take n l) ≡ take (n - k) (drop k l)
+drop-take zero n l = let z : n ≡ n - 0 = omega arith in ap (λ (m : ℕ). take m l) z
+drop-take (suc k) zero l = let z : 0 ≡ 0 - suc k = omega arith in ap (λ (m : ℕ). take m (drop (suc k) l)) z
+drop-take (suc k) (suc n) [] = sym (take-nil (suc n - suc k))
+drop-take (suc k) (suc n) (x ∷ l) =
+    let z : n - k ≡ suc n - suc k = omega arith in
+    drop-take k n l ∙ ap (λ (m : ℕ). take m (drop k l)) z
 
 -- ---- front and after
 
@@ -150,7 +168,7 @@ module _ (P : ℕ → Bool) where
 
 -- ---- chunks
 
-chunks-nil : (n : ℕ) → chunksIn n [] ≡ []
+pub chunks-nil : (n : ℕ) → chunksIn n [] ≡ []
 unfolding chunksIn
 chunks-nil zero = refl
 chunks-nil (suc n) = refl
@@ -169,7 +187,7 @@ chunks-enough (suc n) (suc m) (x ∷ t) h k =
     ∙ ap (λ (cs : List (List ℕ)). take chunkMost (x ∷ t) ∷ cs) (chunks-enough n m (drop 254 t) (rw length-drop (omega arith)) (rw length-drop (omega arith)))
     ∙ sym (chunks-go m x t)
 
-chunks-step : (t : List ℕ) → 0 < length t → chunks t ≡ take chunkMost t ∷ chunks (drop chunkMost t)
+pub chunks-step : (t : List ℕ) → 0 < length t → chunks t ≡ take chunkMost t ∷ chunks (drop chunkMost t)
 chunks-step [] h = absurd (omega arith)
 chunks-step (x ∷ t) h =
     chunks-go (length t) x t
@@ -262,15 +280,27 @@ module _ {A : Type 0} (Q : A → Bool) where
   unfolding all
   all-nil = refl
 
-  all-take : (n : ℕ) (xs : List A) → all Q xs ≡ true → all Q (take n xs) ≡ true
+  pub all-take : (n : ℕ) (xs : List A) → all Q xs ≡ true → all Q (take n xs) ≡ true
   all-take zero xs h = all-nil
   all-take (suc n) [] h = h
   all-take (suc n) (x ∷ xs) h = let p = all-one x xs h in all-cons x (take n xs) (p .0) (all-take n xs (p .1))
 
-  all-drop : (n : ℕ) (xs : List A) → all Q xs ≡ true → all Q (drop n xs) ≡ true
+  pub all-drop : (n : ℕ) (xs : List A) → all Q xs ≡ true → all Q (drop n xs) ≡ true
   all-drop zero xs h = h
   all-drop (suc n) [] h = h
   all-drop (suc n) (x ∷ xs) h = all-drop n xs (all-one x xs h .1)
+
+  all-append : (xs ys : List A) → all Q xs ≡ true → all Q ys ≡ true → all Q (xs ++ ys) ≡ true
+  all-append [] ys h k = k
+  all-append (x ∷ xs) ys h k = let p = all-one x xs h in all-cons x (xs ++ ys) (p .0) (all-append xs ys (p .1) k)
+
+  pub all-those : (P : A → Bool) (xs : List A) → all Q xs ≡ true → all Q (those P xs) ≡ true
+  unfolding those
+  all-those P [] h = h
+  all-those P (x ∷ xs) h =
+      let p = all-one x xs h in
+      let r = all-those P xs (p .1) in
+      by-test (P x) (λ e. rw e (all-cons x (those P xs) (p .0) r)) (λ e. rw e r)
 
 front-all : (P : ℕ → Bool) (s : List ℕ) → all P (front P s) ≡ true
 front-all P [] = rw (front-nil P) (all-nil P)
@@ -306,3 +336,45 @@ module _ (P : ℕ → Bool) where
       let m = simp length-take at (ap length e) in
       omega (arith, length-drop (length t) (after (outside P) s), front-most P (after (outside P) s), after-most (outside P) s))
       s
+
+-- ---- the chunks of any texts
+
+-- Q is true of each chunk, if it is true of every text of 1 to 255 bytes that R is true of, as it is of the texts
+module _ (R : ℕ → Bool) (Q : List ℕ → Bool) (f : (t : List ℕ) → 0 < length t → length t ≤ chunkMost → all R t ≡ true → Q t ≡ true) where
+  chunks-all : (n : ℕ) (t : List ℕ) → all R t ≡ true → all Q (chunksIn n t) ≡ true
+  unfolding chunksIn
+  chunks-all zero t h = all-nil Q
+  chunks-all (suc n) [] h = rw (chunks-nil (suc n)) (all-nil Q)
+  chunks-all (suc n) (x ∷ t) h =
+      rw (chunks-go n x t)
+      (all-cons Q (take chunkMost (x ∷ t)) (chunksIn n (drop chunkMost (x ∷ t)))
+      (f (take chunkMost (x ∷ t)) (rw length-take (omega arith)) (rw length-take (omega arith)) (all-take R chunkMost (x ∷ t) h))
+      (chunks-all n (drop chunkMost (x ∷ t)) (all-drop R chunkMost (x ∷ t) h)))
+
+  pub cut-all : (ts : List (List ℕ)) → all (all R) ts ≡ true → all Q (cut ts) ≡ true
+  unfolding cut
+  cut-all [] h = all-nil Q
+  cut-all (t ∷ ts) h = let p = all-one (all R) t ts h in all-append Q (chunks t) (cut ts) (chunks-all (length t) t (p .0)) (cut-all ts (p .1))
+
+total-append : (xs ys : List (List ℕ)) → total (xs ++ ys) ≡ total xs + total ys
+unfolding total
+total-append [] ys = omega arith
+total-append (x ∷ xs) ys = omega (arith, total-append xs ys)
+
+chunks-total : (n : ℕ) (t : List ℕ) → total (chunksIn n t) ≤ length t
+unfolding total chunksIn
+chunks-total zero t = omega arith
+chunks-total (suc n) [] = omega arith
+chunks-total (suc n) (x ∷ t) = omega (arith, chunks-total n (drop 254 t), length-drop 254 t, length-take 254 t)
+
+pub cut-total : (ts : List (List ℕ)) → total (cut ts) ≤ total ts
+unfolding total cut
+cut-total [] = omega arith
+cut-total (t ∷ ts) = omega (arith, total-append (chunks t) (cut ts), chunks-total (length t) t, cut-total ts)
+
+pub those-total : (P : List ℕ → Bool) (ts : List (List ℕ)) → total (those P ts) ≤ total ts
+unfolding total those
+those-total P [] = omega arith
+those-total P (t ∷ ts) =
+    let r = those-total P ts in
+    by-test (P t) (λ e. rw e (omega arith)) (λ e. rw e (omega arith))

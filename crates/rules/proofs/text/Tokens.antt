@@ -1,29 +1,34 @@
 -- The tokens of a text under each analyzer: a token at a time, how many there are at most, what each is like. Assumes nothing.
 use mathlib.Core.Path.{_≡_, refl, sym, ap, ap₂, _∙_}
-use mathlib.Core.Bool.{Bool, true, false, not, _&&_, cond, and-eq-true-iff}
+use mathlib.Core.Bool.{Bool, true, false, not, _&&_, cond, and-eq-true-iff, true≢false}
 use mathlib.Core.List.{List, [], _∷_, map}
-use Prim.Native.Nat.{ℕ, _+_, _≤_, _<_}
+use Prim.Native.Nat.{ℕ, suc, _+_, _≤_, _<_}
 use native.Mathlib.Omega.{arith}
 use lib.Dec.{leb, ltb, eqb}
 use lib.ListN.{length, take, drop, length-map}
 use borrow.Author.Tests.{le-leb, lt-ltb, ne-eqb, leb-true, ltb-true}
-use Rattle.rules.specs.Numbers.{chunkMost}
-use Rattle.rules.specs.Bytes.{all, isText}
-use Rattle.rules.specs.Analysis.{front, after, runs, cut, isLetter, isGap, isCapital, between, lower, lowercase, wholeText, whitespaceTokens, simpleTokens, keywordTokens, tokenTexts}
-use Rattle.rules.proofs.text.Pieces.{by-test, all-cons, all-one, all-nil, outside, total, pieces-none, pieces-step, pieces-all, pieces-total}
+use Rattle.rules.specs.Numbers.{chunkMost, whitespaceAnalyzer, simpleAnalyzer}
+use Rattle.rules.specs.Bytes.{some, all, those, isText}
+use Rattle.rules.specs.Query.{Word, word, textOf}
+use Rattle.rules.specs.Words.{isAlphanumeric, wordsIn, wordsFrom, words, isStopWord}
+use Rattle.rules.specs.Analysis.{front, after, runs, cut, isLetter, isGap, isCapital, between, lower, lowercase, wholeText, whitespaceTokens, simpleTokens, wordTokens, isWords, keywordTokens, tokenTexts, placedFrom, isLeftOut, keptOf, tokenize}
+use Rattle.rules.proofs.text.Pieces.{by-test, all-cons, all-one, all-nil, outside, total, pieces-none, pieces-step, pieces-all, pieces-total, cut-all, all-those}
+use Rattle.rules.proofs.Bools.{and-l, and-no-l, cond-yes, cond-no}
+use Rattle.rules.proofs.text.Words.{words-all, tokens-within}
 
--- ---- the three analyzers
+-- ---- the analyzers
 
 -- what holds of the tokens of each analyzer holds of those of any number, where the others count as keyword
-module _ (s : List ℕ) (N : List (List ℕ) → Type 0) (w : N (whitespaceTokens s)) (m : N (simpleTokens s)) (k : N (keywordTokens s)) where
+module _ (s : List ℕ) (N : List (List ℕ) → Type 0) (w : N (whitespaceTokens s)) (m : N (simpleTokens s)) (x : N (wordTokens s)) (k : N (keywordTokens s)) where
   pub by-analyzer : (a : ℕ) → N (tokenTexts a s)
   unfolding tokenTexts
-  by-analyzer a = pick (eqb a 1) (eqb a 2)
+  by-analyzer a = pick (eqb a 1) (eqb a 2) (isWords a)
     where
-      pick : (b c : Bool) → N (cond b (whitespaceTokens s) (cond c (simpleTokens s) (keywordTokens s)))
-      pick true c = w
-      pick false true = m
-      pick false false = k
+      pick : (b c d : Bool) → N (cond b (whitespaceTokens s) (cond c (simpleTokens s) (cond d (wordTokens s) (keywordTokens s))))
+      pick true c d = w
+      pick false true d = m
+      pick false false true = x
+      pick false false false = k
 
 -- a byte of a token of the whitespace analyzer
 abbrev pub inWord : ℕ → Bool
@@ -53,10 +58,16 @@ pub simple-step : (s t : List ℕ) → after (outside isLetter) s ≡ t → 0 < 
 simple-step s t e h =
     rw (simple-is, simple-is (drop (length (take chunkMost (front isLetter t))) t)) (ap (map lowercase) (pieces-step isLetter s t e h))
 
-module _ (a : ℕ) (v : a ≡ 1 → ⊥) (w : a ≡ 2 → ⊥) where
+pub words-is : (a : ℕ) (s : List ℕ) → isWords a ≡ true → tokenTexts a s ≡ map lowercase (cut (words s))
+unfolding tokenTexts wordTokens
+words-is a s h =
+    let k = leb-true 4 a (and-l (leb 4 a) (leb a 5) h) in
+    rw (ne-eqb a 1 (λ e. omega arith), ne-eqb a 2 (λ e. omega arith)) (cond-yes _ _ h)
+
+module _ (a : ℕ) (v : a ≡ 1 → ⊥) (w : a ≡ 2 → ⊥) (x : isWords a ≡ false) where
   pub keyword-is : (s : List ℕ) → tokenTexts a s ≡ wholeText s
   unfolding tokenTexts keywordTokens
-  keyword-is s = rw (ne-eqb a 1 v, ne-eqb a 2 w)
+  keyword-is s = rw (ne-eqb a 1 v, ne-eqb a 2 w) (cond-no _ _ x)
 
   pub keyword-none : tokenTexts a [] ≡ []
   keyword-none = keyword-is []
@@ -86,6 +97,7 @@ all-any (c ∷ s) = all-cons (λ c. true) c s refl (all-any s)
 module _ (R : ℕ → Bool) (Q : List ℕ → Bool)
     (w : (t : List ℕ) → 0 < length t → length t ≤ chunkMost → all inWord t ≡ true → all R t ≡ true → Q t ≡ true)
     (m : (t : List ℕ) → 0 < length t → length t ≤ chunkMost → all isLetter t ≡ true → all R t ≡ true → Q (lowercase t) ≡ true)
+    (x : (t : List ℕ) → 0 < length t → length t ≤ chunkMost → all R t ≡ true → Q (lowercase t) ≡ true)
     (k : (t : List ℕ) → 0 < length t → all R t ≡ true → Q t ≡ true) where
   pub whitespace-each : (s : List ℕ) → all R s ≡ true → all Q (whitespaceTokens s) ≡ true
   unfolding whitespaceTokens
@@ -95,13 +107,18 @@ module _ (R : ℕ → Bool) (Q : List ℕ → Bool)
   unfolding simpleTokens
   simple-each s h = rw all-map (pieces-all isLetter R (λ t. Q (lowercase t)) m s h)
 
+  words-each : (s : List ℕ) → all R s ≡ true → all Q (wordTokens s) ≡ true
+  unfolding wordTokens words
+  words-each s h =
+      rw all-map (cut-all R (λ t. Q (lowercase t)) x (wordsFrom s 0) (all-those (all R) (some isAlphanumeric) (wordsIn s (length s) 0) (words-all s R h (length s) 0)))
+
   keyword-each : (s : List ℕ) → all R s ≡ true → all Q (keywordTokens s) ≡ true
   unfolding keywordTokens
   keyword-each [] h = all-nil Q
   keyword-each (c ∷ s) h = all-cons Q (c ∷ s) [] (k (c ∷ s) (omega arith) h) (all-nil Q)
 
   pub tokens-each : (a : ℕ) (s : List ℕ) → all R s ≡ true → all Q (tokenTexts a s) ≡ true
-  tokens-each a s h = by-analyzer s (λ ts. all Q ts ≡ true) (whitespace-each s h) (simple-each s h) (keyword-each s h) a
+  tokens-each a s h = by-analyzer s (λ ts. all Q ts ≡ true) (whitespace-each s h) (simple-each s h) (words-each s h) (keyword-each s h) a
 
 -- no token is empty
 abbrev pub filled : List ℕ → Bool
@@ -111,6 +128,7 @@ pub tokens-filled : (a : ℕ) (s : List ℕ) → all filled (tokenTexts a s) ≡
 tokens-filled a s =
     tokens-each (λ c. true) filled (λ t l b p q. lt-ltb 0 (length t) l)
     (λ t l b p q. rw length-map (lt-ltb 0 (length t) l))
+    (λ t l b q. rw length-map (lt-ltb 0 (length t) l))
     (λ t l q. lt-ltb 0 (length t) l) a s (all-any s)
 
 -- a chunk has at most 255 bytes
@@ -130,9 +148,9 @@ total-whole [] = omega arith
 total-whole (c ∷ s) = omega arith
 
 pub tokens-total : (a : ℕ) (s : List ℕ) → total (tokenTexts a s) ≤ length s
-unfolding whitespaceTokens simpleTokens keywordTokens
+unfolding whitespaceTokens simpleTokens wordTokens keywordTokens
 tokens-total a s =
-    by-analyzer s (λ ts. total ts ≤ length s) (pieces-total inWord s) (rw total-lower (pieces-total isLetter s)) (total-whole s) a
+    by-analyzer s (λ ts. total ts ≤ length s) (pieces-total inWord s) (rw total-lower (pieces-total isLetter s)) (rw total-lower (tokens-within s)) (total-whole s) a
 
 count-total : (ts : List (List ℕ)) → all filled ts ≡ true → length ts ≤ total ts
 unfolding total
@@ -186,6 +204,63 @@ lowercase-text t h =
 pub tokens-text : (a : ℕ) (s : List ℕ) → isText s ≡ true → all isText (tokenTexts a s) ≡ true
 tokens-text a s h =
     tokens-each (λ c. leb c 0x7f) isText (λ t l b p q. text-all t ∙ q) (λ t l b p q. lowercase-text t (text-all t ∙ q))
+    (λ t l b q. lowercase-text t (text-all t ∙ q))
     (λ t l q. text-all t ∙ q)
     a s
     (sym (text-all s) ∙ h)
+
+-- ---- the tokens with their positions, stop words left out
+
+pub kept-nil : (a : ℕ) → keptOf a [] ≡ []
+unfolding keptOf those
+kept-nil a = refl
+
+pub kept-yes : (a p : ℕ) (t : List ℕ) (ws : List Word) → isLeftOut a t ≡ false → keptOf a (word p t ∷ ws) ≡ word p t ∷ keptOf a ws
+unfolding keptOf those
+kept-yes a p t ws e = rw e
+
+pub kept-no : (a p : ℕ) (t : List ℕ) (ws : List Word) → isLeftOut a t ≡ true → keptOf a (word p t ∷ ws) ≡ keptOf a ws
+unfolding keptOf those
+kept-no a p t ws e = rw e
+
+-- but for English every word is kept
+pub kept-same : (a : ℕ) (ws : List Word) → eqb a 5 ≡ false → keptOf a ws ≡ ws
+kept-same a [] e = kept-nil a
+kept-same a (word p t ∷ ws) e = kept-yes a p t ws (and-no-l (isStopWord t) e) ∙ ap (λ (vs : List Word). word p t ∷ vs) (kept-same a ws e)
+
+pub english-not : (a : ℕ) → isWords a ≡ false → eqb a 5 ≡ false
+english-not a h = ne-eqb a 5 (λ e. true≢false (sym (ap isWords e) ∙ h))
+
+-- so the answers of the first three analyzers are what they were before there were words
+pub first-three : (a : ℕ) (s : List ℕ) → isWords a ≡ false →
+    tokenize a s ≡ placedFrom 0 (cond (eqb a whitespaceAnalyzer) (whitespaceTokens s) (cond (eqb a simpleAnalyzer) (simpleTokens s) (keywordTokens s)))
+unfolding tokenTexts
+first-three a s h =
+    kept-same a (placedFrom 0 (tokenTexts a s)) (english-not a h)
+    ∙ ap (λ (ts : List (List ℕ)). placedFrom 0 (cond (eqb a 1) (whitespaceTokens s) (cond (eqb a 2) (simpleTokens s) ts))) (cond-no (wordTokens s) (keywordTokens s) h)
+
+-- the bytes of the kept tokens, and their number, are at most those of all
+texts-of : (p : ℕ) (ts : List (List ℕ)) → map textOf (placedFrom p ts) ≡ ts
+unfolding placedFrom
+texts-of p [] = refl
+texts-of p (t ∷ ts) = ap (λ (us : List (List ℕ)). t ∷ us) (texts-of (suc p) ts)
+
+kept-total : (a : ℕ) (ws : List Word) → total (map textOf (keptOf a ws)) ≤ total (map textOf ws)
+unfolding total
+kept-total a [] = rw (kept-nil a) (omega arith)
+kept-total a (word p t ∷ ws) =
+    by-test (isLeftOut a t) (λ e. rw (kept-no a p t ws e) (omega (arith, kept-total a ws))) (λ e. rw (kept-yes a p t ws e) (omega (arith, kept-total a ws)))
+
+kept-count : (a : ℕ) (ws : List Word) → length (keptOf a ws) ≤ length ws
+kept-count a [] = rw (kept-nil a) (omega arith)
+kept-count a (word p t ∷ ws) =
+    by-test (isLeftOut a t) (λ e. rw (kept-no a p t ws e) (omega (arith, kept-count a ws))) (λ e. rw (kept-yes a p t ws e) (omega (arith, kept-count a ws)))
+
+placed-count : (p : ℕ) (ts : List (List ℕ)) → length (placedFrom p ts) ≡ length ts
+placed-count p ts = sym (length-map (placedFrom p ts) textOf) ∙ ap length (texts-of p ts)
+
+pub kept-bytes : (a : ℕ) (s : List ℕ) → total (map textOf (tokenize a s)) ≤ length s
+kept-bytes a s = omega (arith, kept-total a (placedFrom 0 (tokenTexts a s)), ap total (texts-of 0 (tokenTexts a s)), tokens-total a s)
+
+pub kept-most : (a : ℕ) (s : List ℕ) → length (tokenize a s) ≤ length s
+kept-most a s = omega (arith, kept-count a (placedFrom 0 (tokenTexts a s)), placed-count 0 (tokenTexts a s), tokens-most a s)

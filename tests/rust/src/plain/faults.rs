@@ -1,6 +1,8 @@
 //! The first fault of a text: document 01's lexing and grammar walked with nothing built, for the
 //! refusals 4 to 17. The original has no limits, so 15 to 17 are found here alone.
 
+use crate::words;
+
 /// The setup that a text is read under: the default field and analyzer, and the entries.
 pub struct Fields<'a> {
     pub field: &'a [u8],
@@ -20,6 +22,7 @@ impl Fields<'_> {
         match self.analyzer_of(field) {
             1 => text.iter().any(|b| !matches!(b, 9..=13 | 0x1C..=0x20)),
             2 => text.iter().any(u8::is_ascii_alphabetic),
+            analyzer @ (4 | 5) => words::are_kept(text, analyzer == 5),
             _ => !text.is_empty(),
         }
     }

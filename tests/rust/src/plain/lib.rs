@@ -10,6 +10,7 @@ pub mod parts;
 pub mod queries;
 pub mod random_lists;
 pub mod random_queries;
+pub mod words;
 
 // The generator of numbers is the one of the fixed lists.
 #[path = "../../../original/src/random.rs"]

@@ -1,48 +1,69 @@
--- `tokens::next_token` meets its contract: past the end, a whole text, or two spans. Assumes nothing.
-use mathlib.Core.Path.{sym, _∙_}
-use Rattle.analysis.proofs.Chunks.{past, whole, skipped, chunk}
+-- `tokens::next_token` meets its contract. The loop's invariant: what was passed is left out. Assumes nothing.
+use Prim.Native.Nat.{_-_}
+use Rattle.analysis.proofs.Keeping.{Passing, passing-starts, passing-on, passing-one, passing-none, told-kept, told-left}
+use lib.ListN.{length}
 use native.Mathlib.Omega.{arith}
 use borrow.Author.Needs.{needs}
-use Rattle.analysis.proofs.tokens.next_token.Statement.{statement}
 use Rattle.analysis.proofs.tokens.next_token.Tie as tie
+use Rattle.analysis.proofs.tokens.next_token.Statement.{statement}
 
-returns : tie.Need-returns
-returns c = past _ _ _ (c .if1 .taken)
+abbrev Inv-loop : tie.InvT-loop
+Inv-loop text analyzer at p from₀ position₀ from position = Passing analyzer text at p from position
 
-is-whole-requires : tie.Need-is-whole-requires
-is-whole-requires c κs = search needs
+abbrev μ-loop : tie.MeasureT-loop
+μ-loop text analyzer at p from₀ position₀ from position = length text - from
 
-sub-t9 : tie.Need-sub-t9
-sub-t9 c = search needs
+loop-holds : tie.Need-loop-holds Inv-loop μ-loop
+loop-holds c = passing-starts _ _ _ _
 
-returns-2 : tie.Need-returns-2
-returns-2 c = whole _ _ _ (sym (c .before .is-whole .ensures) ∙ c .if2 .taken)
+next-piece-requires : tie.Need-next-piece-requires Inv-loop μ-loop
+next-piece-requires c κs = search needs
 
-span-requires : tie.Need-span-requires
-span-requires c κs = omega arith
+returns : tie.Need-returns Inv-loop μ-loop
+returns c = passing-none (c .before .before .before .loop .inv) (c .before .before .next-piece .ensures) (c .if1 .taken)
 
-chunk-end-requires : tie.Need-chunk-end-requires
-chunk-end-requires c κs = omega arith
+add-end : tie.Need-add-end Inv-loop μ-loop
+add-end c = omega (arith, c .before .before .before .next-piece .ensures .within, c .before .before .before .next-piece .ensures .onward, c .before .if1 .left)
 
-span-requires-2 : tie.Need-span-requires-2
-span-requires-2 c κs = omega arith
+sub-is-left-out : tie.Need-sub-is-left-out Inv-loop μ-loop
+sub-is-left-out c = omega arith
 
-sub-t10 : tie.Need-sub-t10
-sub-t10 c = omega arith
+part-is-left-out-start : tie.Need-part-is-left-out-start Inv-loop μ-loop
+part-is-left-out-start c = search needs
 
-returns-3 : tie.Need-returns-3
-returns-3 c = rw (c .span2 .ensures .is) (chunk _ _ _ _ _ (c .before .before .span .ensures .is ∙ skipped _ _ _) (c .before .chunk-end .ensures) (sym (c .before .before .before .before .is-whole .ensures) ∙ c .before .before .before .if2 .left))
+part-is-left-out-end : tie.Need-part-is-left-out-end Inv-loop μ-loop
+part-is-left-out-end c = omega (arith, c .before .before .before .next-piece .ensures .within, c .before .before .before .next-piece .ensures .onward, c .before .if1 .left)
+
+is-left-out-requires : tie.Need-is-left-out-requires Inv-loop μ-loop
+is-left-out-requires c κs = search needs
+
+returns-2 : tie.Need-returns-2 Inv-loop μ-loop
+returns-2 c = passing-one (c .before .before .before .before .before .before .before .loop .inv) (c .before .before .before .before .before .before .next-piece .ensures) (c .before .before .before .before .if1 .left) (told-kept (c .before .before .before .before .before .before .before .before .before .args .analyzer) (c .before .before .before .before .before .before .before .before .before .args .text .now) (c .before .before .before .before .before .before .next-piece .result .start) (c .before .before .before .before .before .before .next-piece .result .len) (c .before .is-left-out .ensures) (c .if2 .taken))
+
+add-position : tie.Need-add-position Inv-loop μ-loop
+add-position c = omega (arith, c .before .before .before .before .before .before .before .loop .inv .few, c .before .before .before .before .before .before .before .before .before .pre, c .before .before .before .before .before .before .next-piece .ensures .within, c .before .before .before .before .before .before .next-piece .ensures .onward, c .before .before .before .before .if1 .left)
+
+loop-less : tie.Need-loop-less Inv-loop μ-loop
+loop-less c = omega (arith, c .before .before .before .before .before .before .next-piece .ensures .within, c .before .before .before .before .before .before .next-piece .ensures .onward, c .before .before .before .before .if1 .left)
+
+loop-again : tie.Need-loop-again Inv-loop μ-loop
+loop-again c = passing-on (c .before .before .before .before .before .before .before .loop .inv) (c .before .before .before .before .before .before .next-piece .ensures) (omega (arith, c .before .before .before .before .if1 .left)) (told-left (c .before .before .before .before .before .before .before .before .before .args .analyzer) (c .before .before .before .before .before .before .before .before .before .args .text .now) (c .before .before .before .before .before .before .next-piece .result .start) (c .before .before .before .before .before .before .next-piece .result .len) (c .before .is-left-out .ensures) (c .if2 .left))
 
 pub next-token-spec : {M : Type 1} → statement M
 next-token-spec =
     tie.close
     (tie.spec
+    Inv-loop
+    μ-loop
+    loop-holds
+    next-piece-requires
     returns
-    is-whole-requires
-    sub-t9
+    add-end
+    sub-is-left-out
+    part-is-left-out-start
+    part-is-left-out-end
+    is-left-out-requires
     returns-2
-    span-requires
-    chunk-end-requires
-    span-requires-2
-    sub-t10
-    returns-3)
+    add-position
+    loop-less
+    loop-again)

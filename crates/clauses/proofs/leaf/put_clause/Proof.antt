@@ -1,5 +1,5 @@
 -- `clauses::leaf::put_clause` meets its contract.
-use Rattle.clauses.proofs.Tallying.{spelled-length}
+use Rattle.analysis.proofs.Spelling.{spelled-length}
 use Rattle.numbers.proofs.Laying.{put-body}
 use Rattle.analysis.specs.Tokens.{spelled}
 use Rattle.rules.proofs.stored.Sizes.{length-term}

@@ -1,6 +1,6 @@
 -- `clauses::leaf::put_term` meets its contract.
 use Rattle.clauses.proofs.Writing.{term-put}
-use Rattle.clauses.proofs.Tallying.{spelled-length}
+use Rattle.analysis.proofs.Spelling.{spelled-length}
 use mathlib.Core.Path.{_∙_}
 use native.Mathlib.Omega.{arith}
 use Rattle.clauses.proofs.leaf.put_term.Statement.{statement}

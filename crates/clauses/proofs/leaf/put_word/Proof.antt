@@ -1,6 +1,6 @@
 -- `clauses::leaf::put_word` meets its contract.
 use Rattle.clauses.proofs.Writing.{word-put}
-use Rattle.clauses.proofs.Tallying.{spelled-length}
+use Rattle.analysis.proofs.Spelling.{spelled-length}
 use Rattle.rules.proofs.stored.Bigs.{length-big}
 use native.Mathlib.Omega.{arith}
 use Rattle.clauses.proofs.leaf.put_word.Statement.{statement}

@@ -1,5 +1,5 @@
 -- `clauses::leaf::term_len` meets its contract.
-use Rattle.rules.specs.Analysis.{tokenTexts}
+use Rattle.rules.specs.Analysis.{tokenize}
 use Rattle.clauses.proofs.Tallying.{tallied-least}
 use Prim.Native.Nat.{_+_}
 use Rattle.clauses.proofs.Tallying.{terms-most, term-length-none, term-length-one, term-length-many}
@@ -19,7 +19,7 @@ returns : tie.Need-returns
 returns c = ((λ o f e. term-length-none f o _ (sym (c .before .before .count-tokens .ensures .counted) ∙ c .if1 .taken)), omega arith)
 
 sub-result : tie.Need-sub-result
-sub-result c = omega (arith, c .before .before .before .before .before .count-tokens .ensures .size, tallied-least (12 + c .before .before .before .before .before .before .before .args .field) (tokenTexts (c .before .before .before .before .before .before .before .args .analyzer) (c .before .before .before .before .before .before .before .args .text .now)) (sym (c .before .before .before .before .before .count-tokens .ensures .counted) ∙ c .before .if2 .taken))
+sub-result c = omega (arith, c .before .before .before .before .before .count-tokens .ensures .size, tallied-least (12 + c .before .before .before .before .before .before .before .args .field) (tokenize (c .before .before .before .before .before .before .before .args .analyzer) (c .before .before .before .before .before .before .before .args .text .now)) (sym (c .before .before .before .before .before .count-tokens .ensures .counted) ∙ c .before .if2 .taken))
 
 returns-2 : tie.Need-returns-2
 returns-2 c = ((λ o f e. rw (c .before .before .before .before .before .count-tokens .ensures .size, ← e) (term-length-one f o _ (sym (c .before .before .before .before .before .count-tokens .ensures .counted) ∙ c .before .if2 .taken))), omega (arith, c .before .before .before .before .before .count-tokens .ensures .size, terms-most (c .before .before .before .before .before .before .before .args .analyzer) (c .before .before .before .before .before .before .before .args .text .now) (12 + c .before .before .before .before .before .before .before .args .field) (omega arith)))

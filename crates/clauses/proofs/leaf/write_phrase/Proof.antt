@@ -2,6 +2,7 @@
 use Prim.Native.Nat.{_-_}
 use mathlib.Core.Path.{refl, _∙_}
 use Rattle.rules.specs.Analysis.{tokenize}
+use Rattle.rules.specs.Parsing.{fromFirst}
 use Rattle.rules.proofs.stored.Sizes.{length-phrase}
 use Rattle.clauses.proofs.Writing.{phrase-put}
 use native.Mathlib.Omega.{arith}
@@ -14,13 +15,13 @@ use Rattle.clauses.proofs.leaf.write_phrase.Reads as reads
 use Rattle.clauses.proofs.leaf.write_phrase.Lts as lts
 
 add-put-part : tie.Need-add-put-part
-add-put-part c = let z = length-phrase (c .before .before .before .before .args .field .now) (tokenize (c .before .before .before .before .args .analyzer) (c .before .before .before .before .args .text .now)) in omega (arith, z, c .before .before .before .before .pre .0, c .before .before .before .before .pre .3)
+add-put-part c = let z = length-phrase (c .before .before .before .before .args .field .now) (fromFirst (tokenize (c .before .before .before .before .args .analyzer) (c .before .before .before .before .args .text .now))) in omega (arith, z, c .before .before .before .before .pre .0, c .before .before .before .before .pre .3)
 
 put-part-requires : tie.Need-put-part-requires
-put-part-requires c κs = let z = length-phrase (c .before .before .before .before .args .field .now) (tokenize (c .before .before .before .before .args .analyzer) (c .before .before .before .before .args .text .now)) in (omega (arith, z, c .before .before .before .before .pre .0), omega (arith, c .before .before .before .before .pre .1))
+put-part-requires c κs = let z = length-phrase (c .before .before .before .before .args .field .now) (fromFirst (tokenize (c .before .before .before .before .args .analyzer) (c .before .before .before .before .args .text .now))) in (omega (arith, z, c .before .before .before .before .pre .0), omega (arith, c .before .before .before .before .pre .1))
 
 put-words-requires : tie.Need-put-words-requires
-put-words-requires c κs = let z = length-phrase (c .before .before .before .before .before .before .before .before .args .field .now) (tokenize (c .before .before .before .before .before .before .before .before .args .analyzer) (c .before .before .before .before .before .before .before .before .args .text .now)) in (omega (arith, z, c .before .before .before .before .before .before .before .before .pre .0, c .before .before .before .put-part .ensures .place, c .before .before .before .put-part .kept .0), c .before .before .before .before .before .before .before .before .pre .2)
+put-words-requires c κs = let z = length-phrase (c .before .before .before .before .before .before .before .before .args .field .now) (fromFirst (tokenize (c .before .before .before .before .before .before .before .before .args .analyzer) (c .before .before .before .before .before .before .before .before .args .text .now))) in (omega (arith, z, c .before .before .before .before .before .before .before .before .pre .0, c .before .before .before .put-part .ensures .place, c .before .before .before .put-part .kept .0), c .before .before .before .before .before .before .before .before .pre .2)
 
 sub-put-header : tie.Need-sub-put-header
 sub-put-header c = omega (arith, c .before .before .before .before .before .before .before .put-part .ensures .place, c .before .before .before .put-words .ensures .place)
@@ -34,7 +35,7 @@ put-header-requires c κs =
     let args = c .before .before .before .before .before .before .before .before .before .before .before .before .args in
     let put-part = c .before .before .before .before .before .before .before .put-part in
     let put-words = c .before .before .before .put-words in
-    let z = length-phrase (args .field .now) (tokenize (args .analyzer) (args .text .now)) in
+    let z = length-phrase (args .field .now) (fromFirst (tokenize (args .analyzer) (args .text .now))) in
     (omega (arith, z, pre .0, put-part .kept .0, put-words .kept .0), omega (arith, z, pre .0, pre .3, put-part .ensures .place, put-words .ensures .place))
 
 same-length : tie.Need-same-length
