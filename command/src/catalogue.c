@@ -64,8 +64,8 @@ static void put_names(writer *w, const char *path) {
     if (dot != NULL && dot != path && dot[1] != 0) put_text(w, EXT, 0, dot + 1, strlen(dot + 1));
 }
 
-static void put_part(writer *w, int field, uint32_t position, const uint8_t *from, const uint8_t *to) {
-    put_text(w, field, position, (const char *)from, (size_t)(to - from));
+static void put_note_word(writer *w, uint32_t position, const uint8_t *from, const uint8_t *to) {
+    put_text(w, NOTE, position, (const char *)from, (size_t)(to - from));
 }
 
 /* The stored query of a note: a term of one word, a phrase of several, or of none nothing. */
@@ -73,8 +73,8 @@ static void put_note(writer *w, part query) {
     if (query.tag != GORBIHESH_TERM_TAG && query.tag != GORBIHESH_PHRASE_TAG) return;
     for (const uint8_t *at = part_at(query.body).end; at < query.end; at = part_at(at).end) {
         part word = part_at(at);
-        if (word.tag == GORBIHESH_TEXT_TAG) put_part(w, NOTE, 0, word.body, word.end);
-        else put_part(w, NOTE, position_of(word), text_of(word), word.end);
+        if (word.tag == GORBIHESH_TEXT_TAG) put_note_word(w, 0, word.body, word.end);
+        else put_note_word(w, position_of(word), text_of(word), word.end);
     }
 }
 

@@ -49,8 +49,8 @@ int is_field(const char *name);
 
 extern const char default_field[]; /* of clauses that name no field */
 
-/* How a selector is parsed for the catalogue: any clause is enough, name, ext, kind and all are compared whole, and note
- * by its words.
+/* How a selector is parsed for the catalogue: any clause is enough, name, ext, kind and all are compared whole, and
+ * note by its words.
  */
 gorbihesh_answer parse_selector(const char *field, size_t field_length, const char *text, size_t length, uint8_t *out,
                                 size_t out_len, uint8_t *room, size_t room_len);

@@ -34,8 +34,8 @@ typedef struct {
 } tree;
 
 /* False where the directory itself cannot be read; `left_out` then says why. Links are not followed, so there are no
- * loops. A file is opened, to see whether it can be read, and closed; a note is read. A long walk says on stderr how far
- * it is.
+ * loops. A file is opened, to see whether it can be read, and closed; a note is read. A long walk says on stderr how
+ * far it is.
  */
 int walk(const char *directory, tree *t);
 
