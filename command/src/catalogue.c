@@ -3,12 +3,14 @@
 
 #include "memory.h"
 #include "names.h"
+#include "note.h"
+#include "query.h"
 
 #include <stdlib.h>
 
 enum { WORD_MOST = 255 }; /* bytes of a word: the analyzer cuts longer ones, each piece a word of its own */
 
-static const char *const names[FIELDS] = {"path", "name", "ext", "kind", "all", "size", "day"};
+static const char *const names[FIELDS] = {"path", "name", "ext", "kind", note_field, "all", "size", "day"};
 
 const char default_field[] = "path";
 
@@ -62,16 +64,31 @@ static void put_names(writer *w, const char *path) {
     if (dot != NULL && dot != path && dot[1] != 0) put_text(w, EXT, 0, dot + 1, strlen(dot + 1));
 }
 
+static void put_note_word(writer *w, uint32_t position, const uint8_t *from, const uint8_t *to) {
+    put_text(w, NOTE, position, (const char *)from, (size_t)(to - from));
+}
+
+/* The stored query of a note: a term of one word, a phrase of several, or of none nothing. */
+static void put_note(writer *w, part query) {
+    if (query.tag != GORBIHESH_TERM_TAG && query.tag != GORBIHESH_PHRASE_TAG) return;
+    for (const uint8_t *at = part_at(query.body).end; at < query.end; at = part_at(at).end) {
+        part word = part_at(at);
+        if (word.tag == GORBIHESH_TEXT_TAG) put_note_word(w, 0, word.body, word.end);
+        else put_note_word(w, position_of(word), text_of(word), word.end);
+    }
+}
+
 /* A size beyond a signed number is the greatest one. */
 static int64_t whole_of(uint64_t size) { return size > INT64_MAX ? INT64_MAX : (int64_t)size; }
 
-static int write_record(writer *w, const file *f) {
+static int write_record(writer *w, const file *f, const uint8_t *note) {
     char *path = form_of(f->path);
     make_small(path);
     memset(w->has, 0, sizeof w->has);
     gorbihesh_list_begin(w->to);
     put_words(w, path);
     put_names(w, path);
+    if (note != NULL) put_note(w, part_at(note));
     put_text(w, ALL, 0, "files", strlen("files"));
     put_number(w, SIZE, whole_of(f->size));
     put_number(w, DAY, f->day);
@@ -88,15 +105,38 @@ static gorbihesh_list *next_list(catalogue *c, size_t first) {
 }
 
 /* Behind the last list, or in a new one; false where no list holds it. */
-static int add_record(catalogue *c, const file *f, size_t number) {
+static int add_record(catalogue *c, const file *f, const uint8_t *note, size_t number) {
     writer w = {c->count > 0 ? &c->at[c->count - 1].list : next_list(c, number), {0}};
-    int answer = write_record(&w, f);
+    int answer = write_record(&w, f, note);
     if (answer == GORBIHESH_LIST_FULL) {
         w.to = next_list(c, number);
-        answer = write_record(&w, f);
+        answer = write_record(&w, f, note);
     }
     if (answer != GORBIHESH_LIST_DONE) return 0;
     for (int field = 0; field < FIELDS; field++) c->having[field] += (size_t)w.has[field];
+    return 1;
+}
+
+/* The words of the note on a file. Its path is the file's and more, and so comes behind it. */
+static const uint8_t *note_on(const tree *t, size_t number) {
+    const char *path = t->at[number].path;
+    size_t length = strlen(path);
+    for (size_t low = number + 1, high = t->count; low < high;) {
+        size_t middle = low + (high - low) / 2;
+        int order = strncmp(t->at[middle].path, path, length);
+        if (order == 0) order = strcmp(t->at[middle].path + length, note_ending);
+        if (order == 0) return t->at[middle].note;
+        if (order < 0) low = middle + 1;
+        else high = middle;
+    }
+    return NULL;
+}
+
+/* With its note or, if it does not fit so, without. */
+static int is_catalogued(tree *t, catalogue *c, const file *f, const uint8_t *note, size_t number) {
+    if (add_record(c, f, note, number)) return 1;
+    if (note == NULL || !add_record(c, f, NULL, number)) return 0;
+    add_notice(&t->left_out, f->path, "note on a file", "its path is too long for a catalogue record with these words");
     return 1;
 }
 
@@ -105,11 +145,11 @@ void make_catalogue(tree *t, catalogue *c) {
     memset(c, 0, sizeof *c);
     for (size_t i = 0; i < t->count; i++) {
         file f = t->at[i];
-        if (add_record(c, &f, kept)) {
+        if (is_catalogued(t, c, &f, note_on(t, i), kept)) {
             t->at[kept++] = f;
         } else {
             add_notice(&t->left_out, f.path, "file", "its path is too long for a catalogue record");
-            free(f.path);
+            free_file(&f);
         }
     }
     t->count = kept;
@@ -123,9 +163,10 @@ void free_catalogue(catalogue *c) {
 
 gorbihesh_answer parse_selector(const char *field, size_t field_length, const char *text, size_t length, uint8_t *out,
                                 size_t out_len, uint8_t *room, size_t room_len) {
-    static const uint8_t whole_fields[] = {
+    static const uint8_t fields[] = {
         GORBIHESH_KEYWORD, 4, 'n', 'a', 'm', 'e', GORBIHESH_KEYWORD, 3, 'e', 'x', 't',
-        GORBIHESH_KEYWORD, 4, 'k', 'i', 'n', 'd', GORBIHESH_KEYWORD, 3, 'a', 'l', 'l'};
-    return gorbihesh_parse(GORBIHESH_OR, GORBIHESH_SIMPLE, (const uint8_t *)field, field_length, whole_fields,
-                           sizeof whole_fields, (const uint8_t *)text, length, out, out_len, room, room_len);
+        GORBIHESH_KEYWORD, 4, 'k', 'i', 'n', 'd', GORBIHESH_KEYWORD, 3, 'a', 'l', 'l',
+        GORBIHESH_WORDS,   4, 'n', 'o', 't', 'e'};
+    return gorbihesh_parse(GORBIHESH_OR, GORBIHESH_SIMPLE, (const uint8_t *)field, field_length, fields,
+                           sizeof fields, (const uint8_t *)text, length, out, out_len, room, room_len);
 }

@@ -7,6 +7,7 @@
  *     name   the file's name, whole
  *     ext    what follows the last dot of the name
  *     kind   each folder that the file lies in, whole
+ *     note   the words of the note beside it (note.h), with their positions
  *     all    the word `files`, in every record
  *     size   its bytes, a whole number
  *     day    the day of its last change, a whole number, counted from 1 January 1970
@@ -17,7 +18,7 @@
 #include "gorbihesh_list.h"
 #include "walk.h"
 
-enum field { PATH, NAME, EXT, KIND, ALL, SIZE, DAY, FIELDS };
+enum field { PATH, NAME, EXT, KIND, NOTE, ALL, SIZE, DAY, FIELDS };
 
 typedef struct {
     gorbihesh_list list;
@@ -30,7 +31,9 @@ typedef struct {
     size_t having[FIELDS]; /* how many files have the field */
 } catalogue;
 
-/* A file whose record would not fit into any list is taken out of the tree and noted as left out. */
+/* A file whose record would not fit into any list is taken out of the tree and told as left out; where it would fit
+ * without the words of its note, those are.
+ */
 void make_catalogue(tree *t, catalogue *c);
 
 void free_catalogue(catalogue *c);
@@ -46,7 +49,9 @@ int is_field(const char *name);
 
 extern const char default_field[]; /* of clauses that name no field */
 
-/* How a selector is parsed for the catalogue: any clause is enough, and name, ext, kind and all are compared whole. */
+/* How a selector is parsed for the catalogue: any clause is enough, name, ext, kind and all are compared whole, and
+ * note by its words.
+ */
 gorbihesh_answer parse_selector(const char *field, size_t field_length, const char *text, size_t length, uint8_t *out,
                                 size_t out_len, uint8_t *room, size_t room_len);
 

@@ -35,7 +35,7 @@ static void look_at_field(looker *l, token t) {
     if (field != FIELDS && !is_number_field(field) && l->desk->lists->having[field] > 0) return;
     point_at(l, t);
     if (is_number_field(field)) puts(" holds numbers, which the text of a selector cannot ask for");
-    else puts(" is a field that no file has; the fields are path, name, ext, kind and all");
+    else puts(" is a field that no file has; the fields are path, name, ext, kind, note and all");
 }
 
 /* Typed AND, OR and NOT are operators; in other letters they are words like others. */

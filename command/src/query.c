@@ -23,6 +23,14 @@ part first_clause(part boolean) { return part_at(part_at(boolean.body).end); }
 
 part query_of(part clause) { return part_at(clause.body); }
 
+static uint32_t number_at(const uint8_t *at) {
+    return (uint32_t)at[0] << 24 | (uint32_t)at[1] << 16 | (uint32_t)at[2] << 8 | at[3];
+}
+
+uint32_t position_of(part word) { return number_at(word.body); }
+
+const uint8_t *text_of(part word) { return word.body + POSITION_BYTES; }
+
 size_t count_clauses(part boolean, int kind) {
     size_t count = 0;
     for (const uint8_t *at = part_at(boolean.body).end; at < boolean.end; at = part_at(at).end)
@@ -87,7 +95,7 @@ static void print_phrase(FILE *to, part phrase) {
     putc('"', to);
     for (const uint8_t *at = field.end; at < phrase.end; at = part_at(at).end) {
         part word = part_at(at);
-        const uint8_t *text = word.body + POSITION_BYTES;
+        const uint8_t *text = text_of(word);
         if (at > field.end) putc(' ', to);
         print_quotable(to, (const char *)text, (size_t)(word.end - text));
     }
@@ -95,7 +103,7 @@ static void print_phrase(FILE *to, part phrase) {
 }
 
 static void print_boost(FILE *to, const uint8_t *bytes) {
-    uint32_t bits = (uint32_t)bytes[0] << 24 | (uint32_t)bytes[1] << 16 | (uint32_t)bytes[2] << 8 | bytes[3];
+    uint32_t bits = number_at(bytes);
     float boost;
     memcpy(&boost, &bits, sizeof boost);
     fprintf(to, boost < 0 ? "^\\%.9g" : "^%.9g", (double)boost);

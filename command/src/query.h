@@ -23,6 +23,10 @@ part without_boost(part query);
 part first_clause(part boolean);
 part query_of(part clause);
 
+/* A word of a phrase: its text goes up to its end. */
+uint32_t position_of(part word);
+const uint8_t *text_of(part word);
+
 /* How many clauses of a kind the Boolean has. */
 size_t count_clauses(part boolean, int kind);
 

@@ -5,6 +5,7 @@
 #include "walk.h"
 
 #include "memory.h"
+#include "note.h"
 #include "print.h"
 
 #include <dirent.h>
@@ -61,16 +62,29 @@ static int64_t day_of(time_t seconds) {
     return s / SECONDS_A_DAY - (s % SECONDS_A_DAY < 0);
 }
 
-/* Only opening tells whether a file can be read. */
-static int can_be_opened(int folder_fd, const char *name) {
-    int fd = openat(folder_fd, name, O_RDONLY | O_NOFOLLOW | O_NONBLOCK | O_NOCTTY | O_CLOEXEC);
-    if (fd >= 0) close(fd);
-    return fd >= 0;
+static file *add_file(tree *t, const char *path, const struct stat *s) {
+    t->at = with_place(t->at, t->count, &t->places, sizeof *t->at);
+    t->at[t->count++] = (file){copy_of(path, strlen(path)), (uint64_t)s->st_size, day_of(s->st_mtime), NULL};
+    return &t->at[t->count - 1];
 }
 
-static void add_file(tree *t, const char *path, const struct stat *s) {
-    t->at = with_place(t->at, t->count, &t->places, sizeof *t->at);
-    t->at[t->count++] = (file){copy_of(path, strlen(path)), (uint64_t)s->st_size, day_of(s->st_mtime)};
+/* A note that is not read whole is told; as a file it is catalogued like others. */
+static void see_note(tree *t, file *f, int fd) {
+    const char *why = NULL;
+    f->note = read_note(fd, &why);
+    if (why != NULL) add_notice(&t->left_out, f->path, "text of a note", why);
+}
+
+/* Only opening tells whether a file can be read. */
+static void see_file(tree *t, int folder_fd, const char *name, const char *path, const struct stat *s) {
+    int fd = openat(folder_fd, name, O_RDONLY | O_NOFOLLOW | O_NONBLOCK | O_NOCTTY | O_CLOEXEC);
+    if (fd < 0) {
+        add_notice(&t->left_out, path, "file", strerror(errno));
+        return;
+    }
+    file *f = add_file(t, path, s);
+    if (is_note(name)) see_note(t, f, fd);
+    close(fd);
 }
 
 static void add_folder(walker *w, const char *path) {
@@ -93,10 +107,8 @@ static void see(walker *w, int folder_fd, const char *folder, const char *name) 
     else if (!S_ISREG(s.st_mode))
         add_notice(&w->found->not_followed, path, kind_of(s.st_mode),
                    S_ISLNK(s.st_mode) ? "links are not followed" : "it holds no bytes to keep");
-    else if (!can_be_opened(folder_fd, name))
-        add_notice(&w->found->left_out, path, "file", strerror(errno));
     else
-        add_file(w->found, path, &s);
+        see_file(w->found, folder_fd, name, path, &s);
     free(path);
 }
 
@@ -166,8 +178,13 @@ static void free_notices(notices *n) {
     free(n->at);
 }
 
+void free_file(file *f) {
+    free(f->path);
+    free(f->note);
+}
+
 void free_tree(tree *t) {
-    for (size_t i = 0; i < t->count; i++) free(t->at[i].path);
+    for (size_t i = 0; i < t->count; i++) free_file(&t->at[i]);
     free(t->at);
     free_notices(&t->left_out);
     free_notices(&t->not_followed);

@@ -1,4 +1,4 @@
-/* Walks a directory and gathers its files. */
+/* Walks a directory and gathers its files, and what notes say. */
 #ifndef WALK_H
 #define WALK_H
 
@@ -9,6 +9,7 @@ typedef struct {
     char *path; /* below the directory, folders parted by / */
     uint64_t size;
     int64_t day; /* of the last change, counted from 1 January 1970 */
+    uint8_t *note; /* its words where it is a note (note.h), or NULL */
 } file;
 
 /* Something of the directory that is not in the catalogue. */
@@ -33,13 +34,15 @@ typedef struct {
 } tree;
 
 /* False where the directory itself cannot be read; `left_out` then says why. Links are not followed, so there are no
- * loops. A file is opened, to see whether it can be read, and closed. A long walk says on stderr how far it is.
+ * loops. A file is opened, to see whether it can be read, and closed; a note is read. A long walk says on stderr how
+ * far it is.
  */
 int walk(const char *directory, tree *t);
 
 void add_notice(notices *n, const char *path, const char *what, const char *why);
 void sort_notices(notices *n);
 
+void free_file(file *f);
 void free_tree(tree *t);
 
 #endif

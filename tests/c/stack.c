@@ -23,8 +23,10 @@ static size_t most;
 
 static void call_nothing(void) { answer.refusal = 0; }
 
+static uint8_t analyzer = GORBIHESH_SIMPLE;
+
 static void call_parse(void) {
-    answer = gorbihesh_parse(GORBIHESH_OR, GORBIHESH_SIMPLE, (const uint8_t *)"path", 4, (const uint8_t *)"\3\4kind", 6,
+    answer = gorbihesh_parse(GORBIHESH_OR, analyzer, (const uint8_t *)"path", 4, (const uint8_t *)"\3\4kind", 6,
                              text.at, text.len, out, OUTPUT, room, gorbihesh_parse_room());
 }
 
@@ -78,6 +80,15 @@ static void parsing(void) {
     print("parse", "24 prohibited brackets, a tiny numeral", call_parse);
     put_text("", "(", 25, "");
     print("parse", "a 25th bracket", call_parse);
+}
+
+static void parsing_words(void) {
+    analyzer = GORBIHESH_ENGLISH;
+    put_text("\"", "don't move the 3.5 kg lid ", 39, "\"");
+    print("parse", "39 notes in one, English", call_parse);
+    put_text("", "-(", 24, "\"don't move the 3.5 kg lid\"^7.006492321624085354618647916449580e\\-46))))))))))))))))))))))))");
+    print("parse", "24 prohibited brackets, a note, a tiny numeral", call_parse);
+    analyzer = GORBIHESH_SIMPLE;
 }
 
 /* So many records one in another; each Boolean one has a second clause beside. */
@@ -139,6 +150,7 @@ int main(void) {
     room = malloc(gorbihesh_parse_room() + gorbihesh_rewrite_room() + gorbihesh_select_room() + 1);
     if (room == NULL) return 2;
     parsing();
+    parsing_words();
     rewriting();
     selecting();
     free(room);

@@ -1,5 +1,5 @@
-"""The command beside a plain model: a tree of odd names, 51 selectors drawn from what the files are called, and what `night`, `check`
-and `why` make of them.
+"""The command beside a plain model: a tree of odd names and odd notes, 51 selectors drawn from what the files are called and what their
+notes say, and what `night`, `check` and `why` make of them.
 
     python3 tests/command/beside.py GORBIHESH FOLDER SEED
 
@@ -15,7 +15,12 @@ import sys
 
 PIECES = [b"a", b"B", b"c", b"Z", b"AND", b"0", b"1", b"3", b".", b".", b" ", b"-", b"_", b"%", b"*", b"(", b":", b'"', b"\\", b"\n",
           b"\xc3\xa9", b"\xff"]
+SAID = [b"lid", b"Don't", b"3.5", b"1,000", b"THE", b"a_b", b"kg", b"m:n", b"'", b".", b",", b";", b" ", b" ", b" ", b"-", b"\n", b"\r\n", b'"', b"\\",
+        b"\xc3\xa9", b"\0", b"7"]
 FILES, SELECTORS = 272, 51
+
+# A word of a note, by the boundary rules of UAX #29 for ASCII: letters, digits and _, and a mark between two letters or two digits.
+WORD = re.compile(r"(?:[A-Za-z0-9_]|(?<=[A-Za-z])[:.'](?=[A-Za-z])|(?<=[0-9])[,;.'](?=[0-9]))+")
 
 
 def form(name):
@@ -34,26 +39,38 @@ def draw_name():
             return name
 
 
+def draw_note():
+    return b"".join(random.choice(SAID) for _ in range(random.randint(0, 12)))
+
+
+def words(note):
+    return [word.lower() for word in WORD.findall(note.decode("latin-1")) if re.search("[A-Za-z0-9]", word)]
+
+
 def make_tree(root):
-    """Files below the root, by their paths, in order. A name that is taken by a folder makes none."""
+    """Files below the root, by their paths, in order, and the notes on some of them. A name that is taken by a folder makes none."""
     folders = [b""] + [draw_name() + b"/" for _ in range(6)]
     folders += [random.choice(folders) + draw_name() + b"/" for _ in range(6)]
     for folder in folders:
         os.makedirs(root + b"/" + folder, exist_ok=True)
     paths = {random.choice(folders) + draw_name() for _ in range(FILES)}
     paths = {path for path in paths if not os.path.isdir(root + b"/" + path)}
-    for path in paths:
-        open(root + b"/" + path, "wb").close()
-    return sorted(paths)
+    notes = {path: draw_note() for path in sorted(paths)[::3] if not os.path.isdir(root + b"/" + path + b".note")}
+    said = {path + b".note": note for path, note in notes.items()}
+    for path in paths | said.keys():
+        with open(root + b"/" + path, "wb") as to:
+            to.write(said.get(path, b""))
+    return sorted(paths | said.keys()), notes
 
 
-def entries(path):
+def entries(path, note):
     """What the catalogue holds of a file."""
     small = form(path).lower()
     *folders, name = small.split("/")
     dot = name.rfind(".")
     ending = {name[dot + 1:]} if 0 < dot < len(name) - 1 else set()
-    return {"kind": set(folders), "name": {name}, "ext": ending, "all": {"files"}, "path": re.findall("[a-z]+", small)}
+    return {"kind": set(folders), "name": {name}, "ext": ending, "all": {"files"}, "path": re.findall("[a-z]+", small),
+            "note": words(note)}
 
 
 def typed(text):
@@ -64,15 +81,16 @@ def typed(text):
 
 def draw_clause(records):
     """A clause that some file meets, and whether a record does."""
-    field = random.choice(["kind", "name", "ext", "all", "path", "path"])
+    field = random.choice(["kind", "name", "ext", "all", "path", "path", "note", "note"])
     has = random.choice(list(records.values()))[field]
     if not has:
         return draw_clause(records)
-    if field == "path":
+    if field in ("path", "note"):
         at = random.randrange(len(has))
-        words = has[at:at + random.randint(1, 2)]
-        return typed(" ".join(words)), lambda r: any(
-            r["path"][i:i + len(words)] == words for i in range(len(r["path"])))
+        drawn = has[at:at + random.randint(1, 2)]
+        prefix = "" if field == "path" else "note:"
+        return prefix + typed(" ".join(drawn)), lambda r: any(
+            r[field][i:i + len(drawn)] == drawn for i in range(len(r[field])))
     text = random.choice(sorted(has))
     return field + ":" + typed(text), lambda r: text in r[field]
 
@@ -108,8 +126,8 @@ def paths_of(picks):
 
 def differences(command, folder):
     root = os.fsencode(folder) + b"/tree"
-    files = make_tree(root)
-    records = {form(path): entries(path) for path in files}
+    files, notes = make_tree(root)
+    records = {form(path): entries(path, notes.get(path, b"")) for path in files}
     drawn = [draw_selector(records) for _ in range(SELECTORS)]
     record, copied = night(command, folder, root, [text for text, _ in drawn])
     picked = {path for _, paths in drawn for path in paths}

@@ -48,8 +48,9 @@ def ask(lines):
 
 
 def site_fields():
-    """The fields of the command's catalogue that are compared whole, as gorbihesh_parse takes them."""
-    return b"".join(bytes([KEYWORD, len(name)]) + name for name in (b"name", b"ext", b"kind", b"all"))
+    """The fields of the command's catalogue that are no words of the path, with their analyzers, as gorbihesh_parse takes them."""
+    whole = [(KEYWORD, name) for name in (b"name", b"ext", b"kind", b"all")]
+    return b"".join(bytes([analyzer, len(name)]) + name for analyzer, name in [*whole, (WORDS, b"note")])
 
 
 def site_files():

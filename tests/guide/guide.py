@@ -66,7 +66,7 @@ def examples():
     rows = pages.with_columns(text(), "Selector", "Picks")
     selectors = [pages.code(row["Selector"]) for row in rows]
     told = differ("Picks", [(s, named(row["Picks"]), true) for s, row, true in zip(selectors, rows, calls.picks(selectors))])
-    return told if len(rows) == 20 else told + [f"{PAGE}: {len(rows)} examples, not twenty"]
+    return told if len(rows) == 22 else told + [f"{PAGE}: {len(rows)} examples, not twenty-two"]
 
 
 def equals():

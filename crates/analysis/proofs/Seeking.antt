@@ -1,5 +1,5 @@
 -- Where a word begins, and where it ends, a byte at a time. Assumes nothing.
-use mathlib.Core.Path.{_≡_, refl, sym, ap, _∙_}
+use mathlib.Core.Path.{_≡_, refl, sym, ap, subst, _∙_}
 use mathlib.Core.Logic.{_⊎_, inl, inr, ⊎-elim}
 use mathlib.Core.Bool.{Bool, true, false, true≢false, _||_, _&&_}
 use mathlib.Core.List.{List}
@@ -18,7 +18,8 @@ use Rattle.rules.proofs.text.Classes.{isPlain, plain-flag, alphanumeric-flag}
 use Rattle.rules.proofs.text.Values.{bridge-near}
 use Rattle.rules.proofs.text.Words.{by-less, OnWay, joined-past, reach-at, reach-more, reach-least, reach-most, solid-at, inner-at, bridge-joined, outer-boundary, way-joined, way-on, begins-way, found-begins, skip-pieces, skip-start, start-begins, start-end, start-within, pieces-end, begins-one}
 use Rattle.rules.specs.Numbers.{chunkMost}
-use Rattle.analysis.specs.Words.{Begins, Starts}
+use Rattle.analysis.specs.Words.{Begins, Starts, Held}
+use Rattle.analysis.proofs.Bridges.{or-skip}
 use Rattle.analysis.specs.Tokens.{wordText, FoundWord}
 
 -- ---- to a word's start
@@ -183,6 +184,41 @@ module _ (s : List ℕ) where
 
   pub ending-ends : {start end i : ℕ} → Ending s start end i → end ≤ i → end ≡ min end (reach s (suc start))
   ending-ends {start} {end} {i} E h = omega (arith, E .same, reach-least s i, E .high)
+
+  -- over bytes that hold together
+  ending-over : {start end i : ℕ} (n : ℕ) → Ending s start end i → i + n ≤ end → ((k : ℕ) → i ≤ k → k < i + n → isInner (valueAt s (suc (suc k))) ≡ true) → Ending s start end (i + n)
+  ending-over {start} {end} {i} zero E h held = let z : i + 0 ≡ i = omega arith in rw z E
+  ending-over {start} {end} {i} (suc n) E h held =
+      let z : i + suc n ≡ i + n + 1 = omega arith in
+      let F = ending-over n E (omega arith) (λ k l m. held k l (omega arith)) in
+      rw z (ending-goes F (sym (or-l (isBridge s (i + n)) (held (i + n) (omega arith) (omega arith)))) refl (omega arith))
+
+  pub ending-run : {start end i r : ℕ} → Ending s start end i → Held s i end r → Ending s start end r
+  ending-run {start} {end} {i} {r} E H =
+      let z : i + (r - i) ≡ r = omega (arith, H .low) in
+      subst (Ending s start end) z (ending-over (r - i) E (omega (arith, H .low, H .high)) (λ k l m. H .each k l (omega (arith, H .low))))
+
+  -- over a byte that joins, and what holds together behind it
+  pub ending-bridge : {start end i r : ℕ} {b : Bool} → Ending s start end i → (i < end → isInner (valueAt s (suc (suc i))) ≡ false) → i < end → b ≡ isBridge s i → b ≡ true → Held s (i + 1) end r → Ending s start end r
+  ending-bridge {start} {end} {i} E n h e g H = ending-run (ending-goes E (e ∙ sym (or-skip (isBridge s i) (n h))) g h) H
+
+  pub ending-breaks : {start end i : ℕ} {b : Bool} → Ending s start end i → (i < end → isInner (valueAt s (suc (suc i))) ≡ false) → i < end → b ≡ isBridge s i → b ≡ false → i ≡ min end (reach s (suc start))
+  ending-breaks {start} {end} {i} E n h e g = ending-stops E (e ∙ sym (or-skip (isBridge s i) (n h))) g h
+
+-- bytes that hold together, one at a time
+module _ (s : List ℕ) {from end i : ℕ} (l : from ≤ i) (each : (k : ℕ) → from ≤ k → k < i → isInner (valueAt s (suc (suc k))) ≡ true) where
+  module _ (h : i < end) (m : end ≤ length s) {x : ℕ} (e : x ≡ classOf (getD s i 0)) where
+    plain-here : isInner (valueAt s (suc (suc i))) ≡ leb 16 x
+    plain-here = inner-at s i (omega arith) ∙ sym (plain-flag (getD s i 0)) ∙ ap (leb 16) (sym e)
+
+    pub held-stops : x < 16 → Held s from end i
+    held-stops g = record { low = l; high = omega arith; each = each; stop = λ _. plain-here ∙ lt-leb 16 x g }
+
+    pub held-on : 16 ≤ x → (k : ℕ) → from ≤ k → k < i + 1 → isInner (valueAt s (suc (suc k))) ≡ true
+    held-on g k o p = by-less k i (λ q. each k o q) (λ q. let z : k ≡ i = omega arith in rw z (plain-here ∙ le-leb 16 x g))
+
+  pub held-ends : i ≤ end → end ≤ i → Held s from end end
+  held-ends m h = let z : i ≡ end = omega arith in record { low = omega arith; high = omega arith; each = λ k o p. each k o (omega arith); stop = λ q. absurd (omega arith) }
 
 -- ---- the first token of words
 

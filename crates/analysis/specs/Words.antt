@@ -14,6 +14,14 @@ use Rattle.rules.specs.InWords.{isInner, valueAt, isWithin, wordAt, tokenStart,
 unfoldable pub joinsBy : ℕ → ℕ → ℕ → Bool
 joinsBy b m d = cond (leb 64 b) (leb 64 d && eqb (m / 4 % 2) 1) (leb 32 b && (leb 32 d && (not (leb 64 d) && eqb (m / 8 % 2) 1)))
 
+-- from a place on, bytes that hold together go up to r: to the end, or to one that does not hold
+pub record Held (s : List ℕ) (from end r : ℕ) : Type 0 where
+  -- these leave no other answer
+  pub low : from ≤ r
+  pub high : r ≤ end
+  pub each : (k : ℕ) → from ≤ k → k < r → isInner (valueAt s (suc (suc k))) ≡ true
+  pub stop : r < end → isInner (valueAt s (suc (suc r))) ≡ false
+
 -- a token begins at a place: it stands in a word, or a word that has a letter or a digit begins there
 abbrev pub Begins : List ℕ → ℕ → Type 0
 Begins s at =

@@ -13,7 +13,7 @@ ghost use lib.ListN.{length};
 ghost use Rattle.rules.specs.Words.{reach};
 ghost use Rattle.rules.specs.Analysis.{classes};
 ghost use Rattle.rules.specs.InWords.{isInner, valueAt, isBridge, isWithin};
-ghost use Rattle.analysis.specs.Words.{joinsBy, Starts, Begins};
+ghost use Rattle.analysis.specs.Words.{joinsBy, Starts, Begins, Held};
 
 // The byte between two others joins them, by their classes.
 fn joins(before: u8, mid: u8, behind: u8) -> bool
@@ -123,17 +123,33 @@ pub fn start_of(table: &[u8; 128], text: &[u8], at: usize) -> usize
     seek(table, text, at)
 }
 
-// Where the word ends that begins at a place, or that the place stands in; `end` where it passes that.
+// Where the bytes that hold together end, from a place on; `end` where all before it do. One look at the table a byte.
+fn run_end(table: &[u8; 128], text: &[u8], from: usize, end: usize) -> usize
+    requires { ⌜ (now table ≡ classes) × (from ≤ end) × (end ≤ length (now text)) ⌝ }
+    ensures { λ r. ⌜ Held (now (text .entry)) from end r ⌝ }
+{
+    let mut i = from;
+    while i < end {
+        if class_of(table, text[i]) < UNDERSCORE_CLASS {
+            return i;
+        }
+        i += 1;
+    }
+    end
+}
+
+// Where the word ends that begins at a place, or that the place stands in; `end` where it passes that. Only where a run of it ends is it
+// asked whether the next byte joins it to another.
 pub fn end_of(table: &[u8; 128], text: &[u8], start: usize, end: usize) -> usize
     requires { ⌜ (now table ≡ classes) × (start < end) × (end ≤ length (now text)) × (Begins (now text) start) ⌝ }
     ensures { λ r. ⌜ r ≡ min end (reach (now (text .entry)) (suc start)) ⌝ }
 {
-    let mut i = start + 1;
+    let mut i = run_end(table, text, start + 1, end);
     while i < end {
-        if !goes_on(table, text, i) {
+        if !is_bridge(table, text, i) {
             return i;
         }
-        i += 1;
+        i = run_end(table, text, i + 1, end);
     }
     end
 }

@@ -2,7 +2,7 @@
 //! damaged and stretched to the limits, under random setups; and rewriting of random stored queries.
 //! What document 01 decides alone (refusals 1 to 3, 15 to 21) is found by the crate `plain`.
 //!
-//!     compare_original COUNT SEED
+//!     compare_original COUNT SEED [texts]    with `texts`, the texts alone
 
 mod tally;
 mod texts;
@@ -29,11 +29,17 @@ fn main() {
     }
     texts.print();
     short_words(&mut desk);
+    if std::env::args().nth(3).as_deref() != Some("texts") {
+        rewritings(count, seed, &mut desk);
+    }
+}
+
+fn rewritings(count: u64, seed: u64, desk: &mut Desk) {
     let mut rewritings = Tally::new("rewrite beside the original");
     let (mut apart, mut most) = (0, 0);
     for i in 0..count {
         let mut r = generator(!seed, i);
-        let answer = rewrite(&mut r, &mut desk);
+        let answer = rewrite(&mut r, desk);
         match &answer {
             Some(Ok((_, rounds))) => most = most.max(*rounds),
             Some(Err(_)) => {}
