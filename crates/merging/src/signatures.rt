@@ -70,13 +70,12 @@ pub fn note(table: &mut [u8], g: usize)
     }
 }
 
-// Does the table say that one clause alone has this stretch's signature? An empty table says so of none.
+// Does the table say that one clause alone has this stretch's signature? An empty one says so of none.
 pub fn is_alone(table: &[u8], s: &[u8]) -> bool
     ensures { λ r. ⌜ (r ≡ true → cellOf (now (table .entry)) (signatureOf (now (s .entry))) ≡ 1) ⌝ }
 {
-    let g = signature(s);
-    if g / 4 < table.len() {
-        return cell(table, g) == 1;
+    if table.len() != TABLE {
+        return false;
     }
-    false
+    cell(table, signature(s)) == 1
 }
