@@ -173,6 +173,12 @@ module _ {at : ℕ} {room : List ℕ} (R : Room at room) where
             small = omega (arith, inner-stands .size, R .small, N .size);
           }
 
+      -- the last step makes f of it
+      inner-done : (f : Query → Query) → rewriteOnce (R .query) ≡ f (rewriteOnce (N .inner)) → {r : ℕ} {room₂ : List ℕ}
+          → ((q : Query) → Is (take n (drop k (returned k room ys))) q → Stands 0 (returned k room ys) r (encode (f q)) room₂)
+          → (q : Query) → Is (drop at room) q → Stands 0 room r (encode (rewriteOnce q)) room₂
+      inner-done f e U = for-all (rw e (stands-over inner-stands (U (rewriteOnce (N .inner)) inner-is) (omega arith)))
+
   -- ---- a phrase
 
   module _ (h : getD room at 0 ≡ 2) where
@@ -233,12 +239,10 @@ module _ {at : ℕ} {room : List ℕ} (R : Room at room) where
           → ((q : Query) → Is (take n (drop 7 (returned 7 room ys))) q → Stands 0 (returned 7 room ys) r (encode (cond (isOne (widened b)) q (boosted b q))) room₂)
           → (q : Query) → Is (drop at room) q → Stands 0 room r (encode (rewriteOnce q)) room₂
       unfolding rewriteOnce
-      boost-done b eb {r} {room₂} U =
-          let e = eb ∙ read-at 4 3 ∙ B .read in
+      boost-done b eb =
           let p = rewriteOnce (B .nested .inner) in
-          let X = stands-over (inner-stands (B .nested) T) (U p (inner-is (B .nested) T)) (omega arith) in
-          for-all (subst (λ (q : Query). Stands 0 room r (encode (rewriteOnce q)) room₂) (sym (B .is))
-          (subst (λ (x : ℕ). Stands 0 room r (encode (cond (isOne (widened x)) p (boosted x p))) room₂) e X))
+          inner-done (B .nested) T (λ q. cond (isOne (widened b)) q (boosted b q))
+          (ap rewriteOnce (B .is) ∙ ap (λ (x : ℕ). cond (isOne (widened x)) p (boosted x p)) (sym (eb ∙ read-at 4 3 ∙ B .read)))
 
   -- ---- a constant score
 
@@ -277,9 +281,7 @@ module _ {at : ℕ} {room : List ℕ} (R : Room at room) where
           → ((q : Query) → Is (take n (drop 3 (returned 3 room ys))) q → Stands 0 (returned 3 room ys) r (encode (scored q)) room₂)
           → (q : Query) → Is (drop at room) q → Stands 0 room r (encode (rewriteOnce q)) room₂
       unfolding rewriteOnce
-      score-done {r} {room₂} U =
-          for-all (subst (λ (q : Query). Stands 0 room r (encode (rewriteOnce q)) room₂) (sym (C .is)) (stands-over (inner-stands (C .nested) T)
-          (U (rewriteOnce (C .nested .inner)) (inner-is (C .nested) T)) (omega arith)))
+      score-done = inner-done (C .nested) T scored (ap rewriteOnce (C .is))
 
   -- ---- a Boolean
 
