@@ -4,4 +4,5 @@ pub mod Laid
 pub mod Rows
 pub mod Eating
 pub mod Alike
+pub mod Cells
 pub mod Merging

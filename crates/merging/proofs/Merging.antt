@@ -21,7 +21,7 @@ use Rattle.numbers.specs.Laid.{Put}
 use Rattle.numbers.proofs.Laying.{there-laid}
 use Rattle.places.specs.Within.{within, Stands}
 use Rattle.merging.specs.Merge.{First, Eatable, Ate, reboostedBytes, mergedSize, Way, Mergeable}
-use Rattle.merging.specs.Signatures.{signatureOf, having, Noted, Alone}
+use Rattle.merging.specs.Signatures.{signatureOf, having, cellOf, Noted, Alone}
 use Rattle.places.proofs.Standing.{joined, second, within-same, within-length, behind-laid}
 use Rattle.merging.proofs.Forms.{are-same}
 use Rattle.merging.proofs.Placed.{ClauseAt, clause-at, no-clause-at, clause-end, clause-is, clause-further}
@@ -157,7 +157,7 @@ module _ {end m : ℕ} {table room₀ room : List ℕ} {t w last : ℕ} (g : Mer
         others-alone cs a one =
             let sg = signatureOf (encode h) in
             let z : signatureOf (within b e room) ≡ signatureOf (encode h) = ap signatureOf base-here in
-            let c = g .noted sg (ap (λ (i : ℕ). getD table i 0) (sym z) ∙ one) in
+            let c = g .noted sg (ap (cellOf table) (sym z) ∙ one) in
             let l = ap (having m sg) (here .split) ∙ having-first m (here .kind) (here .query) (here .others) in
             let o : having m (signatureOf (encode h)) (here .others) ≡ 0 = omega arith in
             ap (λ (i : ℕ). having m i cs) z ∙ ap (having m sg) (are-same a others-are) ∙ o

@@ -1,14 +1,14 @@
 -- What the merging of clauses in their place says of its parts.
 use mathlib.Core.Path.{_≡_}
 use mathlib.Core.Logic.{_⊎_}
-use Prim.Native.Nat.{ℕ, _+_, _-_, _≤_, _<_, max}
+use Prim.Native.Nat.{ℕ, suc, _+_, _-_, _≤_, _<_, max}
 use mathlib.Core.List.{List, _++_}
 use mathlib.Core.Bool.{Bool, cond}
 use lib.ListN.{length, take}
 use lib.Ieee.{Float}
 use Rattle.rules.specs.Numbers.{boostTag}
 use Rattle.rules.specs.Bytes.{big, part}
-use Rattle.rules.specs.Query.{Kind, Query, Clauses}
+use Rattle.rules.specs.Query.{Kind, Query, Clauses, none, clause}
 use Rattle.rules.specs.Stored.{kindTag, encode}
 use Rattle.rules.specs.Checked.{Is, Are}
 use Rattle.rules.specs.Floats.{isOne, narrowed}
@@ -70,3 +70,11 @@ pub record Mergeable (end : ℕ) (room : List ℕ) : Type 0 where
   pub are : Are (within 0 end room) clauses
   pub fits : end + clauseCounts clauses ≤ length room
   pub small : end + clauseCounts clauses < 65536
+
+-- so many clauses are compared with no table; and how many there are, nested ones not counted
+abbrev pub few : ℕ
+few = 12
+
+unfoldable pub howMany : Clauses → ℕ
+howMany none = 0
+howMany (clause k q cs) = suc (howMany cs)

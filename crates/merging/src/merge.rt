@@ -1,9 +1,9 @@
 // The merging of clauses, in their place: the first clause is kept and goes once over those behind it; what it stands for it takes up, boost by boost
 // in clause order, and what lies between is moved over what was taken up. Then the next of those that are left.
 // A merged clause travels as base, kind and its running float sum.
-use crate::signatures::SIGNATURES;
+use crate::signatures::TABLE;
 use crate::signatures::is_alone;
-use crate::signatures::one_more;
+use crate::signatures::note;
 use crate::signatures::signature;
 use floats::sums::add;
 use floats::sums::as_sum;
@@ -28,6 +28,7 @@ ghost use mathlib.Core.Path.{_≡_};
 ghost use mathlib.Core.List.{_++_};
 ghost use Prim.Native.Nat.{_+_, _-_, _<_, _≤_};
 ghost use lib.ListN.{length};
+ghost use lib.Dec.{leb};
 ghost use Rattle.rules.specs.Numbers.{boostTag};
 ghost use Rattle.rules.specs.Bytes.{big, part};
 ghost use Rattle.rules.specs.Query.{Kind, Query, Clauses};
@@ -38,11 +39,11 @@ ghost use Rattle.rules.specs.Rewriting.{summable, standsFor, base, boostOf};
 ghost use Rattle.rules.specs.Eating.{held, mergedClauses};
 ghost use Rattle.numbers.specs.Laid.{Put};
 ghost use Rattle.places.specs.Within.{within, Stands};
-ghost use Rattle.merging.specs.Signatures.{signatures, Noted, Alone};
-ghost use Rattle.merging.specs.Merge.{Eats, Fed, First, Eatable, Ate, reboostedBytes, mergedSize, Way, Mergeable};
+ghost use Rattle.merging.specs.Signatures.{tableBytes, Noted, Alone};
+ghost use Rattle.merging.specs.Merge.{Eats, Fed, First, Eatable, Ate, reboostedBytes, mergedSize, Way, Mergeable, few, howMany};
 
 // So many clauses are compared with no table.
-const FEW: usize = 8;
+const FEW: usize = 12;
 
 // Before a boosted clause's base stand a header, a boost's header and its bits.
 const BITS: usize = HEADER + HEADER;
@@ -307,13 +308,12 @@ fn merge_all(room: &mut [u8], end: usize, least: usize, table: &[u8]) -> usize
 
 // Notes the signature of each clause in the table.
 fn note_all(s: &[u8], least: usize, table: &mut [u8])
-    requires { ⌜ StoredClauses (now s) × (length (now table) ≡ signatures) ⌝ }
+    requires { ⌜ StoredClauses (now s) × (length (now table) ≡ tableBytes) ⌝ }
     ensures { λ _. ⌜ ((cs : Clauses) → Are (now (s .entry)) cs → Noted least (now (table .exit)) cs) ⌝ }
 {
     let mut t = s;
     while t.len() > 0 {
-        let g = signature(held(least, t[0], body(t)));
-        table[g] = one_more(table[g]);
+        note(table, signature(held(least, t[0], body(t))));
         let u = rest(t);
         t = u;
     }
@@ -323,14 +323,15 @@ fn merge_many(room: &mut [u8], end: usize, least: usize) -> usize
     requires { ⌜ Mergeable end (now room) ⌝ }
     ensures { λ r. ⌜ ((cs : Clauses) → Are (within 0 end (now (room .entry))) cs → Stands 0 (now (room .entry)) r (encodes (mergedClauses least cs)) (now (room .exit))) ⌝ }
 {
-    let mut table = [0u8; SIGNATURES];
+    let mut table = [0u8; TABLE];
     note_all(&room[0..end], least, &mut table);
     merge_all(room, end, least, &table)
 }
 
-// Are there so few clauses that a table is not worth its clearing? Whatever it answers, merging gives the same.
+// Are there so few clauses that a table is not worth its clearing?
 fn is_few(clauses: &[u8]) -> bool
     requires { ⌜ StoredClauses (now clauses) ⌝ }
+    ensures { λ r. ⌜ ((cs : Clauses) → Are (now (clauses .entry)) cs → r ≡ leb (howMany cs) few) ⌝ }
 {
     let mut t = clauses;
     let mut n: usize = 0;

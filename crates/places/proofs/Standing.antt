@@ -56,6 +56,21 @@ module _ (room : List ℕ) (to from n : ℕ) (here : from + n ≤ length room) (
   moved-at : (k : ℕ) → k < n → getD (take n (drop from room)) k 0 ≡ getD room (from + k) 0
   moved-at k h = getD-take n (drop from room) k 0 h ∙ getD-drop from room k 0
 
+  -- what stands there already
+  pub unmoved : to ≡ from → Put room to (take n (drop from room)) (to + n) room
+  unfolding laid
+  unmoved e =
+      let s = take n (drop from room) in
+      let z : to + n ≡ to + length s = omega (arith, moved-length) in
+      record {
+        place = omega (arith, moved-length);
+        bytes =
+            sym (take-append-drop to room) ∙ ap {B = List ℕ} (λ l. take to room ++ l) (sym (take-append-drop n (drop to room)))
+            ∙ sym (append-assoc (take to room) (take n (drop to room)) (drop n (drop to room)))
+            ∙ ap {B = List ℕ} (λ l. take to room ++ take n (drop to room) ++ l) (drop-drop n to room ∙ ap (λ (i : ℕ). drop i room) z)
+            ∙ ap {B = List ℕ} (λ i. take to room ++ take n (drop i room) ++ drop (to + length s) room) e;
+      }
+
   -- the first byte first: one that is still to be read has not been written over
   down-read : (l : List ℕ) (k : ℕ) → k < n → l ≡ paste room to (take n (drop from room)) k → to ≤ from → getD l (from + k) 0 ≡ getD room (from + k) 0
   down-read l k h e b =

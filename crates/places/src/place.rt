@@ -3,12 +3,16 @@ ghost use Prim.Native.Nat.{_+_, _≤_};
 ghost use lib.ListN.{length, take, drop};
 ghost use Rattle.numbers.specs.Laid.{Put};
 
-// Lays the n bytes that stand at `from` at `to`, and gives the place behind what was laid. The two may overlap.
+// Lays the n bytes that stand at `from` at `to`, and gives the place behind what was laid. The two may overlap; what stands there already is
+// not moved.
 pub fn shift(room: &mut [u8], to: usize, from: usize, n: usize) -> usize
     requires { ⌜ (from + n ≤ length (now room)) × (to + n ≤ length (now room)) ⌝ }
     ensures { λ r. ⌜ Put (now (room .entry)) to (take n (drop from (now (room .entry)))) r (now (room .exit)) ⌝ }
 {
-    if to <= from {
+    if to == from {
+        return to + n;
+    }
+    if to < from {
         return shift_down(room, to, from, n);
     }
     shift_up(room, to, from, n)

@@ -2,7 +2,7 @@
 use mathlib.Core.Path.{_≡_, refl, sym, ap, _∙_, subst}
 use Prim.Native.Nat.{ℕ, _+_, _-_, _≤_, _<_}
 use mathlib.Core.List.{List, _++_}
-use mathlib.Core.Bool.{Bool, true, false}
+use mathlib.Core.Bool.{true, false, cond}
 use native.Mathlib.Omega.{arith}
 use lib.ListN.{length, getD, take, drop, length-drop}
 use lib.Seq.{drop-drop}
@@ -173,6 +173,12 @@ module _ {at : ℕ} {room : List ℕ} (R : Room at room) where
             small = omega (arith, inner-stands .size, R .small, N .size);
           }
 
+      -- the last step makes f of it
+      inner-done : (f : Query → Query) → rewriteOnce (R .query) ≡ f (rewriteOnce (N .inner)) → {r : ℕ} {room₂ : List ℕ}
+          → ((q : Query) → Is (take n (drop k (returned k room ys))) q → Stands 0 (returned k room ys) r (encode (f q)) room₂)
+          → (q : Query) → Is (drop at room) q → Stands 0 room r (encode (rewriteOnce q)) room₂
+      inner-done f e U = for-all (rw e (stands-over inner-stands (U (rewriteOnce (N .inner)) inner-is) (omega arith)))
+
   -- ---- a phrase
 
   module _ (h : getD room at 0 ≡ 2) where
@@ -221,36 +227,22 @@ module _ {at : ℕ} {room : List ℕ} (R : Room at room) where
     pub boost-low : at + 10 ≤ length room
     boost-low = let l = B .nested .low in omega arith
 
-    pub boost-room-one : Room (at + 7) room
-    boost-room-one = let N = B .nested in record { query = N .inner; is = N .here; fits = omega (arith, R .fits, N .count); small = omega (arith, R .small, N .size) }
-
     pub boost-room : Room at (within 7 (length room) room)
     boost-room = inner-room (B .nested)
-
-    module _ (b : ℕ) (eb : b ≡ ofBig (take 4 (within (at + 3) (length room) room))) (o : Bool) (eo : o ≡ isOne (widened b)) where
-      test : isOne (widened (B .bits)) ≡ o
-      test = ap (λ (x : ℕ). isOne (widened x)) (sym (eb ∙ read-at 4 3 ∙ B .read)) ∙ sym eo
-
-      pub boost-one : o ≡ true → {r : ℕ} {room′ : List ℕ} → ((q : Query) → Is (drop (at + 7) room) q → Stands 0 room r (encode (rewriteOnce q)) room′)
-          → (q : Query) → Is (drop at room) q → Stands 0 room r (encode (rewriteOnce q)) room′
-      unfolding rewriteOnce
-      boost-one t {r} {room′} S =
-          for-all (subst (λ (q : Query). Stands 0 room r (encode (rewriteOnce q)) room′) (sym (B .is)) (rw (test ∙ t) (S (B .nested .inner) (B .nested .here))))
 
     -- the stretch from 7 on came back as ys
     module _ {n : ℕ} {ys : List ℕ} (T : (q : Query) → Is (drop at (within 7 (length room) room)) q → Stands 0 (within 7 (length room) room) n (encode (rewriteOnce q)) ys) where
       pub boost-inside : Inner 7 n (returned 7 room ys)
       boost-inside = inner-inside (B .nested) T
 
-      pub boost-done : (b : ℕ) → b ≡ ofBig (take 4 (within (at + 3) (length room) room)) → (o : Bool) → o ≡ isOne (widened b) → o ≡ false → {r : ℕ} {room₂ : List ℕ}
-          → ((q : Query) → Is (take n (drop 7 (returned 7 room ys))) q → Stands 0 (returned 7 room ys) r (encode (boosted b q)) room₂)
+      pub boost-done : (b : ℕ) → b ≡ ofBig (take 4 (within (at + 3) (length room) room)) → {r : ℕ} {room₂ : List ℕ}
+          → ((q : Query) → Is (take n (drop 7 (returned 7 room ys))) q → Stands 0 (returned 7 room ys) r (encode (cond (isOne (widened b)) q (boosted b q))) room₂)
           → (q : Query) → Is (drop at room) q → Stands 0 room r (encode (rewriteOnce q)) room₂
       unfolding rewriteOnce
-      boost-done b eb o eo f {r} {room₂} U =
-          let e = eb ∙ read-at 4 3 ∙ B .read in
-          let X = stands-over (inner-stands (B .nested) T) (U (rewriteOnce (B .nested .inner)) (inner-is (B .nested) T)) (omega arith) in
-          for-all (subst (λ (q : Query). Stands 0 room r (encode (rewriteOnce q)) room₂) (sym (B .is))
-          (rw (test b eb o eo ∙ f) (subst (λ (x : ℕ). Stands 0 room r (encode (boosted x (rewriteOnce (B .nested .inner)))) room₂) e X)))
+      boost-done b eb =
+          let p = rewriteOnce (B .nested .inner) in
+          inner-done (B .nested) T (λ q. cond (isOne (widened b)) q (boosted b q))
+          (ap rewriteOnce (B .is) ∙ ap (λ (x : ℕ). cond (isOne (widened x)) p (boosted x p)) (sym (eb ∙ read-at 4 3 ∙ B .read)))
 
   -- ---- a constant score
 
@@ -289,9 +281,7 @@ module _ {at : ℕ} {room : List ℕ} (R : Room at room) where
           → ((q : Query) → Is (take n (drop 3 (returned 3 room ys))) q → Stands 0 (returned 3 room ys) r (encode (scored q)) room₂)
           → (q : Query) → Is (drop at room) q → Stands 0 room r (encode (rewriteOnce q)) room₂
       unfolding rewriteOnce
-      score-done {r} {room₂} U =
-          for-all (subst (λ (q : Query). Stands 0 room r (encode (rewriteOnce q)) room₂) (sym (C .is)) (stands-over (inner-stands (C .nested) T)
-          (U (rewriteOnce (C .nested .inner)) (inner-is (C .nested) T)) (omega arith)))
+      score-done = inner-done (C .nested) T scored (ap rewriteOnce (C .is))
 
   -- ---- a Boolean
 

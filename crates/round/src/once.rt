@@ -2,12 +2,11 @@
 // What is laid never passes what is still to be read: there is a byte of space before the query for each of its clauses, and a round
 // raises bytes and clauses together never. A nested query is lent its own stretch, from where its rewriting goes up to where it ends.
 use crate::clauses::is_needed;
-use crate::over::boost_over;
+use crate::over::finish_boost;
 use crate::over::phrase_over;
 use crate::over::put_none;
 use crate::over::rewrite_boolean;
 use crate::over::score_over;
-use floats::sums::is_one_bits;
 use names::BOOLEAN_FRONT;
 use names::BOOLEAN_TAG;
 use names::BOOST_FRONT;
@@ -79,11 +78,8 @@ pub fn rewrite_once(room: &mut [u8], at: usize) -> usize
         }
         BOOST_TAG => {
             let b = big4(&room[at + HEADER..]);
-            if is_one_bits(b) {
-                return rewrite_once(room, at + BOOST_FRONT);
-            }
             let n = rewrite_once(&mut room[BOOST_FRONT..], at);
-            boost_over(room, n, b)
+            finish_boost(room, n, b)
         }
         CONSTANT_SCORE_TAG => {
             let n = rewrite_once(&mut room[HEADER..], at);

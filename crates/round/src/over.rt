@@ -3,6 +3,7 @@
 use crate::clauses::is_single;
 use crate::clauses::only_must_not;
 use crate::clauses::should_count;
+use floats::sums::is_one_bits;
 use floats::sums::product;
 use merging::merge::merge_clauses;
 use names::BOOLEAN_FRONT;
@@ -26,6 +27,7 @@ use parts::write::put_minimum;
 use places::ends::end_of;
 use places::place::shift;
 ghost use mathlib.Core.List.{List, _++_};
+ghost use mathlib.Core.Bool.{cond};
 ghost use Prim.Native.Nat.{ℕ, _+_, _-_, _<_, _≤_};
 ghost use lib.ListN.{length, take, drop};
 ghost use Rattle.rules.specs.Numbers.{termTag, textTag};
@@ -33,6 +35,7 @@ ghost use Rattle.rules.specs.Bytes.{part};
 ghost use Rattle.rules.specs.Query.{Word, Kind, Query, phrase, boolean, matchNone, Clauses, none, clause};
 ghost use Rattle.rules.specs.Stored.{encode};
 ghost use Rattle.rules.specs.Checked.{Is, Are};
+ghost use Rattle.rules.specs.Floats.{widened, isOne};
 ghost use Rattle.rules.specs.Rewriting.{boosted, scored, phrased, lone, ofLive};
 ghost use Rattle.rules.specs.Eating.{mergedClauses};
 ghost use Rattle.numbers.specs.Laid.{Put};
@@ -59,7 +62,7 @@ pub fn put_none(room: &mut [u8]) -> usize
 }
 
 // Boost b of the query of n bytes at 7. A nested boost is one product.
-pub fn boost_over(room: &mut [u8], n: usize, b: u32) -> usize
+fn boost_over(room: &mut [u8], n: usize, b: u32) -> usize
     requires { ⌜ Inner 7 n (now room) ⌝ }
     ensures { λ r. ⌜ ((q : Query) → Is (take n (drop 7 (now (room .entry)))) q → Stands 0 (now (room .entry)) r (encode (boosted b q)) (now (room .exit))) ⌝ }
 {
@@ -76,6 +79,18 @@ pub fn boost_over(room: &mut [u8], n: usize, b: u32) -> usize
     let p = put_header(room, 0, BOOST_TAG, BOOST_BYTES + n);
     put_big4(room, p, b);
     BOOST_FRONT + n
+}
+
+// What a boost b comes to, over the query of n bytes at 7: a boost of 1 goes.
+pub fn finish_boost(room: &mut [u8], n: usize, b: u32) -> usize
+    requires { ⌜ Inner 7 n (now room) ⌝ }
+    ensures { λ r. ⌜ ((q : Query) → Is (take n (drop 7 (now (room .entry)))) q → Stands 0 (now (room .entry)) r (encode (cond (isOne (widened b)) q (boosted b q))) (now (room .exit))) ⌝ }
+{
+    if is_one_bits(b) {
+        shift(room, 0, BOOST_FRONT, n);
+        return n;
+    }
+    boost_over(room, n, b)
 }
 
 // ConstantScore of the query of n bytes at 3.

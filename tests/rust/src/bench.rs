@@ -37,10 +37,15 @@ fn main() {
     for (name, text) in inputs::texts() {
         parse(&name, &setup, text.as_bytes());
     }
-    for (name, text) in inputs::typical() {
+    let typed = [inputs::typical(), inputs::long()].concat();
+    let mut means = (0.0, 0.0);
+    for (name, text) in &typed {
         let query = original::answers::parse(&setup, text.as_bytes()).expect("a selector");
-        rewrite(&name, &query);
+        let (archive, rust) = rewrite(name, &query);
+        means.0 += archive / typed.len() as f64;
+        means.1 += rust / typed.len() as f64;
     }
+    print(("rewrite", "the mean of these"), means);
     for (name, query) in inputs::worst_queries() {
         rewrite(&name, &query);
     }
@@ -72,7 +77,7 @@ fn parse(name: &str, setup: &Setup, text: &[u8]) {
     );
 }
 
-fn rewrite(name: &str, query: &[u8]) {
+fn rewrite(name: &str, query: &[u8]) -> (f64, f64) {
     let mut out = vec![0; 65_535];
     let mut room = vec![0; calls::rewrite_room()];
     let tree = decode(query).expect("a stored query");
@@ -81,7 +86,7 @@ fn rewrite(name: &str, query: &[u8]) {
         ("rewrite", name),
         || calls::rewrite(query, &mut out, &mut room),
         || tree.rewrite(),
-    );
+    )
 }
 
 fn select(name: &str, query: &[u8], list: &[u8]) {
@@ -98,12 +103,12 @@ fn select(name: &str, query: &[u8], list: &[u8]) {
     );
 }
 
-/// One line of the table: both sides in turn.
+/// One line of the table: both sides in turn. Their times, in nanoseconds.
 fn row<A, B>(
-    (call, name): (&str, &str),
+    what: (&str, &str),
     mut archive: impl FnMut() -> A,
     mut rust: impl FnMut() -> B,
-) {
+) -> (f64, f64) {
     let mut best = (f64::INFINITY, f64::INFINITY);
     let begun = Instant::now();
     let mut turns = 0;
@@ -115,13 +120,18 @@ fn row<A, B>(
             break;
         }
     }
-    let ratio = best.1 / best.0;
+    print(what, best);
+    best
+}
+
+fn print((call, name): (&str, &str), (archive, rust): (f64, f64)) {
+    let ratio = rust / archive;
     #[allow(clippy::cast_possible_truncation, clippy::cast_sign_loss)]
     let whole = |ns: f64| grouped(ns.round() as usize);
     println!(
         "{call:<8} {name:<50} {:>14} {:>14} {ratio:>7.1}",
-        whole(best.0),
-        whole(best.1)
+        whole(archive),
+        whole(rust)
     );
 }
 

@@ -25,6 +25,19 @@ pub fn typical() -> Vec<(String, String)> {
     selectors.map(|s| (s.to_string(), s.to_string())).to_vec()
 }
 
+/// Long ones, as they are put together from lists: several brackets, fourteen names and endings, sixty names.
+pub fn long() -> Vec<(String, String)> {
+    let brackets = "((kind:settings OR kind:shows) AND (ext:csv OR ext:json)) OR (\"evening show\" AND NOT kind:cache)";
+    let names = |letters: &str| letters.chars().map(|c| format!("name:{c}.csv ")).collect::<String>();
+    let fourteen = format!("{}-ext:tmp -ext:bak", names("abcdefghijkl"));
+    let sixty = (10..70).map(|i| format!("name:file{i}.csv ")).collect();
+    vec![
+        ("three brackets in brackets".to_string(), brackets.to_string()),
+        ("12 names, without 2 endings".to_string(), fourteen),
+        ("60 names".to_string(), sixty),
+    ]
+}
+
 /// The typical ones, and the worst of 1,024 bytes.
 pub fn texts() -> Vec<(String, String)> {
     let mut texts = typical();

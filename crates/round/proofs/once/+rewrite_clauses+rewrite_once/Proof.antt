@@ -9,7 +9,6 @@ use borrow.Fn.Kinds.{In}
 use borrow.Fn.PlainCycle.{Measures, is, falls, and}
 use Rattle.places.proofs.Standing as standing
 use Rattle.rules.proofs.stored.Parts as parts
-use Rattle.floats.proofs.sums.is_one_bits.Reads as is-one-bits-reads
 use Rattle.numbers.proofs.big2.Reads as big2-reads
 use Rattle.numbers.proofs.big4.Reads as big4-reads
 use Rattle.parts.proofs.write.put_header.Reads as put-header-reads
@@ -24,7 +23,7 @@ use Rattle.round.proofs.once.rewrite_once.Reads as rewrite-once
 use Rattle.round.proofs.once.rewrite_once.Kinds as rewrite-once-kinds
 use Rattle.round.proofs.once.+rewrite_clauses+rewrite_once.Lts-rewrite_once as rewrite-once-lts
 use Rattle.round.proofs.clauses.is_needed.Reads as is-needed-reads
-use Rattle.round.proofs.over.boost_over.Reads as boost-over-reads
+use Rattle.round.proofs.over.finish_boost.Reads as finish-boost-reads
 use Rattle.round.proofs.over.phrase_over.Reads as phrase-over-reads
 use Rattle.round.proofs.over.put_none.Reads as put-none-reads
 use Rattle.round.proofs.over.rewrite_boolean.Reads as rewrite-boolean-reads
@@ -78,7 +77,7 @@ rewrite-clauses-calls t = (end-of-reads.Asked, end-of-reads.Learnt, rewrite-once
 
 -- what `rewrite-once` is told of the functions that it calls
 abbrev rewrite-once-calls : ℕ → rewrite-once-lts.Claims
-rewrite-once-calls t = (phrase-over-reads.Asked, phrase-over-reads.Learnt, big2-reads.Asked, big2-reads.Learnt, rewrite-clauses-below t, rewrite-clauses.Post, put-none-reads.Asked, put-none-reads.Learnt, rewrite-boolean-reads.Asked, rewrite-boolean-reads.Learnt, big4-reads.Asked, big4-reads.Learnt, is-one-bits-reads.Asked, is-one-bits-reads.Learnt, rewrite-once-below t, rewrite-once.Post, boost-over-reads.Asked, boost-over-reads.Learnt, score-over-reads.Asked, score-over-reads.Learnt, shift-reads.Asked, shift-reads.Learnt)
+rewrite-once-calls t = (phrase-over-reads.Asked, phrase-over-reads.Learnt, big2-reads.Asked, big2-reads.Learnt, rewrite-clauses-below t, rewrite-clauses.Post, put-none-reads.Asked, put-none-reads.Learnt, rewrite-boolean-reads.Asked, rewrite-boolean-reads.Learnt, big4-reads.Asked, big4-reads.Learnt, rewrite-once-below t, rewrite-once.Post, finish-boost-reads.Asked, finish-boost-reads.Learnt, score-over-reads.Asked, score-over-reads.Learnt, shift-reads.Asked, shift-reads.Learnt)
 
 rewrite-clauses-loop-holds : (t : ℕ) → rewrite-clauses-lts.Need-loop-holds (rewrite-clauses-calls t) (rewrite-clauses-at t) rewrite-clauses.Post rewrite-clauses-Inv-loop rewrite-clauses-μ-loop
 rewrite-clauses-loop-holds t c = cycling.rewriting-start (c .before .pre .1)
@@ -230,35 +229,20 @@ rewrite-once-part-big4-end t c = search needs
 rewrite-once-big4-requires : (t : ℕ) → rewrite-once-lts.Need-big4-requires (rewrite-once-calls t) (rewrite-once-at t) rewrite-once.Post
 rewrite-once-big4-requires t c κs = rw (parts.cut-from (c .before .before .before .before .before .args .at + 3) (now (c .before .before .before .before .before .args .room)), length-drop) (omega (arith, nested.boost-low (c .before .before .before .before .before .pre .1) (c .before .before .match .keys3)))
 
-rewrite-once-is-one-bits-requires : (t : ℕ) → rewrite-once-lts.Need-is-one-bits-requires (rewrite-once-calls t) (rewrite-once-at t) rewrite-once.Post
-rewrite-once-is-one-bits-requires t c κs = search needs
-
-rewrite-once-add-rewrite-once : (t : ℕ) → rewrite-once-lts.Need-add-rewrite-once (rewrite-once-calls t) (rewrite-once-at t) rewrite-once.Post
-rewrite-once-add-rewrite-once t c = omega (arith, nested.boost-low (c .before .before .before .before .before .before .before .before .before .pre .1) (c .before .before .before .before .before .before .match .keys3), c .before .before .before .before .before .before .before .before .before .good .0)
-
-rewrite-once-rewrite-once-requires : (t : ℕ) → rewrite-once-lts.Need-rewrite-once-requires (rewrite-once-calls t) (rewrite-once-at t) rewrite-once.Post
-rewrite-once-rewrite-once-requires t c κs = (omega (arith, c .before .before .before .before .before .before .before .before .before .pre .0, nested.boost-low (c .before .before .before .before .before .before .before .before .before .pre .1) (c .before .before .before .before .before .before .match .keys3)), nested.boost-room-one (c .before .before .before .before .before .before .before .before .before .pre .1) (c .before .before .before .before .before .before .match .keys3))
-
-rewrite-once-same-length : (t : ℕ) → rewrite-once-lts.Need-same-length (rewrite-once-calls t) (rewrite-once-at t) rewrite-once.Post
-rewrite-once-same-length t c = search needs
-
-rewrite-once-returns : (t : ℕ) → rewrite-once-lts.Need-returns (rewrite-once-calls t) (rewrite-once-at t) rewrite-once.Post
-rewrite-once-returns t c = nested.boost-one (c .before .before .before .before .before .before .before .before .before .before .before .before .pre .1) (c .before .before .before .before .before .before .before .before .before .match .keys3) _ (c .before .before .before .before .before .before .big4 .ensures) _ (c .before .before .before .before .before .is-one-bits .ensures) (c .before .before .before .before .if1 .taken) (c .before .before .rewrite-once .ensures)
-
 rewrite-once-sub-rewrite-once : (t : ℕ) → rewrite-once-lts.Need-sub-rewrite-once (rewrite-once-calls t) (rewrite-once-at t) rewrite-once.Post
-rewrite-once-sub-rewrite-once t c = omega (arith, nested.boost-low (c .before .before .before .before .before .before .before .before .pre .1) (c .before .before .before .before .before .match .keys3))
+rewrite-once-sub-rewrite-once t c = omega (arith, nested.boost-low (c .before .before .before .before .before .before .pre .1) (c .before .before .before .match .keys3))
 
 rewrite-once-part-rewrite-once-start : (t : ℕ) → rewrite-once-lts.Need-part-rewrite-once-start (rewrite-once-calls t) (rewrite-once-at t) rewrite-once.Post
-rewrite-once-part-rewrite-once-start t c = omega (arith, nested.boost-low (c .before .before .before .before .before .before .before .before .pre .1) (c .before .before .before .before .before .match .keys3))
+rewrite-once-part-rewrite-once-start t c = omega (arith, nested.boost-low (c .before .before .before .before .before .before .pre .1) (c .before .before .before .match .keys3))
 
 rewrite-once-part-rewrite-once-end : (t : ℕ) → rewrite-once-lts.Need-part-rewrite-once-end (rewrite-once-calls t) (rewrite-once-at t) rewrite-once.Post
 rewrite-once-part-rewrite-once-end t c = search needs
 
-rewrite-once-rewrite-once-requires-2 : (t : ℕ) → rewrite-once-lts.Need-rewrite-once-requires-2 (rewrite-once-calls t) (rewrite-once-at t) rewrite-once.Post
-rewrite-once-rewrite-once-requires-2 t c κs = (let l = nested.boost-low (c .before .before .before .before .before .before .before .before .before .pre .1) (c .before .before .before .before .before .before .match .keys3) in omega (arith, c .before .before .before .before .before .before .before .before .before .pre .0, standing.within-length (now (c .before .before .before .before .before .before .before .before .before .args .room)) 7 (length (now (c .before .before .before .before .before .before .before .before .before .args .room))) (omega arith) (omega arith)), nested.boost-room (c .before .before .before .before .before .before .before .before .before .pre .1) (c .before .before .before .before .before .before .match .keys3))
+rewrite-once-rewrite-once-requires : (t : ℕ) → rewrite-once-lts.Need-rewrite-once-requires (rewrite-once-calls t) (rewrite-once-at t) rewrite-once.Post
+rewrite-once-rewrite-once-requires t c κs = (let l = nested.boost-low (c .before .before .before .before .before .before .before .pre .1) (c .before .before .before .before .match .keys3) in omega (arith, c .before .before .before .before .before .before .before .pre .0, standing.within-length (now (c .before .before .before .before .before .before .before .args .room)) 7 (length (now (c .before .before .before .before .before .before .before .args .room))) (omega arith) (omega arith)), nested.boost-room (c .before .before .before .before .before .before .before .pre .1) (c .before .before .before .before .match .keys3))
 
-rewrite-once-boost-over-requires : (t : ℕ) → rewrite-once-lts.Need-boost-over-requires (rewrite-once-calls t) (rewrite-once-at t) rewrite-once.Post
-rewrite-once-boost-over-requires t c κs = nested.boost-inside (c .before .before .before .before .before .before .before .before .before .before .before .before .before .pre .1) (c .before .before .before .before .before .before .before .before .before .before .match .keys3) (c .before .before .before .rewrite-once2 .ensures)
+rewrite-once-finish-boost-requires : (t : ℕ) → rewrite-once-lts.Need-finish-boost-requires (rewrite-once-calls t) (rewrite-once-at t) rewrite-once.Post
+rewrite-once-finish-boost-requires t c κs = nested.boost-inside (c .before .before .before .before .before .before .before .before .before .before .before .pre .1) (c .before .before .before .before .before .before .before .before .match .keys3) (c .before .before .before .rewrite-once .ensures)
 
 rewrite-once-sub-rewrite-once-2 : (t : ℕ) → rewrite-once-lts.Need-sub-rewrite-once-2 (rewrite-once-calls t) (rewrite-once-at t) rewrite-once.Post
 rewrite-once-sub-rewrite-once-2 t c = omega (arith, nested.score-low (c .before .before .before .pre .1) (c .match .keys4))
@@ -269,11 +253,11 @@ rewrite-once-part-rewrite-once-start-2 t c = omega (arith, nested.score-low (c .
 rewrite-once-part-rewrite-once-end-2 : (t : ℕ) → rewrite-once-lts.Need-part-rewrite-once-end-2 (rewrite-once-calls t) (rewrite-once-at t) rewrite-once.Post
 rewrite-once-part-rewrite-once-end-2 t c = search needs
 
-rewrite-once-rewrite-once-requires-3 : (t : ℕ) → rewrite-once-lts.Need-rewrite-once-requires-3 (rewrite-once-calls t) (rewrite-once-at t) rewrite-once.Post
-rewrite-once-rewrite-once-requires-3 t c κs = (let l = nested.score-low (c .before .before .before .before .pre .1) (c .before .match .keys4) in omega (arith, c .before .before .before .before .pre .0, standing.within-length (now (c .before .before .before .before .args .room)) 3 (length (now (c .before .before .before .before .args .room))) (omega arith) (omega arith)), nested.score-room (c .before .before .before .before .pre .1) (c .before .match .keys4))
+rewrite-once-rewrite-once-requires-2 : (t : ℕ) → rewrite-once-lts.Need-rewrite-once-requires-2 (rewrite-once-calls t) (rewrite-once-at t) rewrite-once.Post
+rewrite-once-rewrite-once-requires-2 t c κs = (let l = nested.score-low (c .before .before .before .before .pre .1) (c .before .match .keys4) in omega (arith, c .before .before .before .before .pre .0, standing.within-length (now (c .before .before .before .before .args .room)) 3 (length (now (c .before .before .before .before .args .room))) (omega arith) (omega arith)), nested.score-room (c .before .before .before .before .pre .1) (c .before .match .keys4))
 
 rewrite-once-score-over-requires : (t : ℕ) → rewrite-once-lts.Need-score-over-requires (rewrite-once-calls t) (rewrite-once-at t) rewrite-once.Post
-rewrite-once-score-over-requires t c κs = nested.score-inside (c .before .before .before .before .before .before .before .before .pre .1) (c .before .before .before .before .before .match .keys4) (c .before .before .before .rewrite-once3 .ensures)
+rewrite-once-score-over-requires t c κs = nested.score-inside (c .before .before .before .before .before .before .before .before .pre .1) (c .before .before .before .before .before .match .keys4) (c .before .before .before .rewrite-once2 .ensures)
 
 rewrite-once-sub-n : (t : ℕ) → rewrite-once-lts.Need-sub-n (rewrite-once-calls t) (rewrite-once-at t) rewrite-once.Post
 rewrite-once-sub-n t c = omega (arith, nested.inside (c .before .before .before .pre .1))
@@ -281,41 +265,41 @@ rewrite-once-sub-n t c = omega (arith, nested.inside (c .before .before .before 
 rewrite-once-shift-requires : (t : ℕ) → rewrite-once-lts.Need-shift-requires (rewrite-once-calls t) (rewrite-once-at t) rewrite-once.Post
 rewrite-once-shift-requires t c κs = omega (arith, nested.inside (c .before .before .before .before .pre .1))
 
+rewrite-once-same-length : (t : ℕ) → rewrite-once-lts.Need-same-length (rewrite-once-calls t) (rewrite-once-at t) rewrite-once.Post
+rewrite-once-same-length t c = search needs
+
+rewrite-once-returns : (t : ℕ) → rewrite-once-lts.Need-returns (rewrite-once-calls t) (rewrite-once-at t) rewrite-once.Post
+rewrite-once-returns t c = nested.phrase-done (c .before .before .before .before .before .before .before .pre .1) (c .before .before .before .before .match .keys1) (c .before .before .phrase-over .ensures)
+
 rewrite-once-same-length-2 : (t : ℕ) → rewrite-once-lts.Need-same-length-2 (rewrite-once-calls t) (rewrite-once-at t) rewrite-once.Post
 rewrite-once-same-length-2 t c = search needs
 
 rewrite-once-returns-2 : (t : ℕ) → rewrite-once-lts.Need-returns-2 (rewrite-once-calls t) (rewrite-once-at t) rewrite-once.Post
-rewrite-once-returns-2 t c = nested.phrase-done (c .before .before .before .before .before .before .before .pre .1) (c .before .before .before .before .match .keys1) (c .before .before .phrase-over .ensures)
+rewrite-once-returns-2 t c = nested.boolean-dead (c .before .before .before .before .before .before .before .before .before .before .before .before .before .before .before .before .pre .1) (c .before .before .before .before .before .before .before .before .before .before .before .before .before .match .keys2) (c .before .before .before .before .before .before .before .before .rewrite-clauses .last .0) (c .before .before .before .before .before .before .before .before .rewrite-clauses .kept .0) (rw (c .before .before .before .before .enum-told .given .1) at (c .before .before .before .before .before .before .before .before .rewrite-clauses .ensures)) (c .before .before .put-none .ensures)
 
 rewrite-once-same-length-3 : (t : ℕ) → rewrite-once-lts.Need-same-length-3 (rewrite-once-calls t) (rewrite-once-at t) rewrite-once.Post
 rewrite-once-same-length-3 t c = search needs
 
 rewrite-once-returns-3 : (t : ℕ) → rewrite-once-lts.Need-returns-3 (rewrite-once-calls t) (rewrite-once-at t) rewrite-once.Post
-rewrite-once-returns-3 t c = nested.boolean-dead (c .before .before .before .before .before .before .before .before .before .before .before .before .before .before .before .before .pre .1) (c .before .before .before .before .before .before .before .before .before .before .before .before .before .match .keys2) (c .before .before .before .before .before .before .before .before .rewrite-clauses .last .0) (c .before .before .before .before .before .before .before .before .rewrite-clauses .kept .0) (rw (c .before .before .before .before .enum-told .given .1) at (c .before .before .before .before .before .before .before .before .rewrite-clauses .ensures)) (c .before .before .put-none .ensures)
+rewrite-once-returns-3 t c = nested.boolean-done (c .before .before .before .before .before .before .before .before .before .before .before .before .before .before .before .before .before .pre .1) (c .before .before .before .before .before .before .before .before .before .before .before .before .before .before .match .keys2) (rw (c .before .before .before .before .before .r .given .1) at (c .before .before .before .before .before .before .before .before .before .rewrite-clauses .ensures)) _ (c .before .before .before .before .before .before .before .before .before .before .before .big2 .ensures) (c .before .before .rewrite-boolean .ensures)
 
 rewrite-once-same-length-4 : (t : ℕ) → rewrite-once-lts.Need-same-length-4 (rewrite-once-calls t) (rewrite-once-at t) rewrite-once.Post
 rewrite-once-same-length-4 t c = search needs
 
 rewrite-once-returns-4 : (t : ℕ) → rewrite-once-lts.Need-returns-4 (rewrite-once-calls t) (rewrite-once-at t) rewrite-once.Post
-rewrite-once-returns-4 t c = nested.boolean-done (c .before .before .before .before .before .before .before .before .before .before .before .before .before .before .before .before .before .pre .1) (c .before .before .before .before .before .before .before .before .before .before .before .before .before .before .match .keys2) (rw (c .before .before .before .before .before .r .given .1) at (c .before .before .before .before .before .before .before .before .before .rewrite-clauses .ensures)) _ (c .before .before .before .before .before .before .before .before .before .before .before .big2 .ensures) (c .before .before .rewrite-boolean .ensures)
+rewrite-once-returns-4 t c = nested.boost-done (c .before .before .before .before .before .before .before .before .before .before .before .before .before .before .pre .1) (c .before .before .before .before .before .before .before .before .before .before .before .match .keys3) (c .before .before .before .before .before .before .rewrite-once .ensures) _ (c .before .before .before .before .before .before .before .before .big4 .ensures) (c .before .before .finish-boost .ensures)
 
 rewrite-once-same-length-5 : (t : ℕ) → rewrite-once-lts.Need-same-length-5 (rewrite-once-calls t) (rewrite-once-at t) rewrite-once.Post
 rewrite-once-same-length-5 t c = search needs
 
 rewrite-once-returns-5 : (t : ℕ) → rewrite-once-lts.Need-returns-5 (rewrite-once-calls t) (rewrite-once-at t) rewrite-once.Post
-rewrite-once-returns-5 t c = nested.boost-done (c .before .before .before .before .before .before .before .before .before .before .before .before .before .before .before .before .pre .1) (c .before .before .before .before .before .before .before .before .before .before .before .before .before .match .keys3) (c .before .before .before .before .before .before .rewrite-once2 .ensures) _ (c .before .before .before .before .before .before .before .before .before .before .big4 .ensures) _ (c .before .before .before .before .before .before .before .before .before .is-one-bits .ensures) (c .before .before .before .before .before .before .before .before .if1 .left) (c .before .before .boost-over .ensures)
+rewrite-once-returns-5 t c = nested.score-done (c .before .before .before .before .before .before .before .before .before .before .before .pre .1) (c .before .before .before .before .before .before .before .before .match .keys4) (c .before .before .before .before .before .before .rewrite-once2 .ensures) (c .before .before .score-over .ensures)
 
 rewrite-once-same-length-6 : (t : ℕ) → rewrite-once-lts.Need-same-length-6 (rewrite-once-calls t) (rewrite-once-at t) rewrite-once.Post
 rewrite-once-same-length-6 t c = search needs
 
 rewrite-once-returns-6 : (t : ℕ) → rewrite-once-lts.Need-returns-6 (rewrite-once-calls t) (rewrite-once-at t) rewrite-once.Post
-rewrite-once-returns-6 t c = nested.score-done (c .before .before .before .before .before .before .before .before .before .before .before .pre .1) (c .before .before .before .before .before .before .before .before .match .keys4) (c .before .before .before .before .before .before .rewrite-once3 .ensures) (c .before .before .score-over .ensures)
-
-rewrite-once-same-length-7 : (t : ℕ) → rewrite-once-lts.Need-same-length-7 (rewrite-once-calls t) (rewrite-once-at t) rewrite-once.Post
-rewrite-once-same-length-7 t c = search needs
-
-rewrite-once-returns-7 : (t : ℕ) → rewrite-once-lts.Need-returns-7 (rewrite-once-calls t) (rewrite-once-at t) rewrite-once.Post
-rewrite-once-returns-7 t c = nested.plain-done (c .before .before .before .before .before .before .before .pre .1) (c .before .before .before .before .match .rest .0 .0 .0 .1) (c .before .before .before .before .match .rest .0 .0 .1) (c .before .before .before .before .match .rest .0 .1) (c .before .before .before .before .match .rest .1) (c .before .before .shift .ensures)
+rewrite-once-returns-6 t c = nested.plain-done (c .before .before .before .before .before .before .before .pre .1) (c .before .before .before .before .match .rest .0 .0 .0 .1) (c .before .before .before .before .match .rest .0 .0 .1) (c .before .before .before .before .match .rest .0 .1) (c .before .before .before .before .match .rest .1) (c .before .before .shift .ensures)
 
 pub +rewrite-clauses+rewrite-once-spec : {M : Type 1} → statement M
 +rewrite-clauses+rewrite-once-spec =
@@ -371,23 +355,20 @@ pub +rewrite-clauses+rewrite-once-spec : {M : Type 1} → statement M
     (rewrite-once-part-big4-start t)
     (rewrite-once-part-big4-end t)
     (rewrite-once-big4-requires t)
-    (rewrite-once-is-one-bits-requires t)
-    (rewrite-once-add-rewrite-once t)
-    (rewrite-once-rewrite-once-requires t)
-    (rewrite-once-same-length t)
-    (rewrite-once-returns t)
     (rewrite-once-sub-rewrite-once t)
     (rewrite-once-part-rewrite-once-start t)
     (rewrite-once-part-rewrite-once-end t)
-    (rewrite-once-rewrite-once-requires-2 t)
-    (rewrite-once-boost-over-requires t)
+    (rewrite-once-rewrite-once-requires t)
+    (rewrite-once-finish-boost-requires t)
     (rewrite-once-sub-rewrite-once-2 t)
     (rewrite-once-part-rewrite-once-start-2 t)
     (rewrite-once-part-rewrite-once-end-2 t)
-    (rewrite-once-rewrite-once-requires-3 t)
+    (rewrite-once-rewrite-once-requires-2 t)
     (rewrite-once-score-over-requires t)
     (rewrite-once-sub-n t)
     (rewrite-once-shift-requires t)
+    (rewrite-once-same-length t)
+    (rewrite-once-returns t)
     (rewrite-once-same-length-2 t)
     (rewrite-once-returns-2 t)
     (rewrite-once-same-length-3 t)
@@ -398,5 +379,3 @@ pub +rewrite-clauses+rewrite-once-spec : {M : Type 1} → statement M
     (rewrite-once-returns-5 t)
     (rewrite-once-same-length-6 t)
     (rewrite-once-returns-6 t)
-    (rewrite-once-same-length-7 t)
-    (rewrite-once-returns-7 t)
