@@ -5,7 +5,7 @@ use mathlib.Core.List.{List, [], _∷_}
 use mathlib.Core.Bool.{Bool, true, false, and-false}
 use native.Mathlib.Omega.{arith}
 use lib.ListN.{length, getD, take, drop, set, length-take, length-drop}
-use lib.Seq.{take-nil, take-take, take-all, drop-drop, getD-set-same, getD-set-other}
+use lib.Seq.{take-take, take-all, drop-drop, getD-set-same, getD-set-other}
 use lib.Dec.{leb}
 use Rattle.rules.specs.Numbers.{booleanTag, boostTag, constantScoreTag, minimumTag, shouldTag, selectionDepth}
 use Rattle.rules.specs.Bytes.{ofBig, tagOf, sizeOf, bodyOf, restOf, wholeOf}
@@ -19,6 +19,7 @@ use Rattle.rules.proofs.stored.Parts.{less-empty, more-empty, length-body, leng
 use Rattle.rules.proofs.stored.Tags.{kind-back}
 use Rattle.rules.proofs.stored.Equal.{encode-injective}
 use Rattle.rules.proofs.stored.Views.{View, viewed, at-tag, AsBoolean, as-boolean, as-boost, as-constant-score, Front, front-of, no-front}
+use Rattle.stretches.proofs.Joining.{drop-take}
 use Rattle.matching.specs.declared.level.Level.{Level}
 use Rattle.matching.specs.declared.truth.Next.{Next}
 use Rattle.matching.specs.declared.truth.Next.the-variants.{Done, Query as Goes}
@@ -27,14 +28,6 @@ use Rattle.matching.specs.Truth.{Truth, StoredFor, cut, Open, outside, i
 use Rattle.matching.proofs.Levels.{carries-all, carries-clause, carries-none, carries-should}
 
 -- ---- stretches of a list
-
-drop-take : (k n : ℕ) (l : List ℕ) → drop k (take n l) ≡ take (n - k) (drop k l)
-drop-take zero n l = let z : n ≡ n - 0 = omega arith in ap (λ (m : ℕ). take m l) z
-drop-take (suc k) zero l = let z : 0 ≡ 0 - suc k = omega arith in ap (λ (m : ℕ). take m (drop (suc k) l)) z
-drop-take (suc k) (suc n) [] = sym (take-nil (suc n - suc k))
-drop-take (suc k) (suc n) (x ∷ l) =
-    let z : n - k ≡ suc n - suc k = omega arith in
-    drop-take k n l ∙ ap (λ (m : ℕ). take m (drop k l)) z
 
 module _ (s : List ℕ) where
   pub cut-drop : (k a e : ℕ) → drop k (cut s a e) ≡ cut s (a + k) e

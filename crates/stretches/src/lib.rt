@@ -69,16 +69,13 @@ fn is_long_text(s: &[u8]) -> bool
     seen <= ASCII_MOST
 }
 
-// From eight to sixteen bytes.
-fn is_pair_text(s: &[u8]) -> bool
+// The top bits of eight to sixteen bytes: 0 exactly where they are ASCII.
+pub fn pair_tops(s: &[u8]) -> u64
     requires { ⌜ (8 ≤ length (now s)) × (length (now s) ≤ 16) ⌝ }
-    ensures { λ r. ⌜ r ≡ isText (now (s .entry)) ⌝ }
+    ensures { λ r. ⌜ eqb r 0 ≡ isText (now (s .entry)) ⌝ }
 {
     let e = s.len() - 8;
-    if tops8(&s[e..]) != 0 {
-        return false;
-    }
-    tops8(s) == 0
+    tops8(&s[e..]) | tops8(s)
 }
 
 // From eight to thirty-two bytes.
@@ -87,13 +84,10 @@ pub fn is_middle_text(s: &[u8]) -> bool
     ensures { λ r. ⌜ r ≡ isText (now (s .entry)) ⌝ }
 {
     if s.len() <= 16 {
-        return is_pair_text(s);
+        return pair_tops(s) == 0;
     }
     let e = s.len() - 16;
-    if !is_pair_text(&s[e..]) {
-        return false;
-    }
-    is_pair_text(&s[0..16])
+    (pair_tops(&s[e..]) | pair_tops(&s[0..16])) == 0
 }
 
 fn is_longer_text(s: &[u8]) -> bool
