@@ -18,12 +18,12 @@ pub record Holds (t : ℕ) (b : List ℕ) : Type 0 where
   pub tag : (eqb t placeTag || (eqb t wholeTag || eqb t floatTag)) ≡ true
   pub body : isFieldWith (isHeld t) b ≡ true
 
--- the part at the front ends at r, and has 16 to 32 bytes with its header
+-- the part at the front ends at r, and has 16 to 35 bytes with its header
 pub record Short (s : List ℕ) (r : ℕ) : Type 0 where
   pub ends : r ≡ 3 + sizeOf s
   pub fits : r ≤ length s
   pub least : 16 ≤ r
-  pub most : r ≤ 32
+  pub most : r ≤ 35
 
 -- where the entry at the front ends; 0 where there is none
 abbrev pub endOf : List ℕ → ℕ

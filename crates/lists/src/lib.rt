@@ -22,7 +22,7 @@ use parts::part::size_of;
 use parts::part::tag_of;
 use parts::part::whole;
 use stored::read::is_word;
-use stretches::pair_tops;
+use stretches::tops8;
 ghost use mathlib.Core.Path.{_≡_};
 ghost use Prim.Native.Nat.{_≤_, _<_};
 ghost use mathlib.Core.Bool.{true, _||_};
@@ -79,19 +79,21 @@ fn is_any_entry(s: &[u8]) -> bool
     }
 }
 
-// ---- a quick test of short entries. It passes those that are ASCII in what has to be and in the headers, so that a few words tell it, and reads each
-// length once. What it does not pass may still be sound.
+// ---- a quick test of short entries, most of which are ASCII behind their headers, so that a few words tell it. It reads each length once. What it
+// does not pass may still be sound.
 
 const SHORT_LEAST: usize = 16;
 
-const SHORT_MOST: usize = 32;
+const SHORT_MOST: usize = 35;
+
+// What two pairs of words cover, with the headers of the entry and of its field.
+const THREE_WORDS: usize = 30;
 
 // What an entry has besides its field and its text, or its field and its number, behind its own header.
 const TEXT_AROUND: usize = HEADER + HEADER + POSITION_BYTES;
 
 const NUMBER_AROUND: usize = HEADER + HEADER + NUMBER_BYTES;
 
-// Its header and that of the field, and those of the field and of what stands behind it.
 const TWO_HEADERS: usize = HEADER + HEADER;
 
 // Where the part at the front ends, if it is a short one; else 0.
@@ -117,18 +119,31 @@ fn short_end(s: &[u8]) -> usize
     e
 }
 
-// The top bits of a short entry's bytes: 0 exactly where they are ASCII.
-fn short_tops(s: &[u8]) -> u64
-    requires { ⌜ (16 ≤ length (now s)) × (length (now s) ≤ 32) ⌝ }
-    ensures { λ r. ⌜ eqb r 0 ≡ isText (now (s .entry)) ⌝ }
+// Whether a short entry is ASCII from its field on: its last two words, and the first one or two.
+fn is_ascii(s: &[u8]) -> bool
+    requires { ⌜ (16 ≤ length (now s)) × (length (now s) ≤ 35) ⌝ }
+    ensures { λ r. ⌜ (r ≡ true → isText (drop 6 (now (s .entry))) ≡ true) ⌝ }
 {
-    let e = s.len() - 16;
-    pair_tops(&s[e..]) | pair_tops(&s[0..16])
+    let e = s.len() - 8;
+    if tops8(&s[e..]) != 0 {
+        return false;
+    }
+    let d = s.len() - 16;
+    if tops8(&s[d..]) != 0 {
+        return false;
+    }
+    if tops8(&s[TWO_HEADERS..]) != 0 {
+        return false;
+    }
+    if s.len() <= THREE_WORDS {
+        return true;
+    }
+    tops8(&s[14..]) == 0
 }
 
 // A field, and a position with a text.
 fn is_short_place(s: &[u8]) -> bool
-    requires { ⌜ (16 ≤ length (now s)) × (length (now s) ≤ 32) ⌝ }
+    requires { ⌜ (16 ≤ length (now s)) × (length (now s) ≤ 35) ⌝ }
     ensures { λ r. ⌜ (r ≡ true → isFieldWith (isHeld placeTag) (drop 3 (now (s .entry))) ≡ true) ⌝ }
 {
     let b = &s[HEADER..];
@@ -148,24 +163,23 @@ fn is_short_place(s: &[u8]) -> bool
     if tag_of(t) != WORD_TAG {
         return false;
     }
-    short_tops(s) == 0
+    is_ascii(s)
 }
 
-// A field of two to ten bytes, and a number.
+// A field of two to eight bytes, and a number: the word that ends where the field does tells it.
 fn is_short_number(s: &[u8]) -> bool
-    requires { ⌜ (16 ≤ length (now s)) × (length (now s) ≤ 32) ⌝ }
+    requires { ⌜ (16 ≤ length (now s)) × (length (now s) ≤ 35) ⌝ }
     ensures { λ r. ⌜ (r ≡ true → isFieldWith isValue (drop 3 (now (s .entry))) ≡ true) ⌝ }
 {
     let b = &s[HEADER..];
     let f = size_of(b);
+    if f < 2 {
+        return false;
+    }
+    if f > 8 {
+        return false;
+    }
     if b.len() != NUMBER_AROUND + f {
-        return false;
-    }
-    let e = TWO_HEADERS + f;
-    if e < 8 {
-        return false;
-    }
-    if e > 16 {
         return false;
     }
     let at = HEADER + f;
@@ -179,7 +193,8 @@ fn is_short_number(s: &[u8]) -> bool
     if tag_of(t) != VALUE_TAG {
         return false;
     }
-    pair_tops(&s[0..e]) == 0
+    let w = f - 2;
+    tops8(&s[w..]) == 0
 }
 
 fn is_numeric(tag: u8) -> bool
@@ -193,7 +208,7 @@ fn is_numeric(tag: u8) -> bool
 
 // A short entry, and nothing more.
 fn is_short(s: &[u8]) -> bool
-    requires { ⌜ (16 ≤ length (now s)) × (length (now s) ≤ 32) ⌝ }
+    requires { ⌜ (16 ≤ length (now s)) × (length (now s) ≤ 35) ⌝ }
     ensures { λ r. ⌜ (r ≡ true → Holds (tagOf (now (s .entry))) (drop 3 (now (s .entry)))) ⌝ }
 {
     let tag = tag_of(s);

@@ -31,10 +31,6 @@ zero-joined a b =
     let y : b ≡ 0 = eqb-true b 0 (and-r (eqb a 0) (eqb b 0) h) in
     eq-eqb (bitOr a b) 0 (rw (x, y) (or-zero-l 0)))
 
--- two tests by what comes out of them
-pub tops-joined : (a b : ℕ) {x y : Bool} → eqb a 0 ≡ x → eqb b 0 ≡ y → eqb (bitOr a b) 0 ≡ (x && y)
-tops-joined a b ex ey = zero-joined a b ∙ rw (ex, ey)
-
 -- three bytes are ASCII exactly when what comes out is
 text-joined : (a b : ℕ) → leb (bitOr a b) 0x7f ≡ (leb a 0x7f && leb b 0x7f)
 text-joined a b =
@@ -154,7 +150,7 @@ drop-take (suc k) (suc n) (x ∷ l) =
 
 -- ---- a text, and two stretches, in two pieces that meet or overlap: the last k bytes and the first k
 
-text-split : (k : ℕ) (s : List ℕ) → isText s ≡ (isText (take k s) && isText (drop k s))
+pub text-split : (k : ℕ) (s : List ℕ) → isText s ≡ (isText (take k s) && isText (drop k s))
 unfolding isText
 text-split zero s = refl
 text-split (suc k) [] = refl

@@ -24,7 +24,7 @@ const TOPS8: u64 = 0x8080_8080_8080_8080;
 const TOPS4: u32 = 0x8080_8080;
 
 // The top bits of the first eight bytes and of the first four: 0 exactly where these bytes are ASCII.
-fn tops8(s: &[u8]) -> u64
+pub fn tops8(s: &[u8]) -> u64
     requires { ⌜ 8 ≤ length (now s) ⌝ }
     ensures { λ r. ⌜ eqb r 0 ≡ isText (take 8 (now (s .entry))) ⌝ }
 {
@@ -69,13 +69,16 @@ fn is_long_text(s: &[u8]) -> bool
     seen <= ASCII_MOST
 }
 
-// The top bits of eight to sixteen bytes: 0 exactly where they are ASCII.
-pub fn pair_tops(s: &[u8]) -> u64
+// From eight to sixteen bytes.
+fn is_pair_text(s: &[u8]) -> bool
     requires { ⌜ (8 ≤ length (now s)) × (length (now s) ≤ 16) ⌝ }
-    ensures { λ r. ⌜ eqb r 0 ≡ isText (now (s .entry)) ⌝ }
+    ensures { λ r. ⌜ r ≡ isText (now (s .entry)) ⌝ }
 {
     let e = s.len() - 8;
-    tops8(&s[e..]) | tops8(s)
+    if tops8(&s[e..]) != 0 {
+        return false;
+    }
+    tops8(s) == 0
 }
 
 // From eight to thirty-two bytes.
@@ -84,10 +87,13 @@ pub fn is_middle_text(s: &[u8]) -> bool
     ensures { λ r. ⌜ r ≡ isText (now (s .entry)) ⌝ }
 {
     if s.len() <= 16 {
-        return pair_tops(s) == 0;
+        return is_pair_text(s);
     }
     let e = s.len() - 16;
-    (pair_tops(&s[e..]) | pair_tops(&s[0..16])) == 0
+    if !is_pair_text(&s[e..]) {
+        return false;
+    }
+    is_pair_text(&s[0..16])
 }
 
 fn is_longer_text(s: &[u8]) -> bool

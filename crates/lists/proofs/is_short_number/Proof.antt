@@ -1,9 +1,9 @@
-use Prim.Native.Nat.{_+_, _-_}
 use denote.Ref.{now}
 use mathlib.Core.Path.{refl, sym, _∙_}
 use Rattle.rules.proofs.Bools as bools
-use Rattle.rules.proofs.stored.Parts as parts
 use Rattle.lists.proofs.Lister as lister
+use borrow.Author.Tests.{eqb-true}
+use Rattle.rules.proofs.stored.Parts as parts
 -- `lists::is_short_number` meets its contract.
 use native.Mathlib.Omega.{arith}
 use borrow.Author.Needs.{needs}
@@ -22,17 +22,14 @@ part-b-end c = search needs
 size-of-requires : tie.Need-size-of-requires
 size-of-requires c κs = search needs
 
-add-if1 : tie.Need-add-if1
-add-if1 c = search needs
-
 returns : tie.Need-returns
 returns c = λ z. bools.clash z refl
 
-add-e : tie.Need-add-e
-add-e c = search needs
-
 returns-2 : tie.Need-returns-2
 returns-2 c = λ z. bools.clash z refl
+
+add-if3 : tie.Need-add-if3
+add-if3 c = search needs
 
 returns-3 : tie.Need-returns-3
 returns-3 c = λ z. bools.clash z refl
@@ -67,22 +64,22 @@ tag-of-requires-2 c κs = search needs
 returns-6 : tie.Need-returns-6
 returns-6 c = λ z. bools.clash z refl
 
-sub-pair-tops : tie.Need-sub-pair-tops
-sub-pair-tops c = search needs
+sub-tops8 : tie.Need-sub-tops8
+sub-tops8 c = search needs
 
-part-pair-tops-start : tie.Need-part-pair-tops-start
-part-pair-tops-start c = search needs
+part-tops8-start : tie.Need-part-tops8-start
+part-tops8-start c = search needs
 
-part-pair-tops-end : tie.Need-part-pair-tops-end
-part-pair-tops-end c = search needs
+part-tops8-end : tie.Need-part-tops8-end
+part-tops8-end c = search needs
 
-pair-tops-requires : tie.Need-pair-tops-requires
-pair-tops-requires c κs = search needs
+tops8-requires : tie.Need-tops8-requires
+tops8-requires c κs = search needs
 
 returns-7 : tie.Need-returns-7
-returns-7 c = λ z. lister.short-number (now (c .before .before .before .before .before .before .before .before .before .before .before .before .before .before .before .args .s)) {k = 6 + c .before .before .before .before .before .before .before .before .before .before .before .before .size-of .result - 0} (omega arith) (parts.cut-from 3 (now (c .before .before .before .before .before .before .before .before .before .before .before .before .before .before .before .args .s))) (c .before .before .before .before .before .before .before .before .before .before .before .before .size-of .ensures .0)
-    (parts.cut-rest _ _ (c .before .before .before .before .before .before .before .before .before .before .before .before .size-of .ensures .0)) (c .before .before .before .before .before .before .before .before .before .before .before .if1 .left) (omega (arith, c .before .before .before .before .before .before .before .before .before .if3 .left)) (sym (c .before .before .before .before .before .before .before .size-of2 .ensures .0) ∙ c .before .before .before .before .before .before .if4 .left)
-    (sym (c .before .before .before .before .before .tag-of .ensures) ∙ c .before .before .before .before .if5 .left) (sym (c .before .before .before .tag-of2 .ensures) ∙ c .before .before .if6 .left) (sym (c .pair-tops .ensures) ∙ z)
+returns-7 c = λ z. lister.short-number (now (c .before .before .before .before .before .before .before .before .before .before .before .before .before .before .before .args .s)) (parts.cut-from 3 (now (c .before .before .before .before .before .before .before .before .before .before .before .before .before .before .before .args .s))) (c .before .before .before .before .before .before .before .before .before .before .before .before .size-of .ensures .0)
+    (parts.cut-rest _ _ (c .before .before .before .before .before .before .before .before .before .before .before .before .size-of .ensures .0)) (c .before .before .before .before .before .before .before .before .before .if3 .left) (omega (arith, c .before .before .before .before .before .before .before .before .before .before .before .if1 .left)) (omega (arith, c .before .before .before .before .before .before .before .before .before .before .if2 .left)) (sym (c .before .before .before .before .before .before .before .size-of2 .ensures .0) ∙ c .before .before .before .before .before .before .if4 .left)
+    (sym (c .before .before .before .before .before .tag-of .ensures) ∙ c .before .before .before .before .if5 .left) (sym (c .before .before .before .tag-of2 .ensures) ∙ c .before .before .if6 .left) (lister.word-clear _ (now (c .before .before .before .before .before .before .before .before .before .before .before .before .before .before .before .args .s)) {r = c .tops8 .result} (c .tops8 .ensures) (eqb-true _ _ z))
 
 pub is-short-number-spec : {M : Type 1} → statement M
 is-short-number-spec =
@@ -92,10 +89,9 @@ is-short-number-spec =
     part-b-start
     part-b-end
     size-of-requires
-    add-if1
     returns
-    add-e
     returns-2
+    add-if3
     returns-3
     add-at
     sub-t
@@ -107,8 +103,8 @@ is-short-number-spec =
     returns-5
     tag-of-requires-2
     returns-6
-    sub-pair-tops
-    part-pair-tops-start
-    part-pair-tops-end
-    pair-tops-requires
+    sub-tops8
+    part-tops8-start
+    part-tops8-end
+    tops8-requires
     returns-7)

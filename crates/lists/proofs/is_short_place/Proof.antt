@@ -1,9 +1,8 @@
 use denote.Ref.{now}
 use mathlib.Core.Path.{refl, sym, _∙_}
-use borrow.Author.Tests.{eqb-true}
 use Rattle.rules.proofs.Bools as bools
-use Rattle.rules.proofs.stored.Parts as parts
 use Rattle.lists.proofs.Lister as lister
+use Rattle.rules.proofs.stored.Parts as parts
 -- `lists::is_short_place` meets its contract.
 use native.Mathlib.Omega.{arith}
 use borrow.Author.Needs.{needs}
@@ -64,13 +63,13 @@ tag-of-requires-2 c κs = search needs
 returns-4 : tie.Need-returns-4
 returns-4 c = λ z. bools.clash z refl
 
-short-tops-requires : tie.Need-short-tops-requires
-short-tops-requires c κs = search needs
+is-ascii-requires : tie.Need-is-ascii-requires
+is-ascii-requires c κs = search needs
 
 returns-5 : tie.Need-returns-5
 returns-5 c = λ z. lister.short-place (now (c .before .before .before .before .before .before .before .before .before .before .before .before .args .s)) (parts.cut-from 3 (now (c .before .before .before .before .before .before .before .before .before .before .before .before .args .s))) (c .before .before .before .before .before .before .before .before .before .size-of .ensures .0)
     (parts.cut-rest _ _ (c .before .before .before .before .before .before .before .before .before .size-of .ensures .0)) (c .before .before .before .before .before .before .before .before .before .before .before .before .pre .0) (c .before .before .before .before .before .before .before .before .before .before .before .before .pre .1) (omega (arith, c .before .before .before .before .before .before .before .before .if1 .left)) (sym (c .before .before .before .before .before .before .size-of2 .ensures .0) ∙ c .before .before .before .before .before .if2 .left)
-    (sym (c .before .before .before .before .tag-of .ensures) ∙ c .before .before .before .if3 .left) (sym (c .before .before .tag-of2 .ensures) ∙ c .before .if4 .left) (sym (c .short-tops .ensures) ∙ z)
+    (sym (c .before .before .before .before .tag-of .ensures) ∙ c .before .before .before .if3 .left) (sym (c .before .before .tag-of2 .ensures) ∙ c .before .if4 .left) (c .is-ascii .ensures z)
 
 pub is-short-place-spec : {M : Type 1} → statement M
 is-short-place-spec =
@@ -94,5 +93,5 @@ is-short-place-spec =
     returns-3
     tag-of-requires-2
     returns-4
-    short-tops-requires
+    is-ascii-requires
     returns-5)
