@@ -33,9 +33,9 @@ module _ (t : List ℕ) where
       k ∙ rw (le-leb 4 (length t) h, cut-from (length t - 4) t) (ap ofBig (take-all 4 (drop (length t - 4) t) l))
 
   pub tail-none : length t ≡ 0 → 0 ≡ tailOf t
-  tail-none h = rw (lt-leb 4 (length t) (omega arith), none-there t h 0, none-there t h (length t / 2), none-there t h (length t - 1))
+  tail-none h = rw (lt-leb 4 (length t) (omega arith), none-there t h 0, none-there t h (length t / 2), none-there t h (length t / 2 + length t / 3))
 
-  pub tail-short : length t < 4 → tailOf t ≡ (getD t 0 0 * 256 + getD t (length t / 2) 0) * 256 + getD t (length t - 1) 0
+  pub tail-short : length t < 4 → tailOf t ≡ (getD t 0 0 * 256 + getD t (length t / 2) 0) * 256 + getD t (length t / 2 + length t / 3) 0
   tail-short h = rw (lt-leb 4 (length t) h)
 
 -- ---- one entry

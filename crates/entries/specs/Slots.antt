@@ -13,10 +13,10 @@ use Rattle.rules.specs.Matching.{isHere, hasTerm}
 
 -- ---- the hash
 
--- the last four bytes of a text, or the first, the middle and the last of a shorter one
+-- the last four bytes of a text, or the first, the middle and the last of a shorter one: at 0 of one, 1 of two, 2 of three
 abbrev pub tailOf : List ℕ → ℕ
 tailOf t =
-    cond (leb 4 (length t)) (ofBig (drop (length t - 4) t)) ((getD t 0 0 * 256 + getD t (length t / 2) 0) * 256 + getD t (length t - 1) 0)
+    cond (leb 4 (length t)) (ofBig (drop (length t - 4) t)) ((getD t 0 0 * 256 + getD t (length t / 2) 0) * 256 + getD t (length t / 2 + length t / 3) 0)
 
 -- the first byte of a field, and how long both are
 abbrev pub shapeOf : List ℕ → List ℕ → ℕ

@@ -23,7 +23,8 @@ pub const SLOTS: usize = 512;
 
 // ---- the hash of a field and a text
 
-// The last four bytes, or the first, the middle and the last of a shorter text.
+// The last four bytes, or the first, the middle and the last of a shorter text. The last of at most three stands a half and a third from its front:
+// by another reckoning than that of four bytes, which a compiler then reads as one word.
 fn tail(t: &[u8]) -> u64
     ensures { λ r. ⌜ (r ≡ tailOf (now (t .entry))) × (r < 2 ^ 32) ⌝ }
 {
@@ -35,7 +36,7 @@ fn tail(t: &[u8]) -> u64
     if n == 0 {
         return 0;
     }
-    ((wide(t[0]) * 256 + wide(t[n / 2])) * 256 + wide(t[n - 1])) as u64
+    ((wide(t[0]) * 256 + wide(t[n / 2])) * 256 + wide(t[n / 2 + n / 3])) as u64
 }
 
 fn first(f: &[u8]) -> usize
@@ -74,12 +75,12 @@ fn note_text(f: &[u8], t: &[u8], at: usize, rec: &[u8], from: usize, slots: &mut
     ensures { λ _. ⌜ Lands (now (slots .entry)) from (now (rec .entry)) at (now (f .entry)) (now (t .entry)) (now (slots .exit)) ⌝ }
 {
     let i = slot(f, t);
-    let p = slots[i] as usize;
-    if p < from {
+    let held = slots[i] as usize;
+    if held < from {
         slots[i] = at as u16;
         return;
     }
-    let k = p - from;
+    let k = held - from;
     if k + 1 == rec.len() {
         return;
     }

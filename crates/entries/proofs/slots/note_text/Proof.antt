@@ -11,14 +11,14 @@ use Rattle.entries.proofs.slots.note_text.Tie as tie
 slot-requires : tie.Need-slot-requires
 slot-requires c κs = search needs
 
-mul-p : tie.Need-mul-p
-mul-p c = search needs
+mul-held : tie.Need-mul-held
+mul-held c = search needs
 
-slice-read-p : tie.Need-slice-read-p
-slice-read-p c = omega (arith, c .before .before .before .before .before .before .pre .3 .many, c .before .slot .ensures .1)
+slice-read-held : tie.Need-slice-read-held
+slice-read-held c = omega (arith, c .before .before .before .before .before .before .pre .3 .many, c .before .slot .ensures .1)
 
-cast-p : tie.Need-cast-p
-cast-p c = omega (arith, c .slice-known2 .given (c .before .slot .result))
+cast-held : tie.Need-cast-held
+cast-held c = omega (arith, c .slice-known2 .given (c .before .slot .result))
 
 cast-slots : tie.Need-cast-slots
 cast-slots c = omega (arith, c .before .before .before .before .before .before .before .pre .0)
@@ -82,9 +82,9 @@ note-text-spec =
     tie.close
     (tie.spec
     slot-requires
-    mul-p
-    slice-read-p
-    cast-p
+    mul-held
+    slice-read-held
+    cast-held
     cast-slots
     mul-slots
     slice-write-slots

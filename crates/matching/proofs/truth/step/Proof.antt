@@ -23,7 +23,7 @@ tag-of-requires : tie.Need-tag-of-requires
 tag-of-requires c κs = omega (arith, parts.whole-le _ (walks.at-whole (c .before .before .before .before .before .pre .0)))
 
 enter-requires : tie.Need-enter-requires
-enter-requires c κs = (c .before .before .before .before .before .before .before .before .pre .0, sym (c .before .before .tag-of .ensures) ∙ c .before .match .keys1, c .before .before .before .before .before .before .before .before .pre .3, c .before .before .before .before .before .before .before .before .pre .4)
+enter-requires c κs = (c .before .before .before .before .before .before .before .before .pre .0, sym (c .before .before .tag-of .ensures) ∙ c .before .match .keys1, c .before .before .before .before .before .before .before .before .pre .2, c .before .before .before .before .before .before .before .before .pre .3, c .before .before .before .before .before .before .before .before .pre .4)
 
 add-t18 : tie.Need-add-t18
 add-t18 c = let k = c .before .before .before .before .before .before .before .pre .3 in let f = c .before .before .before .before .before .before .before .pre .0 .fits in omega (arith, walks.at-end (c .before .before .before .before .before .before .before .pre .0))
@@ -35,13 +35,13 @@ leaf-true-requires : tie.Need-leaf-true-requires
 leaf-true-requires c κs = (record { query = c .before .before .before .before .before .before .before .pre .0 .query; is = c .before .before .before .before .before .before .before .pre .0 .is }, record { boolean = λ z. c .match .rest .0 .0 .1 (c .before .tag-of .ensures ∙ z); boost = λ z. c .match .rest .0 .1 (c .before .tag-of .ensures ∙ z); constantScore = λ z. c .match .rest .1 (c .before .tag-of .ensures ∙ z) }, c .before .before .before .before .before .before .before .pre .1, c .before .before .before .before .before .before .before .pre .2)
 
 settle-requires : tie.Need-settle-requires
-settle-requires c κs = (c .before .before .before .before .before .before .before .before .before .pre .0 .around, c .before .before .before .before .before .before .before .before .before .pre .3, c .before .before .before .before .before .before .before .before .before .pre .4)
+settle-requires c κs = (c .before .before .before .before .before .before .before .before .before .pre .0 .around, c .before .before .before .before .before .before .before .before .before .pre .2, c .before .before .before .before .before .before .before .before .before .pre .3, c .before .before .before .before .before .before .before .before .before .pre .4)
 
 same-length : tie.Need-same-length
-same-length c = c .before .before .enter .kept .1 .0
+same-length c = c .before .before .enter .kept .1 .1 .1 .1 .0
 
 returns : tie.Need-returns
-returns c = λ t. c .before .before .enter .ensures (each entryOf (now (c .before .before .before .before .before .before .before .before .before .before .before .args .rec))) t
+returns c = λ t. c .before .before .enter .ensures t
 
 returns-2 : tie.Need-returns-2
 returns-2 c = λ t. walks.to-boosted t (sym (c .before .tag-of .ensures) ∙ c .match .keys2) (each entryOf (now (c .before .before .before .before .before .before .before .args .rec)))
@@ -50,11 +50,11 @@ returns-3 : tie.Need-returns-3
 returns-3 c = λ t. walks.to-constant t (sym (c .before .tag-of .ensures) ∙ c .match .keys3) (each entryOf (now (c .before .before .before .before .before .before .before .args .rec)))
 
 same-length-2 : tie.Need-same-length-2
-same-length-2 c = c .before .before .settle .kept .1 .0
+same-length-2 c = c .before .before .settle .kept .1 .1 .1 .1 .0
 
 returns-4 : tie.Need-returns-4
 unfolding Truth
-returns-4 c = λ t. walks.leads-on (each entryOf (now (c .before .before .before .before .before .before .before .before .before .before .before .before .args .rec))) _ _ (c .before .before .settle .result) (t .fits) (ap (outcome (each entryOf (now (c .before .before .before .before .before .before .before .before .before .before .before .before .args .rec))) (t .around)) (sym (c .before .before .before .before .leaf-true .ensures (t .query) (t .is)))) (c .before .before .settle .ensures (each entryOf (now (c .before .before .before .before .before .before .before .before .before .before .before .before .args .rec))) (t .around))
+returns-4 c = λ t. walks.leads-on (each entryOf (now (c .before .before .before .before .before .before .before .before .before .before .before .before .args .rec))) _ _ (c .before .before .settle .result) (t .fits) (ap (outcome (each entryOf (now (c .before .before .before .before .before .before .before .before .before .before .before .before .args .rec))) (t .around)) (sym (c .before .before .before .before .leaf-true .ensures (t .query) (t .is)))) (c .before .before .settle .ensures (t .around))
 
 pub step-spec : {M : Type 1} → statement M
 step-spec =
