@@ -2,12 +2,12 @@
 use mathlib.Core.Path.{_≡_, refl, sym, ap, _∙_, subst₂}
 use Prim.Native.Nat.{ℕ, zero, suc, _+_, _-_, _≤_, _<_}
 use mathlib.Core.List.{List, [], _∷_}
-use mathlib.Core.Bool.{Bool, true, false, _&&_, _||_, and-false}
+use mathlib.Core.Bool.{Bool, true, false, _&&_, _||_}
 use native.Mathlib.Omega.{arith}
 use lib.ListN.{length, getD, take, drop, set, length-take, length-drop}
 use lib.Seq.{take-take, take-all, drop-drop, getD-set-same, getD-set-other}
 use lib.Dec.{leb, eqb}
-use borrow.Author.Tests.{eqb-true}
+use borrow.Author.Tests.{eqb-true, leb-true}
 use Rattle.rules.specs.Numbers.{booleanTag, boostTag, constantScoreTag, minimumTag, shouldTag, mustNotTag, selectionDepth}
 use Rattle.rules.specs.Bytes.{ofBig, tagOf, sizeOf, bodyOf, restOf, wholeOf}
 use Rattle.rules.specs.Query.{Kind, should, Query, Clauses, none, clause, depth, depths}
@@ -25,7 +25,7 @@ use Rattle.matching.specs.declared.level.Level.{Level}
 use Rattle.matching.specs.declared.truth.Next.{Next}
 use Rattle.matching.specs.declared.truth.Next.the-variants.{Done, Query as Goes}
 use Rattle.matching.specs.Level.{levelOf, answered, isOver, carries, after}
-use Rattle.matching.specs.Truth.{Truth, StoredFor, cut, Open, outside, inside, outcome, At, AtClause, Leads, Over, Decides, Idle, Past}
+use Rattle.matching.specs.Truth.{Truth, StoredFor, isOpen, cut, Open, outside, inside, outcome, At, AtClause, Leads, Over, Decides, Idle, Past}
 use Rattle.matching.proofs.Levels.{over-parts, carries-all, carries-clause, carries-none, carries-should, carries-optional}
 
 -- ---- stretches of a list
@@ -392,7 +392,16 @@ module _ {s row : List ℕ} {n at end : ℕ} (t : At s row n at end) where
       (omega arith) es (ap (matches es) (A .is))
 
   -- a Boolean: to its first clause
-  module _ (h : tagOf (cut s at end) ≡ booleanTag) where
+  module _ (opens : isOpen (cut s at end) ≡ true) where
+    h : tagOf (cut s at end) ≡ booleanTag
+    h = eqb-true (tagOf (cut s at end)) booleanTag (and-l (eqb (tagOf (cut s at end)) booleanTag) (leb 9 (length (cut s at end))) opens)
+
+    pub open-long : at + 8 < end
+    open-long =
+        let l = leb-true 9 (length (cut s at end)) (and-r (eqb (tagOf (cut s at end)) booleanTag) (leb 9 (length (cut s at end))) opens) in
+        let k = at-length in
+        omega arith
+
     shown : AsBoolean (cut s (at + 3) end) (t .query)
     shown = as-boolean (seen booleanTag h) (t .is .valid)
 
@@ -401,13 +410,6 @@ module _ {s row : List ℕ} {n at end : ℕ} (t : At s row n at end) where
 
     minimum-size : sizeOf (cut s (at + 3) end) ≡ 2
     minimum-size = sym (length-body (cut s (at + 3) end) minimum-whole) ∙ shown .two
-
-    pub boolean-long : at + 8 ≤ end
-    boolean-long =
-        let l = whole-le (cut s (at + 3) end) minimum-whole in
-        let k = cut-length s (at + 3) end at-end in
-        let z = minimum-size in
-        omega arith
 
     minimum-at : bodyOf (cut s (at + 3) end) ≡ take 2 (drop 6 (cut s at end))
     unfolding bodyOf
@@ -432,23 +434,15 @@ module _ {s row : List ℕ} {n at end : ℕ} (t : At s row n at end) where
         ap (matches es) (shown .is) ∙ carries-all es _ (shown .clauses)
         ∙ ap (λ (m : ℕ). carries es m false (shown .clauses)) (ap ofBig minimum-at ∙ sym e)
 
-    pub to-clause : (es : List Entry) (asked : ℕ) → at + 8 < end → asked ≡ ofBig (take 2 (drop 6 (cut s at end)))
+    pub to-clause : (es : List Entry) (asked : ℕ) → asked ≡ ofBig (take 2 (drop 6 (cut s at end)))
         → Next-clause es s row n (at + 8) (record { end = end; asked = asked; met = false; kind = 0 }) (outcome es (t .around) (matches es (t .query)))
     unfolding depth
-    to-clause es asked l e =
+    to-clause es asked e =
         let d = rw (shown .is) at (t .deep) in
         record {
-          place = record { clauses = shown .clauses; are = clauses-are; fits = l; deep = omega arith; around = t .around };
+          place = record { clauses = shown .clauses; are = clauses-are; fits = open-long; deep = omega arith; around = t .around };
           value = ap (outcome es (t .around)) (boolean-value es asked e);
         }
-
-    pub no-clause : end ≤ at + 8 → (es : List Entry) → outcome es (t .around) (matches es (t .query)) ≡ outcome es (t .around) false
-    no-clause l es =
-        let m = ofBig (take 2 (drop 6 (cut s at end))) in
-        let k : length (cut s (at + 8) end) ≤ 0 = let j = cut-length s (at + 8) end at-end in omega arith in
-        let c : shown .clauses ≡ none = no-front (cut s (at + 8) end) (shown .clauses) (less-empty (cut s (at + 8) end) k) (clauses-are .form) in
-        ap (outcome es (t .around))
-        (boolean-value es m refl ∙ ap (carries es m false) c ∙ carries-none es m false ∙ and-false (leb m 0))
 
 -- ---- the whole walk
 

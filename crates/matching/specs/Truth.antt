@@ -2,8 +2,9 @@
 use mathlib.Core.Path.{_≡_}
 use Prim.Native.Nat.{ℕ, _+_, _-_, _≤_, _<_}
 use mathlib.Core.List.{List}
-use mathlib.Core.Bool.{Bool, true}
+use mathlib.Core.Bool.{Bool, true, false, _&&_}
 use lib.ListN.{length, getD, take, drop}
+use lib.Dec.{leb, eqb}
 use Rattle.rules.specs.Numbers.{booleanTag, boostTag, constantScoreTag, selectionBytes, selectionDepth}
 use Rattle.rules.specs.Bytes.{tagOf, restOf}
 use Rattle.rules.specs.Query.{Query, Clauses, depth, depths}
@@ -24,11 +25,15 @@ pub record StoredAs (t : ℕ) (s : List ℕ) : Type 0 where
   pub stored : Stored s
   pub tag : tagOf s ≡ t
 
--- the tags of queries that hold others
-pub record IsLeaf (t : ℕ) : Type 0 where
-  pub boolean : t ≡ booleanTag → ⊥
-  pub boost : t ≡ boostTag → ⊥
-  pub constantScore : t ≡ constantScoreTag → ⊥
+-- a Boolean that has clauses
+abbrev pub isOpen : List ℕ → Bool
+isOpen s = eqb (tagOf s) booleanTag && leb 9 (length s)
+
+-- a query that holds no other
+pub record IsLeaf (s : List ℕ) : Type 0 where
+  pub boolean : isOpen s ≡ false
+  pub boost : tagOf s ≡ boostTag → ⊥
+  pub constantScore : tagOf s ≡ constantScoreTag → ⊥
 
 -- checked bytes within selection's limits
 pub record StoredFor (s : List ℕ) : Type 0 where

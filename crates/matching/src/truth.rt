@@ -32,19 +32,21 @@ ghost use mathlib.Core.Path.{_≡_};
 ghost use Prim.Native.Nat.{_<_, _≤_};
 ghost use mathlib.Core.Bool.{true, _&&_, _||_};
 ghost use mathlib.Core.List.{List};
-ghost use Rattle.rules.specs.Numbers.{booleanTag, shouldTag, mustNotTag, selectionBytes, selectionDepth};
+ghost use Rattle.rules.specs.Numbers.{shouldTag, mustNotTag, selectionBytes, selectionDepth};
 ghost use lib.ListN.{length};
 ghost use lib.Dec.{eqb};
-ghost use Rattle.rules.specs.Bytes.{tagOf, every, each};
+ghost use Rattle.rules.specs.Bytes.{every, each};
 ghost use Rattle.rules.specs.Checked.{Stored, StoredClauses};
 ghost use Rattle.rules.specs.Lists.{isEntry, entryOf, Entry};
 ghost use Rattle.rules.specs.Matching.{matches};
 ghost use Rattle.entries.specs.Slots.{Told};
 ghost use Rattle.matching.specs.Level.{carries};
-ghost use Rattle.matching.specs.Truth.{IsLeaf, Truth, StoredFor, cut, Open, outcome, AtClause, At, Leads, Idle, Past};
+ghost use Rattle.matching.specs.Truth.{isOpen, IsLeaf, Truth, StoredFor, cut, Open, outcome, AtClause, At, Leads, Idle, Past};
 
 // Where the number of a Boolean's minimum stands: behind its header and that of the minimum.
 const MINIMUM_AT: usize = HEADER + HEADER;
+
+const OPEN_LEAST: usize = BOOLEAN_FRONT + 1;
 
 // Where the walk goes next: nowhere, or to the query from `at` to `end`, inside so many Booleans.
 pub enum Next {
@@ -53,7 +55,7 @@ pub enum Next {
 }
 
 fn leaf_true(q: &[u8], rec: &[u8], from: usize, slots: &[u16]) -> bool
-    requires { ⌜ Stored (now q) × IsLeaf (tagOf (now q)) × (every isEntry (now rec) ≡ true) × Told (now slots) from (now rec) ⌝ }
+    requires { ⌜ Stored (now q) × IsLeaf (now q) × (every isEntry (now rec) ≡ true) × Told (now slots) from (now rec) ⌝ }
     ensures { λ r. ⌜ Truth (now (q .entry)) (each entryOf (now (rec .entry))) r ⌝ }
 {
     match tag_of(q) {
@@ -187,35 +189,33 @@ fn settle(
     Next::Done(y)
 }
 
-// Into the Boolean from `at` to `end`: to its first clause. With no clause it is false, whatever its minimum is.
-fn enter(
-    q: &[u8],
-    rec: &[u8],
-    from: usize,
-    slots: &[u16],
-    row: &mut [u64],
-    depth: usize,
-    at: usize,
-    end: usize,
-) -> Next
-    requires { ⌜ At (now q) (now row) depth at end × (tagOf (cut (now q) at end) ≡ booleanTag) × Told (now slots) from (now rec)
+// A Boolean with clauses. One with none is false, whatever its minimum is, and is asked as a leaf.
+fn is_open(x: &[u8]) -> bool
+    requires { ⌜ 1 ≤ length (now x) ⌝ }
+    ensures { λ r. ⌜ r ≡ isOpen (now (x .entry)) ⌝ }
+{
+    if tag_of(x) != BOOLEAN_TAG {
+        return false;
+    }
+    x.len() >= OPEN_LEAST
+}
+
+// Into the Boolean from `at` to `end`: to its first clause.
+fn enter(q: &[u8], row: &mut [u64], depth: usize, at: usize, end: usize) -> Next
+    requires { ⌜ At (now q) (now row) depth at end × (isOpen (cut (now q) at end) ≡ true)
         × (length (now q) ≤ selectionBytes) × (selectionDepth ≤ length (now row)) ⌝ }
-    ensures { λ r. ⌜ ((t : At (now (q .entry)) (now (row .entry)) depth at end)
-        → Leads (each entryOf (now (rec .entry))) (now (q .entry)) (now (row .exit)) at
-        (outcome (each entryOf (now (rec .entry))) (t .around) (matches (each entryOf (now (rec .entry))) (t .query))) r) ⌝ }
+    ensures { λ r. ⌜ ((es : List Entry) (t : At (now (q .entry)) (now (row .entry)) depth at end)
+        → Leads es (now (q .entry)) (now (row .exit)) at (outcome es (t .around) (matches es (t .query))) r) ⌝ }
 {
     let x = &q[at..end];
-    if x.len() > BOOLEAN_FRONT {
-        let asked = big2(&x[MINIMUM_AT..]);
-        let l = Level {
-            end,
-            asked,
-            met: false,
-            kind: NO_TAG,
-        };
-        return clause(q, row, depth, at + BOOLEAN_FRONT, l);
-    }
-    settle(q, rec, from, slots, row, depth, end, false)
+    let asked = big2(&x[MINIMUM_AT..]);
+    let l = Level {
+        end,
+        asked,
+        met: false,
+        kind: NO_TAG,
+    };
+    clause(q, row, depth, at + BOOLEAN_FRONT, l)
 }
 
 // From the query at hand.
@@ -236,8 +236,10 @@ fn step(
         (outcome (each entryOf (now (rec .entry))) (t .around) (matches (each entryOf (now (rec .entry))) (t .query))) r) ⌝ }
 {
     let x = &q[at..end];
+    if is_open(x) {
+        return enter(q, row, depth, at, end);
+    }
     match tag_of(x) {
-        BOOLEAN_TAG => enter(q, rec, from, slots, row, depth, at, end),
         BOOST_TAG => Next::Query {
             depth,
             at: at + BOOST_FRONT,
