@@ -11,6 +11,7 @@ ghost use Rattle.rules.specs.Bytes.{every, each};
 ghost use Rattle.rules.specs.Lists.{isEntry, entryOf};
 ghost use Rattle.rules.specs.Matching.{isHere, hasTerm};
 
+// The text first: entries of one length differ there sooner than in the field.
 fn has_both(f: &[u8], t: &[u8], e: &[u8]) -> bool
     requires { ⌜ isEntry (now e) ≡ true ⌝ }
     ensures { λ r. ⌜ r ≡ isHere (now (f .entry)) (now (t .entry)) (entryOf (now (e .entry))) ⌝ }
@@ -18,10 +19,10 @@ fn has_both(f: &[u8], t: &[u8], e: &[u8]) -> bool
     if !is_place(e) {
         return false;
     }
-    if !same(f, field(e)) {
+    if !same(t, text(e)) {
         return false;
     }
-    same(t, text(e))
+    same(f, field(e))
 }
 
 // Whether the entry has this field and this text. Its length alone tells most others apart, and a search goes past those with no call.

@@ -1,6 +1,6 @@
 // Slots: where in a list the entries of a record stand, by a hash of the field and the text, so that a term is looked for at one place. They
-// are noted record after record and never cleared: a place before a record's front says that it has no such entry. A hash that two entries
-// share costs a walk through the record and changes no answer.
+// are noted record after record and never cleared: a place before a record's front says that it has no such entry. Where two entries that differ
+// share a slot, it holds the record's last place, at which no entry begins: a term with that hash is looked for by a walk, as if there were no slots.
 use super::entry::field;
 use super::entry::is_place;
 use super::entry::text;
@@ -17,13 +17,14 @@ ghost use Rattle.rules.specs.Bytes.{every, each};
 ghost use Rattle.rules.specs.Lists.{isEntry, entryOf};
 ghost use Rattle.rules.specs.Matching.{hasTerm};
 ghost use Rattle.rules.specs.Numbers.{listMost};
-ghost use Rattle.entries.specs.Slots.{tailOf, shapeOf, hashOf, slotsMany, slotOf, noted, Before, Noted, Told};
+ghost use Rattle.entries.specs.Slots.{tailOf, shapeOf, hashOf, slotsMany, slotOf, Before, Standing, Lands, NotedBy, Noted, Told};
 
 pub const SLOTS: usize = 512;
 
 // ---- the hash of a field and a text
 
-// The last four bytes, or the first, the middle and the last of a shorter text.
+// The last four bytes, or the first, the middle and the last of a shorter text. The last of at most three stands a half and a third from its front:
+// by another reckoning than that of four bytes, which a compiler then reads as one word.
 fn tail(t: &[u8]) -> u64
     ensures { λ r. ⌜ (r ≡ tailOf (now (t .entry))) × (r < 2 ^ 32) ⌝ }
 {
@@ -35,7 +36,7 @@ fn tail(t: &[u8]) -> u64
     if n == 0 {
         return 0;
     }
-    ((wide(t[0]) * 256 + wide(t[n / 2])) * 256 + wide(t[n - 1])) as u64
+    ((wide(t[0]) * 256 + wide(t[n / 2])) * 256 + wide(t[n / 2 + n / 3])) as u64
 }
 
 fn first(f: &[u8]) -> usize
@@ -68,16 +69,36 @@ fn slot(f: &[u8], t: &[u8]) -> usize
 
 // ---- noting
 
+// A field and a text that stand at this place of the list, in the record whose front is at `from`.
+fn note_text(f: &[u8], t: &[u8], at: usize, rec: &[u8], from: usize, slots: &mut [u16])
+    requires { ⌜ (at < listMost) × (0 < length (now rec)) × (from + length (now rec) ≤ listMost) × Standing (now slots) from (now rec) ⌝ }
+    ensures { λ _. ⌜ Lands (now (slots .entry)) from (now (rec .entry)) at (now (f .entry)) (now (t .entry)) (now (slots .exit)) ⌝ }
+{
+    let i = slot(f, t);
+    let held = slots[i] as usize;
+    if held < from {
+        slots[i] = at as u16;
+        return;
+    }
+    let k = held - from;
+    if k + 1 == rec.len() {
+        return;
+    }
+    if is_here(f, t, &rec[k..]) {
+        return;
+    }
+    slots[i] = (from + rec.len() - 1) as u16;
+}
+
 // The entry e stands at this place of the list.
-fn note_entry(e: &[u8], at: usize, slots: &mut [u16])
-    requires { ⌜ (isEntry (now e) ≡ true) × (at < listMost) × (length (now slots) ≡ slotsMany) ⌝ }
-    ensures { λ _. ⌜ now (slots .exit) ≡ noted (now (slots .entry)) at (entryOf (now (e .entry))) ⌝ }
+fn note_entry(e: &[u8], at: usize, rec: &[u8], from: usize, slots: &mut [u16])
+    requires { ⌜ (isEntry (now e) ≡ true) × (at < listMost) × (0 < length (now rec)) × (from + length (now rec) ≤ listMost) × Standing (now slots) from (now rec) ⌝ }
+    ensures { λ _. ⌜ NotedBy (now (slots .entry)) from (now (rec .entry)) at (entryOf (now (e .entry))) (now (slots .exit)) ⌝ }
 {
     if !is_place(e) {
         return;
     }
-    let i = slot(field(e), text(e));
-    slots[i] = at as u16;
+    note_text(field(e), text(e), at, rec, from, slots);
 }
 
 // The entries of a record whose front is at `from`.
@@ -87,7 +108,7 @@ pub fn note(rec: &[u8], from: usize, slots: &mut [u16])
 {
     let mut e = rec;
     while e.len() > 0 {
-        note_entry(e, from + (rec.len() - e.len()), slots);
+        note_entry(e, from + (rec.len() - e.len()), rec, from, slots);
         let u = rest(e);
         e = u;
     }
@@ -107,7 +128,7 @@ pub fn is_missing(f: &[u8], t: &[u8], rec: &[u8], from: usize, slots: &[u16]) ->
     (slots[i] as usize) < from
 }
 
-// Whether some entry of the record has this field and this text: where the slots say, or else by a walk.
+// Whether some entry of the record has this field and this text: as the slots say, where they can tell.
 pub fn find_term(f: &[u8], t: &[u8], rec: &[u8], from: usize, slots: &[u16]) -> bool
     requires { ⌜ Told (now slots) from (now rec) × (every isEntry (now rec) ≡ true) ⌝ }
     ensures { λ r. ⌜ r ≡ hasTerm (each entryOf (now (rec .entry))) (now (f .entry)) (now (t .entry)) ⌝ }
@@ -121,8 +142,8 @@ pub fn find_term(f: &[u8], t: &[u8], rec: &[u8], from: usize, slots: &[u16]) -> 
         return false;
     }
     let k = p - from;
-    if is_here(f, t, &rec[k..]) {
-        return true;
+    if k + 1 == rec.len() {
+        return has_term(f, t, rec);
     }
-    has_term(f, t, rec)
+    is_here(f, t, &rec[k..])
 }

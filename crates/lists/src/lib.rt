@@ -7,10 +7,12 @@ use names::LONG_LIST;
 use names::MALFORMED_LIST;
 use names::NUMBER_BYTES;
 use names::PLACE_TAG;
+use names::POSITION_BYTES;
 use names::RECORD_TAG;
 use names::VALUE_TAG;
 use names::WHOLE_TAG;
 use names::WORD_TAG;
+use numbers::wide;
 use parts::part::body;
 use parts::part::is_field_part;
 use parts::part::is_part;
@@ -20,15 +22,17 @@ use parts::part::size_of;
 use parts::part::tag_of;
 use parts::part::whole;
 use stored::read::is_word;
-use stretches::is_middle_text;
+use stretches::tops8;
 ghost use mathlib.Core.Path.{_≡_};
-ghost use mathlib.Core.Bool.{true};
-ghost use Rattle.rules.specs.Numbers.{placeTag, wordTag};
-ghost use Rattle.rules.specs.Bytes.{every};
+ghost use Prim.Native.Nat.{_≤_, _<_};
+ghost use mathlib.Core.Bool.{true, _||_};
+ghost use lib.ListN.{length, drop};
+ghost use lib.Dec.{eqb};
+ghost use Rattle.rules.specs.Numbers.{placeTag, wholeTag, floatTag};
+ghost use Rattle.rules.specs.Bytes.{isText, tagOf, every};
 ghost use Rattle.rules.specs.Reading.{numberOf};
 ghost use Rattle.rules.specs.Lists.{isValue, isFieldWith, isEntry, isRecord, readList};
-ghost use Rattle.parts.specs.Part.{Plain};
-ghost use Rattle.lists.specs.List.{isHeld};
+ghost use Rattle.lists.specs.List.{isHeld, endOf, Short, Holds};
 
 fn is_value(s: &[u8]) -> bool
     ensures { λ r. ⌜ r ≡ isValue (now (s .entry)) ⌝ }
@@ -60,25 +64,97 @@ fn is_fielded(tag: u8, b: &[u8]) -> bool
     rest(w).len() == 0
 }
 
-// A quick test of a field and of a position with a text behind it. It passes short ones that are ASCII throughout, headers too, so that one look at
-// all the bytes is enough, and the two lengths are tested together; what it does not pass may still be sound.
-fn is_lean(b: &[u8]) -> bool
-    ensures { λ r. ⌜ (r ≡ true → Plain wordTag 4 (now (b .entry))) ⌝ }
+fn is_any_entry(s: &[u8]) -> bool
+    ensures { λ r. ⌜ r ≡ isEntry (now (s .entry)) ⌝ }
 {
+    if !whole(s) {
+        return false;
+    }
+    let b = body(s);
+    match s[0] {
+        PLACE_TAG => is_fielded(PLACE_TAG, b),
+        WHOLE_TAG => is_fielded(WHOLE_TAG, b),
+        FLOAT_TAG => is_fielded(FLOAT_TAG, b),
+        _ => false,
+    }
+}
+
+// ---- a quick test of short entries, most of which are ASCII behind their headers, so that a few words tell it. It reads each length once. What it
+// does not pass may still be sound.
+
+const SHORT_LEAST: usize = 16;
+
+const SHORT_MOST: usize = 35;
+
+// What two pairs of words cover, with the headers of the entry and of its field.
+const THREE_WORDS: usize = 30;
+
+// What an entry has besides its field and its text, or its field and its number, behind its own header.
+const TEXT_AROUND: usize = HEADER + HEADER + POSITION_BYTES;
+
+const NUMBER_AROUND: usize = HEADER + HEADER + NUMBER_BYTES;
+
+const TWO_HEADERS: usize = HEADER + HEADER;
+
+// Where the part at the front ends, if it is a short one; else 0.
+fn short_end(s: &[u8]) -> usize
+    ensures { λ r. ⌜ (0 < r → Short (now (s .entry)) r) ⌝ }
+{
+    if s.len() < SHORT_LEAST {
+        return 0;
+    }
+    if s[1] != 0 {
+        return 0;
+    }
+    let e = HEADER + wide(s[2]);
+    if e < SHORT_LEAST {
+        return 0;
+    }
+    if e > SHORT_MOST {
+        return 0;
+    }
+    if e > s.len() {
+        return 0;
+    }
+    e
+}
+
+// Whether a short entry is ASCII from its field on: its last two words, and the first one or two.
+fn is_ascii(s: &[u8]) -> bool
+    requires { ⌜ (16 ≤ length (now s)) × (length (now s) ≤ 35) ⌝ }
+    ensures { λ r. ⌜ (r ≡ true → isText (drop 6 (now (s .entry))) ≡ true) ⌝ }
+{
+    let e = s.len() - 8;
+    if tops8(&s[e..]) != 0 {
+        return false;
+    }
+    let d = s.len() - 16;
+    if tops8(&s[d..]) != 0 {
+        return false;
+    }
+    if tops8(&s[TWO_HEADERS..]) != 0 {
+        return false;
+    }
+    if s.len() <= THREE_WORDS {
+        return true;
+    }
+    tops8(&s[14..]) == 0
+}
+
+// A field, and a position with a text.
+fn is_short_place(s: &[u8]) -> bool
+    requires { ⌜ (16 ≤ length (now s)) × (length (now s) ≤ 35) ⌝ }
+    ensures { λ r. ⌜ (r ≡ true → isFieldWith (isHeld placeTag) (drop 3 (now (s .entry))) ≡ true) ⌝ }
+{
+    let b = &s[HEADER..];
     let n = b.len();
-    if n < 10 {
-        return false;
-    }
-    if n > 32 {
-        return false;
-    }
     let f = size_of(b);
-    if f > n - 10 {
+    if f > n - TEXT_AROUND {
         return false;
     }
     let at = HEADER + f;
     let t = &b[at..];
-    if size_of(t) != n - 6 - f {
+    if size_of(t) != n - TWO_HEADERS - f {
         return false;
     }
     if tag_of(b) != FIELD_TAG {
@@ -87,32 +163,95 @@ fn is_lean(b: &[u8]) -> bool
     if tag_of(t) != WORD_TAG {
         return false;
     }
-    is_middle_text(b)
+    is_ascii(s)
 }
 
-// A position with a text behind the field, short ones first.
-fn is_place(b: &[u8]) -> bool
-    ensures { λ r. ⌜ r ≡ isFieldWith (isHeld placeTag) (now (b .entry)) ⌝ }
+// A field of two to eight bytes, and a number: the word that ends where the field does tells it.
+fn is_short_number(s: &[u8]) -> bool
+    requires { ⌜ (16 ≤ length (now s)) × (length (now s) ≤ 35) ⌝ }
+    ensures { λ r. ⌜ (r ≡ true → isFieldWith isValue (drop 3 (now (s .entry))) ≡ true) ⌝ }
 {
-    if is_lean(b) {
-        return true;
-    }
-    is_fielded(PLACE_TAG, b)
-}
-
-fn is_entry(s: &[u8]) -> bool
-    ensures { λ r. ⌜ r ≡ isEntry (now (s .entry)) ⌝ }
-{
-    if !whole(s) {
+    let b = &s[HEADER..];
+    let f = size_of(b);
+    if f < 2 {
         return false;
     }
-    let b = body(s);
-    match s[0] {
-        PLACE_TAG => is_place(b),
-        WHOLE_TAG => is_fielded(WHOLE_TAG, b),
-        FLOAT_TAG => is_fielded(FLOAT_TAG, b),
-        _ => false,
+    if f > 8 {
+        return false;
     }
+    if b.len() != NUMBER_AROUND + f {
+        return false;
+    }
+    let at = HEADER + f;
+    let t = &b[at..];
+    if size_of(t) != NUMBER_BYTES {
+        return false;
+    }
+    if tag_of(b) != FIELD_TAG {
+        return false;
+    }
+    if tag_of(t) != VALUE_TAG {
+        return false;
+    }
+    let w = f - 2;
+    tops8(&s[w..]) == 0
+}
+
+fn is_numeric(tag: u8) -> bool
+    ensures { λ r. ⌜ r ≡ (eqb tag wholeTag || eqb tag floatTag) ⌝ }
+{
+    if tag == WHOLE_TAG {
+        return true;
+    }
+    tag == FLOAT_TAG
+}
+
+// A short entry, and nothing more.
+fn is_short(s: &[u8]) -> bool
+    requires { ⌜ (16 ≤ length (now s)) × (length (now s) ≤ 35) ⌝ }
+    ensures { λ r. ⌜ (r ≡ true → Holds (tagOf (now (s .entry))) (drop 3 (now (s .entry)))) ⌝ }
+{
+    let tag = tag_of(s);
+    if tag == PLACE_TAG {
+        return is_short_place(s);
+    }
+    if !is_numeric(tag) {
+        return false;
+    }
+    is_short_number(s)
+}
+
+// Where it ends; 0 where the test does not pass.
+fn quick_end(s: &[u8]) -> usize
+    ensures { λ r. ⌜ (0 < r → r ≡ endOf (now (s .entry))) ⌝ }
+{
+    let e = short_end(s);
+    if e == 0 {
+        return 0;
+    }
+    if is_short(&s[0..e]) { e } else { 0 }
+}
+
+// ---- entries, records, lists
+
+fn any_end(s: &[u8]) -> usize
+    ensures { λ r. ⌜ r ≡ endOf (now (s .entry)) ⌝ }
+{
+    if !is_any_entry(s) {
+        return 0;
+    }
+    HEADER + size_of(s)
+}
+
+// Where the entry at the front ends; 0 where it is not sound.
+fn entry_end(s: &[u8]) -> usize
+    ensures { λ r. ⌜ r ≡ endOf (now (s .entry)) ⌝ }
+{
+    let e = quick_end(s);
+    if e > 0 {
+        return e;
+    }
+    any_end(s)
 }
 
 fn is_entries(s: &[u8]) -> bool
@@ -120,10 +259,11 @@ fn is_entries(s: &[u8]) -> bool
 {
     let mut t = s;
     while t.len() > 0 {
-        if !is_entry(t) {
+        let e = entry_end(t);
+        if e == 0 {
             return false;
         }
-        let u = rest(t);
+        let u = &t[e..];
         t = u;
     }
     true

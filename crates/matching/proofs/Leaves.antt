@@ -2,26 +2,28 @@
 use mathlib.Core.Path.{_≡_, refl, sym, ap, _∙_}
 use Prim.Native.Nat.{ℕ, _+_, _≤_}
 use mathlib.Core.List.{List}
-use mathlib.Core.Bool.{Bool, true, false, _&&_, cond}
+use mathlib.Core.Bool.{Bool, true, false, _&&_, cond, and-false}
 use native.Mathlib.Omega.{arith}
 use lib.ListN.{length, take, drop}
 use lib.Seq.{take-all}
 use lib.Dec.{leb, eqb}
-use borrow.Author.Tests.{leb-true}
-use Rattle.rules.specs.Numbers.{termTag, phraseTag, matchAllTag, wholeRangeTag, floatRangeTag, fieldTag, textTag, wordTag, openTag, includedTag, excludedTag}
+use borrow.Author.Tests.{leb-true, leb-false, eq-eqb}
+use Rattle.rules.specs.Numbers.{termTag, phraseTag, booleanTag, boostTag, constantScoreTag, matchAllTag, wholeRangeTag, floatRangeTag, minimumTag, fieldTag, textTag, wordTag, openTag, includedTag, excludedTag}
 use Rattle.rules.specs.Bytes.{ofBig, isText, tagOf, bodyOf, restOf, wholeOf, isPart, every, each, some}
-use Rattle.rules.specs.Query.{Numbers, Query}
+use Rattle.rules.specs.Query.{Numbers, Query, none}
 use Rattle.rules.specs.Stored.{rangeTag}
 use Rattle.rules.specs.Reading.{isWord, wordOf, isBound, boundOf}
 use Rattle.rules.specs.Checked.{Is, Stored}
 use Rattle.rules.specs.Lists.{Entry}
 use Rattle.rules.specs.Matching.{isAt, followsFrom, startsOn, hasTerm, hasPhrase, hasRange, matches}
 use Rattle.rules.proofs.Bools.{and-l, and-r}
-use Rattle.rules.proofs.stored.Parts.{part-is, field-is, none-empty, some-empty}
+use Rattle.rules.proofs.stored.Parts.{part-is, field-is, none-empty, some-empty, less-empty, length-whole}
 use Rattle.rules.proofs.stored.Rows.{first, others, each-done, each-next}
 use Rattle.rules.proofs.stored.Leaves.{BoundIs, is-open, is-included, is-excluded, bound-is, at-open, at-included, at-excluded}
-use Rattle.rules.proofs.stored.Views.{View, v-term, v-phrase, v-boolean, v-boost, v-constantScore, v-matchAll, v-matchNone, v-whole, v-float, viewed, at-tag, AsTerm, as-term, AsPhrase, as-phrase, AsRange, as-range, as-match-all}
+use Rattle.rules.proofs.stored.Views.{View, v-term, v-phrase, v-boolean, v-boost, v-constantScore, v-matchAll, v-matchNone, v-whole, v-float, viewed, at-tag, AsTerm, as-term, AsPhrase, as-phrase, AsRange, as-range, as-match-all, AsBoolean, as-boolean, no-front}
+use Rattle.matching.specs.Level.{carries}
 use Rattle.matching.specs.Order.{ordered, keeps}
+use Rattle.matching.proofs.Levels.{carries-all, carries-none}
 use Rattle.matching.specs.Truth.{Truth, StoredAs, IsLeaf}
 
 pub stored-whole : {s : List ℕ} → Stored s → wholeOf s ≡ true
@@ -175,20 +177,33 @@ module _ (s : List ℕ) (es : List Entry) where
   unfolding Truth matches
   all-says h q i = sym (ap (matches es) (as-match-all (seen s matchAllTag q h i) .0))
 
+  -- a Boolean that has no clause
+  empty-says : IsLeaf s → (q : Query) → Is s q → tagOf s ≡ booleanTag → false ≡ matches es q
+  empty-says L q i h =
+      let A = as-boolean (seen s booleanTag q h i) (i .valid) in
+      let l : length s ≤ 8 = let z = leb-false 9 (length s) (sym (rw (eq-eqb (tagOf s) booleanTag h)) ∙ L .boolean) in omega arith in
+      let w = viewed q s (i .form) .whole in
+      let v : wholeOf (bodyOf s) ≡ true = part-is minimumTag (bodyOf s) (A .minimum) .0 in
+      let r : length (restOf (bodyOf s)) ≤ 0 = let t = A .two in omega (arith, length-whole s w, length-whole (bodyOf s) v) in
+      let c : A .clauses ≡ none = no-front (restOf (bodyOf s)) (A .clauses) (less-empty (restOf (bodyOf s)) r) (A .form) in
+      let m = ofBig (bodyOf (bodyOf s)) in
+      sym (ap (matches es) (A .is) ∙ carries-all es m (A .clauses) ∙ ap (carries es m false) c ∙ carries-none es m false ∙ and-false (leb m 0))
+
   -- the leaf that is left
-  pub none-says : IsLeaf (tagOf s) → (tagOf s ≡ termTag → ⊥) → (tagOf s ≡ phraseTag → ⊥) → (tagOf s ≡ matchAllTag → ⊥)
+  pub none-says : IsLeaf s → (tagOf s ≡ termTag → ⊥) → (tagOf s ≡ phraseTag → ⊥) → (tagOf s ≡ matchAllTag → ⊥)
       → (tagOf s ≡ wholeRangeTag → ⊥) → (tagOf s ≡ floatRangeTag → ⊥) → Truth s es false
   unfolding Truth matches
-  none-says L a b c d e q i = go (viewed q s (i .form) .view) L a b c d e
+  none-says L a b c d e q i = go (viewed q s (i .form) .view) refl (empty-says L q i) (L .boost) (L .constantScore) a b c d e
     where
-      go : {t : ℕ} {b : List ℕ} {q : Query} → View t b q → IsLeaf t → (t ≡ termTag → ⊥) → (t ≡ phraseTag → ⊥) → (t ≡ matchAllTag → ⊥)
-          → (t ≡ wholeRangeTag → ⊥) → (t ≡ floatRangeTag → ⊥) → false ≡ matches es q
-      go v-term L a b c d e = absurd (a refl)
-      go v-phrase L a b c d e = absurd (b refl)
-      go v-boolean L a b c d e = absurd (L .boolean refl)
-      go v-boost L a b c d e = absurd (L .boost refl)
-      go v-constantScore L a b c d e = absurd (L .constantScore refl)
-      go v-matchAll L a b c d e = absurd (c refl)
-      go v-matchNone L a b c d e = refl
-      go v-whole L a b c d e = absurd (d refl)
-      go v-float L a b c d e = absurd (e refl)
+      go : {t : ℕ} {b : List ℕ} {q : Query} → View t b q → tagOf s ≡ t → (tagOf s ≡ booleanTag → false ≡ matches es q) → (tagOf s ≡ boostTag → ⊥)
+          → (tagOf s ≡ constantScoreTag → ⊥) → (tagOf s ≡ termTag → ⊥) → (tagOf s ≡ phraseTag → ⊥) → (tagOf s ≡ matchAllTag → ⊥)
+          → (tagOf s ≡ wholeRangeTag → ⊥) → (tagOf s ≡ floatRangeTag → ⊥) → false ≡ matches es q
+      go v-term h o p k a b c d e = absurd (a h)
+      go v-phrase h o p k a b c d e = absurd (b h)
+      go v-boolean h o p k a b c d e = o h
+      go v-boost h o p k a b c d e = absurd (p h)
+      go v-constantScore h o p k a b c d e = absurd (k h)
+      go v-matchAll h o p k a b c d e = absurd (c h)
+      go v-matchNone h o p k a b c d e = refl
+      go v-whole h o p k a b c d e = absurd (d h)
+      go v-float h o p k a b c d e = absurd (e h)

@@ -6,14 +6,15 @@ use mathlib.Core.Bool.{Bool, true, false, _&&_, _||_, cond, or-false, and-assoc}
 use native.Mathlib.Omega.{arith}
 use native.Mathlib.Nat.{zero-add}
 use lib.Dec.{leb, eqb}
-use borrow.Author.Tests.{eq-eqb, ne-eqb, le-leb, leb-true}
+use mathlib.Core.Logic.{_⊎_, inl, inr, ⊎-elim}
+use borrow.Author.Tests.{eqb-true, eq-eqb, ne-eqb, le-leb, leb-true}
 use Rattle.rules.specs.Numbers.{mustTag, shouldTag, mustNotTag}
 use Rattle.rules.specs.Query.{Kind, must, should, mustNot, filter, Query, boolean, Clauses, none, clause}
 use Rattle.rules.specs.Reading.{kindOf}
 use Rattle.rules.specs.Lists.{Entry}
 use Rattle.rules.specs.Rewriting.{isNeeded}
 use Rattle.rules.specs.Matching.{bit, allows, countsFor, anyNeeded, matches, allAllow, shouldsTrue}
-use Rattle.rules.proofs.Bools.{alike, and-l, and-r, or-r}
+use Rattle.rules.proofs.Bools.{alike, and-l, and-r, or-r, either}
 use Rattle.matching.specs.declared.level.Level.{Level}
 use Rattle.matching.specs.Level.{levelOf, meets, answered, isOver, carries, after}
 
@@ -123,3 +124,15 @@ module _ (es : List Entry) where
   pub carries-should : (q : Query) (cs : Clauses) → carries es 0 true (clause should q cs) ≡ carries es 0 true cs
   unfolding matches carries anyNeeded
   carries-should q cs = ap (λ (b : Bool). allAllow es cs && (b && true)) (le-leb 0 (bit (matches es q) + shouldsTrue es cs) (omega arith) ∙ sym (le-leb 0 (shouldsTrue es cs) (omega arith)))
+
+  -- a Should or a MustNot whose query is false changes nothing either
+  pub carries-optional : (k : ℕ) (q : Query) (cs : Clauses) (asked : ℕ) (met : Bool) → (eqb k shouldTag || eqb k mustNotTag) ≡ true → matches es q ≡ false
+      → carries es asked met (clause (kindOf k) q cs) ≡ carries es asked met cs
+  unfolding matches carries anyNeeded
+  carries-optional k q cs asked met h f = ⊎-elim (λ z. at-should (eqb-true k shouldTag z)) (λ z. at-not (eqb-true k mustNotTag z)) (either (eqb k shouldTag) (eqb k mustNotTag) h)
+    where
+      at-should : k ≡ shouldTag → carries es asked met (clause (kindOf k) q cs) ≡ carries es asked met cs
+      at-should e = rw (e, f, zero-add (shouldsTrue es cs))
+
+      at-not : k ≡ mustNotTag → carries es asked met (clause (kindOf k) q cs) ≡ carries es asked met cs
+      at-not e = rw (e, f, zero-add (shouldsTrue es cs))

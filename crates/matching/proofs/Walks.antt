@@ -2,39 +2,33 @@
 use mathlib.Core.Path.{_≡_, refl, sym, ap, _∙_, subst₂}
 use Prim.Native.Nat.{ℕ, zero, suc, _+_, _-_, _≤_, _<_}
 use mathlib.Core.List.{List, [], _∷_}
-use mathlib.Core.Bool.{Bool, true, false, and-false}
+use mathlib.Core.Bool.{Bool, true, false, _&&_, _||_}
 use native.Mathlib.Omega.{arith}
 use lib.ListN.{length, getD, take, drop, set, length-take, length-drop}
-use lib.Seq.{take-nil, take-take, take-all, drop-drop, getD-set-same, getD-set-other}
-use lib.Dec.{leb}
-use Rattle.rules.specs.Numbers.{booleanTag, boostTag, constantScoreTag, minimumTag, shouldTag, selectionDepth}
+use lib.Seq.{take-take, take-all, drop-drop, getD-set-same, getD-set-other}
+use lib.Dec.{leb, eqb}
+use borrow.Author.Tests.{eqb-true, leb-true}
+use Rattle.rules.specs.Numbers.{booleanTag, boostTag, constantScoreTag, minimumTag, shouldTag, mustNotTag, selectionDepth}
 use Rattle.rules.specs.Bytes.{ofBig, tagOf, sizeOf, bodyOf, restOf, wholeOf}
 use Rattle.rules.specs.Query.{Kind, should, Query, Clauses, none, clause, depth, depths}
 use Rattle.rules.specs.Reading.{kindOf}
-use Rattle.rules.specs.Checked.{Is, Are, StoredClauses}
+use Rattle.rules.specs.Checked.{Is, Are, Stored, StoredClauses}
 use Rattle.rules.specs.Lists.{Entry}
 use Rattle.rules.specs.Matching.{allows, matches}
-use Rattle.rules.proofs.Bools.{and-no-l}
+use Rattle.rules.proofs.Bools.{and-l, and-r, and-no-l}
 use Rattle.rules.proofs.stored.Parts.{less-empty, more-empty, length-body, length-whole, whole-le, part-is}
 use Rattle.rules.proofs.stored.Tags.{kind-back}
 use Rattle.rules.proofs.stored.Equal.{encode-injective}
 use Rattle.rules.proofs.stored.Views.{View, viewed, at-tag, AsBoolean, as-boolean, as-boost, as-constant-score, Front, front-of, no-front}
+use Rattle.stretches.proofs.Joining.{drop-take}
 use Rattle.matching.specs.declared.level.Level.{Level}
 use Rattle.matching.specs.declared.truth.Next.{Next}
 use Rattle.matching.specs.declared.truth.Next.the-variants.{Done, Query as Goes}
 use Rattle.matching.specs.Level.{levelOf, answered, isOver, carries, after}
-use Rattle.matching.specs.Truth.{Truth, StoredFor, cut, Open, outside, inside, outcome, At, AtClause, Leads, Past}
-use Rattle.matching.proofs.Levels.{carries-all, carries-clause, carries-none, carries-should}
+use Rattle.matching.specs.Truth.{Truth, StoredFor, isOpen, cut, Open, outside, inside, outcome, At, AtClause, Leads, Over, Decides, Idle, Past}
+use Rattle.matching.proofs.Levels.{over-parts, carries-all, carries-clause, carries-none, carries-should, carries-optional}
 
 -- ---- stretches of a list
-
-drop-take : (k n : ℕ) (l : List ℕ) → drop k (take n l) ≡ take (n - k) (drop k l)
-drop-take zero n l = let z : n ≡ n - 0 = omega arith in ap (λ (m : ℕ). take m l) z
-drop-take (suc k) zero l = let z : 0 ≡ 0 - suc k = omega arith in ap (λ (m : ℕ). take m (drop (suc k) l)) z
-drop-take (suc k) (suc n) [] = sym (take-nil (suc n - suc k))
-drop-take (suc k) (suc n) (x ∷ l) =
-    let z : n - k ≡ suc n - suc k = omega arith in
-    drop-take k n l ∙ ap (λ (m : ℕ). take m (drop k l)) z
 
 module _ (s : List ℕ) where
   pub cut-drop : (k a e : ℕ) → drop k (cut s a e) ≡ cut s (a + k) e
@@ -184,39 +178,77 @@ module _ {s row : List ℕ} {n at : ℕ} (l : Level) (t : AtClause s row n at (l
   )
 
 -- past clauses that change nothing
-pub past-none : (s : List ℕ) (at end asked : ℕ) (met : Bool) → at ≤ end → Past s at end asked met at
-past-none s at end asked met h = record { later = omega arith; fits = h; left = λ cs a. (cs, a, omega arith, λ es. refl) }
+pub past-none : (es : List Entry) (s : List ℕ) (at end : ℕ) (over : Bool) → at ≤ end → Past es s at end over at
+past-none es s at end over h = record {
+  later = omega arith;
+  fits = h;
+  left = λ cs a. record { clauses = cs; are = a; deep = omega arith; alike = λ asked met o. refl };
+}
 
-module _ {s : List ℕ} {at end p : ℕ} (P : Past s at end 0 true p) (more : p < end) (h : end ≤ length s) where
-  past-front : (cs : Clauses) (a : Are (cut s at end) cs) → Front (cut s p end) (P .left cs a .0)
-  past-front cs a =
-      let L = P .left cs a in
-      let l : 0 < length (cut s p end) = let k = cut-length s p end h in omega arith in
-      front-of (cut s p end) (L .0) (more-empty (cut s p end) l) (L .1 .form) (L .1 .valid)
+-- the clause at the front of a stretch
+module _ {s : List ℕ} (c : StoredClauses s) (more : 0 < length s) where
+  clauses-front : Front s (c .clauses)
+  clauses-front = front-of s (c .clauses) (more-empty s more) (c .are .form) (c .are .valid)
+
+  pub clause-whole : wholeOf s ≡ true
+  clause-whole = clauses-front .whole
+
+  pub clause-stored : Stored (bodyOf s)
+  clause-stored = record { query = clauses-front .query; is = record { valid = clauses-front .valid; form = clauses-front .form } }
+
+module _ (es : List Entry) {s : List ℕ} (more : 0 < length s) {k : ℕ} (ek : k ≡ tagOf s) where
+  idle-by : {over : Bool} → ((q : Query) (cs : Clauses) → Is (bodyOf s) q → (asked : ℕ) (met : Bool) → Over over asked met
+      → carries es asked met (clause (kindOf k) q cs) ≡ carries es asked met cs) → Idle es over s
+  unfolding depth
+  idle-by h cs a =
+      let F = front-of s cs (more-empty s more) (a .form) (a .valid) in
+      let i : F .kind ≡ kindOf k = sym (kind-back (F .kind)) ∙ ap kindOf (sym (F .tag) ∙ sym ek) in
+      let e : cs ≡ clause (kindOf k) (F .query) (F .others) = F .split ∙ ap (λ (x : Kind). clause x (F .query) (F .others)) i in
+      let d = ap depths e in
+      record {
+        clauses = F .others;
+        are = record { valid = F .valid-others; form = F .form-others };
+        deep = omega arith;
+        alike = λ asked met o. ap (carries es asked met) e ∙ h (F .query) (F .others) (record { valid = F .valid; form = F .form }) asked met o;
+      }
+
+  pub idle-spare : {over : Bool} → (over && eqb k shouldTag) ≡ true → Idle es over s
+  idle-spare {over} h = idle-by (λ q cs i asked met o.
+      let z = o (and-l over (eqb k shouldTag) h) in
+      let t : k ≡ shouldTag = eqb-true k shouldTag (and-r over (eqb k shouldTag) h) in
+      rw (z .0, z .1, t) (carries-should es q cs))
+
+  pub idle-missing : {over : Bool} → (eqb k shouldTag || eqb k mustNotTag) ≡ true → Truth (bodyOf s) es false → Idle es over s
+  unfolding Truth
+  idle-missing h T = idle-by (λ q cs i asked met o. carries-optional es k q cs asked met h (sym (T q i)))
+
+module _ {es : List Entry} {s : List ℕ} {at end p : ℕ} {over : Bool} (P : Past es s at end over p) (more : p < end) (h : end ≤ length s) where
+  pub past-long : 0 < length (cut s p end)
+  past-long = let k = cut-length s p end h in omega arith
 
   module _ (c : StoredClauses (cut s at end)) where
+    pub past-stored : StoredClauses (cut s p end)
+    past-stored = let D = P .left (c .clauses) (c .are) in record { clauses = D .clauses; are = D .are }
+
     pub past-whole : wholeOf (cut s p end) ≡ true
-    past-whole = past-front (c .clauses) (c .are) .whole
+    past-whole = clause-whole past-stored past-long
 
     pub past-ends : p + 3 + sizeOf (cut s p end) ≤ end
     past-ends = part-ends s p end past-whole h
 
-    pub past-next : {n : ℕ} → tagOf (cut s p end) ≡ shouldTag → n ≡ p + 3 + sizeOf (cut s p end) → Past s at end 0 true n
-    unfolding depth
-    past-next t en = rw en (record {
+    pub past-next : {n : ℕ} → Idle es over (cut s p end) → n ≡ p + 3 + sizeOf (cut s p end) → Past es s at end over n
+    past-next I en = rw en (record {
       later = let k = P .later in omega arith;
       fits = past-ends;
       left = λ cs a.
-          let L = P .left cs a in
-          let F = past-front cs a in
-          let k : F .kind ≡ should = sym (kind-back (F .kind)) ∙ ap kindOf (sym (F .tag) ∙ t) in
-          let e : L .0 ≡ clause should (F .query) (F .others) = F .split ∙ ap (λ (x : Kind). clause x (F .query) (F .others)) k in
-          let d = rw e at (L .2) in (
-            F .others,
-            record { valid = F .valid-others; form = F .form-others ∙ cut-rest s p end (F .whole) h },
-            omega arith,
-            λ es. L .3 es ∙ ap (carries es 0 true) e ∙ carries-should es (F .query) (F .others),
-          );
+          let D = P .left cs a in
+          let E = I (D .clauses) (D .are) in
+          record {
+            clauses = E .clauses;
+            are = record { valid = E .are .valid; form = E .are .form ∙ cut-rest s p end past-whole h };
+            deep = let x = D .deep in let y = E .deep in omega arith;
+            alike = λ asked met o. D .alike asked met o ∙ E .alike asked met o;
+          };
     })
 
 -- back to the innermost Boolean, at d in the row, with the answer y to its clause
@@ -229,74 +261,73 @@ module _ {s row : List ℕ} {n e d : ℕ} {l : Level} {o : Open s row n e} (I : 
   next-value h es = I .value es y ∙ ap (outcome es (I .around)) (rw h)
 
 -- on the way back from o, where the query was x: the query that ends at e is y
-pub record Back (s row : List ℕ) (n e : ℕ) (y : Bool) {old : List ℕ} {m a : ℕ} (o : Open s old m a) (x : Bool) : Type 0 where
+pub record Back (es : List Entry) (s row : List ℕ) (n e : ℕ) (y : Bool) {old : List ℕ} {m a : ℕ} (o : Open s old m a) (x : Bool) : Type 0 where
   pub around : Open s row n e
   pub later : a ≤ e
-  pub value : (es : List Entry) → outcome es o x ≡ outcome es around y
+  pub value : outcome es o x ≡ outcome es around y
 
-pub back-start : {s row : List ℕ} {m a : ℕ} (o : Open s row m a) (x : Bool) → Back s row m a x o x
-back-start o x = record { around = o; later = omega arith; value = λ es. refl }
+pub back-start : (es : List Entry) {s row : List ℕ} {m a : ℕ} (o : Open s row m a) (x : Bool) → Back es s row m a x o x
+back-start es o x = record { around = o; later = omega arith; value = refl }
 
 -- the value of a clause's place, as its level is known
-pub record Next-clause (s row : List ℕ) (d e : ℕ) (l : Level) (v : List Entry → Bool) : Type 0 where
+pub record Next-clause (es : List Entry) (s row : List ℕ) (d e : ℕ) (l : Level) (v : Bool) : Type 0 where
   pub place : AtClause s row d e (l .end)
-  pub value : (es : List Entry) → v es ≡ outcome es (place .around) (carries es (l .asked) (l .met) (place .clauses))
+  pub value : v ≡ outcome es (place .around) (carries es (l .asked) (l .met) (place .clauses))
 
-module _ {s old row : List ℕ} {m a : ℕ} {o : Open s old m a} {x : Bool} {n e : ℕ} {y : Bool} (B : Back s row n e y o x)
+module _ {es : List Entry} {s old row : List ℕ} {m a : ℕ} {o : Open s old m a} {x : Bool} {n e : ℕ} {y : Bool} (B : Back es s row n e y o x)
     (d : ℕ) (l : Level) (p : n ≡ d + 1) (q : l ≡ levelOf (getD row d 0)) where
   inner : Innermost s row (B .around) d l
   inner = innermost (B .around) d l p q
 
-  pub back-denied : allows (kindOf (l .kind)) y ≡ false → Back s row d (l .end) false o x
+  pub back-denied : allows (kindOf (l .kind)) y ≡ false → Back es s row d (l .end) false o x
   back-denied h = record {
     around = inner .around;
     later = let f = inner .fits in let g = B .later in omega arith;
-    value = λ es. B .value es ∙ denied-value inner y h es;
+    value = B .value ∙ denied-value inner y h es;
   }
 
   -- its clauses, from the end of the query that was answered on
-  pub back-clauses : {k : Level} → k ≡ answered l y → StoredClauses (cut s e (k .end)) × (e ≤ k .end) × (k .end ≤ length s)
-  back-clauses ek = rw ek (record { clauses = inner .clauses; are = inner .are }, inner .fits, open-end (inner .around))
+  pub back-clauses : StoredClauses (cut s e (l .end)) × (e ≤ l .end) × (l .end ≤ length s)
+  back-clauses = (record { clauses = inner .clauses; are = inner .are }, inner .fits, open-end (inner .around))
 
-  module _ {k : Level} (ek : k ≡ answered l y) {g : ℕ} (P : Past s e (k .end) (k .asked) (k .met) g) (t : allows (kindOf (l .kind)) y ≡ true) where
-    past : Past s e (l .end) (answered l y .asked) (answered l y .met) g
-    past = rw ek at P
+  module _ {k : Level} (ek : k ≡ answered l y) {g : ℕ} {over : Bool} (eo : over ≡ isOver k) (P : Past es s e (l .end) over g)
+      (t : allows (kindOf (l .kind)) y ≡ true) where
+    kept : Decides es over (inner .clauses) (cut s g (l .end))
+    kept = P .left (inner .clauses) (inner .are)
 
-    kept : (ds : Clauses) × Are (cut s g (l .end)) ds × (depths ds ≤ depths (inner .clauses))
-        × ((es : List Entry) → carries es (answered l y .asked) (answered l y .met) (inner .clauses) ≡ carries es (answered l y .asked) (answered l y .met) ds)
-    kept = past .left (inner .clauses) (inner .are)
+    past-value : outcome es o x ≡ outcome es (inner .around) (carries es (answered l y .asked) (answered l y .met) (kept .clauses))
+    past-value =
+        B .value ∙ next-value inner y t es
+        ∙ ap (outcome es (inner .around)) (kept .alike (answered l y .asked) (answered l y .met) (λ z. over-parts (answered l y) (sym (eo ∙ ap isOver ek) ∙ z)))
 
-    past-value : (es : List Entry) → outcome es o x ≡ outcome es (inner .around) (carries es (answered l y .asked) (answered l y .met) (kept .0))
-    past-value es = B .value es ∙ next-value inner y t es ∙ ap (outcome es (inner .around)) (kept .3 es)
-
-    pub back-over : {r : Bool} → l .end ≤ g → r ≡ isOver (answered l y) → Back s row d (l .end) r o x
-    back-over h er =
+    pub back-over : l .end ≤ g → Back es s row d (l .end) over o x
+    back-over h =
         let i : length (cut s g (l .end)) ≤ 0 = let j = cut-length s g (l .end) (open-end (inner .around)) in omega arith in
-        let c : kept .0 ≡ none = no-front (cut s g (l .end)) (kept .0) (less-empty (cut s g (l .end)) i) (kept .1 .form) in
-        rw er (record {
+        let c : kept .clauses ≡ none = no-front (cut s g (l .end)) (kept .clauses) (less-empty (cut s g (l .end)) i) (kept .are .form) in
+        rw (eo ∙ ap isOver ek) (record {
           around = inner .around;
           later = let f = inner .fits in let b = B .later in omega arith;
-          value = λ es. past-value es ∙ ap (outcome es (inner .around))
+          value = past-value ∙ ap (outcome es (inner .around))
               (ap (carries es (answered l y .asked) (answered l y .met)) c ∙ carries-none es (answered l y .asked) (answered l y .met));
         })
 
     -- to its next clause
-    pub back-clause : g < l .end → Next-clause s row d g k (λ es. outcome es o x)
+    pub back-clause : g < l .end → Next-clause es s row d g k (outcome es o x)
     back-clause h = rw ek (record {
       place = record {
-        clauses = kept .0;
-        are = kept .1;
+        clauses = kept .clauses;
+        are = kept .are;
         fits = h;
-        deep = let m = inner .deep in let f = kept .2 in omega arith;
+        deep = let m = inner .deep in let f = kept .deep in omega arith;
         around = inner .around;
       };
       value = past-value;
     })
 
-pub back-end : {s old row : List ℕ} {m a : ℕ} {o : Open s old m a} {x : Bool} {n e : ℕ} {y : Bool} (B : Back s row n e y o x) → n ≡ 0
-    → (es : List Entry) → outcome es o x ≡ y
+pub back-end : {es : List Entry} {s old row : List ℕ} {m a : ℕ} {o : Open s old m a} {x : Bool} {n e : ℕ} {y : Bool} (B : Back es s row n e y o x) → n ≡ 0
+    → outcome es o x ≡ y
 unfolding outcome
-back-end {y = y} B h es = B .value es ∙ go (B .around) h
+back-end {es = es} {y = y} B h = B .value ∙ go (B .around) h
   where
     go : {s row : List ℕ} {n e : ℕ} (o : Open s row n e) → n ≡ 0 → outcome es o y ≡ y
     go (outside h k) z = refl
@@ -361,7 +392,16 @@ module _ {s row : List ℕ} {n at end : ℕ} (t : At s row n at end) where
       (omega arith) es (ap (matches es) (A .is))
 
   -- a Boolean: to its first clause
-  module _ (h : tagOf (cut s at end) ≡ booleanTag) where
+  module _ (opens : isOpen (cut s at end) ≡ true) where
+    h : tagOf (cut s at end) ≡ booleanTag
+    h = eqb-true (tagOf (cut s at end)) booleanTag (and-l (eqb (tagOf (cut s at end)) booleanTag) (leb 9 (length (cut s at end))) opens)
+
+    pub open-long : at + 8 < end
+    open-long =
+        let l = leb-true 9 (length (cut s at end)) (and-r (eqb (tagOf (cut s at end)) booleanTag) (leb 9 (length (cut s at end))) opens) in
+        let k = at-length in
+        omega arith
+
     shown : AsBoolean (cut s (at + 3) end) (t .query)
     shown = as-boolean (seen booleanTag h) (t .is .valid)
 
@@ -370,13 +410,6 @@ module _ {s row : List ℕ} {n at end : ℕ} (t : At s row n at end) where
 
     minimum-size : sizeOf (cut s (at + 3) end) ≡ 2
     minimum-size = sym (length-body (cut s (at + 3) end) minimum-whole) ∙ shown .two
-
-    pub boolean-long : at + 8 ≤ end
-    boolean-long =
-        let l = whole-le (cut s (at + 3) end) minimum-whole in
-        let k = cut-length s (at + 3) end at-end in
-        let z = minimum-size in
-        omega arith
 
     minimum-at : bodyOf (cut s (at + 3) end) ≡ take 2 (drop 6 (cut s at end))
     unfolding bodyOf
@@ -401,23 +434,15 @@ module _ {s row : List ℕ} {n at end : ℕ} (t : At s row n at end) where
         ap (matches es) (shown .is) ∙ carries-all es _ (shown .clauses)
         ∙ ap (λ (m : ℕ). carries es m false (shown .clauses)) (ap ofBig minimum-at ∙ sym e)
 
-    pub to-clause : (asked : ℕ) → at + 8 < end → asked ≡ ofBig (take 2 (drop 6 (cut s at end)))
-        → Next-clause s row n (at + 8) (record { end = end; asked = asked; met = false; kind = 0 }) (λ es. outcome es (t .around) (matches es (t .query)))
+    pub to-clause : (es : List Entry) (asked : ℕ) → asked ≡ ofBig (take 2 (drop 6 (cut s at end)))
+        → Next-clause es s row n (at + 8) (record { end = end; asked = asked; met = false; kind = 0 }) (outcome es (t .around) (matches es (t .query)))
     unfolding depth
-    to-clause asked l e =
+    to-clause es asked e =
         let d = rw (shown .is) at (t .deep) in
         record {
-          place = record { clauses = shown .clauses; are = clauses-are; fits = l; deep = omega arith; around = t .around };
-          value = λ es. ap (outcome es (t .around)) (boolean-value es asked e);
+          place = record { clauses = shown .clauses; are = clauses-are; fits = open-long; deep = omega arith; around = t .around };
+          value = ap (outcome es (t .around)) (boolean-value es asked e);
         }
-
-    pub no-clause : end ≤ at + 8 → (es : List Entry) → outcome es (t .around) (matches es (t .query)) ≡ outcome es (t .around) false
-    no-clause l es =
-        let m = ofBig (take 2 (drop 6 (cut s at end))) in
-        let k : length (cut s (at + 8) end) ≤ 0 = let j = cut-length s (at + 8) end at-end in omega arith in
-        let c : shown .clauses ≡ none = no-front (cut s (at + 8) end) (shown .clauses) (less-empty (cut s (at + 8) end) k) (clauses-are .form) in
-        ap (outcome es (t .around))
-        (boolean-value es m refl ∙ ap (carries es m false) c ∙ carries-none es m false ∙ and-false (leb m 0))
 
 -- ---- the whole walk
 

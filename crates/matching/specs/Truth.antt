@@ -2,10 +2,11 @@
 use mathlib.Core.Path.{_≡_}
 use Prim.Native.Nat.{ℕ, _+_, _-_, _≤_, _<_}
 use mathlib.Core.List.{List}
-use mathlib.Core.Bool.{Bool}
+use mathlib.Core.Bool.{Bool, true, false, _&&_}
 use lib.ListN.{length, getD, take, drop}
+use lib.Dec.{leb, eqb}
 use Rattle.rules.specs.Numbers.{booleanTag, boostTag, constantScoreTag, selectionBytes, selectionDepth}
-use Rattle.rules.specs.Bytes.{tagOf}
+use Rattle.rules.specs.Bytes.{tagOf, restOf}
 use Rattle.rules.specs.Query.{Query, Clauses, depth, depths}
 use Rattle.rules.specs.Checked.{Is, Are, Stored}
 use Rattle.rules.specs.Lists.{Entry}
@@ -24,11 +25,15 @@ pub record StoredAs (t : ℕ) (s : List ℕ) : Type 0 where
   pub stored : Stored s
   pub tag : tagOf s ≡ t
 
--- the tags of queries that hold others
-pub record IsLeaf (t : ℕ) : Type 0 where
-  pub boolean : t ≡ booleanTag → ⊥
-  pub boost : t ≡ boostTag → ⊥
-  pub constantScore : t ≡ constantScoreTag → ⊥
+-- a Boolean that has clauses
+abbrev pub isOpen : List ℕ → Bool
+isOpen s = eqb (tagOf s) booleanTag && leb 9 (length s)
+
+-- a query that holds no other
+pub record IsLeaf (s : List ℕ) : Type 0 where
+  pub boolean : isOpen s ≡ false
+  pub boost : tagOf s ≡ boostTag → ⊥
+  pub constantScore : tagOf s ≡ constantScoreTag → ⊥
 
 -- checked bytes within selection's limits
 pub record StoredFor (s : List ℕ) : Type 0 where
@@ -55,12 +60,26 @@ outcome es (inside d l cs h k a f m o) y = outcome es o (after es l y cs)
 
 -- ---- clauses that change nothing
 
--- of the clauses from `at` to `end`, those from p on decide, with so many Should clauses asked for
-pub record Past (s : List ℕ) (at end : ℕ) (asked : ℕ) (met : Bool) (p : ℕ) : Type 0 where
+-- what a Boolean still asks for and has met, where `over` says that it is true with no clause left
+abbrev pub Over : Bool → ℕ → Bool → Type 0
+Over over asked met = over ≡ true → (asked ≡ 0) × (met ≡ true)
+
+-- s decides, of the clauses cs
+pub record Decides (es : List Entry) (over : Bool) (cs : Clauses) (s : List ℕ) : Type 0 where
+  pub clauses : Clauses
+  pub are : Are s clauses
+  pub deep : depths clauses ≤ depths cs
+  pub alike : (asked : ℕ) (met : Bool) → Over over asked met → carries es asked met cs ≡ carries es asked met clauses
+
+-- the clause at the front of s changes nothing
+abbrev pub Idle : List Entry → Bool → List ℕ → Type 0
+Idle es over s = (cs : Clauses) → Are s cs → Decides es over cs (restOf s)
+
+-- of the clauses from `at` to `end`, those from p on decide
+pub record Past (es : List Entry) (s : List ℕ) (at end : ℕ) (over : Bool) (p : ℕ) : Type 0 where
   pub later : at ≤ p
   pub fits : p ≤ end
-  pub left : (cs : Clauses) → Are (cut s at end) cs
-      → (ds : Clauses) × Are (cut s p end) ds × (depths ds ≤ depths cs) × ((es : List Entry) → carries es asked met cs ≡ carries es asked met ds)
+  pub left : (cs : Clauses) → Are (cut s at end) cs → Decides es over cs (cut s p end)
 
 -- ---- the places of the walk
 

@@ -8,6 +8,7 @@ use super::level::packed;
 use super::level::unpacked;
 use super::phrase::phrase_true;
 use super::range::range_true;
+use super::term::term_missing;
 use super::term::term_true;
 use names::BOOLEAN_FRONT;
 use names::BOOLEAN_TAG;
@@ -17,30 +18,35 @@ use names::CONSTANT_SCORE_TAG;
 use names::FLOAT_RANGE_TAG;
 use names::HEADER;
 use names::MATCH_ALL_TAG;
+use names::MUST_NOT_TAG;
 use names::NO_TAG;
 use names::PHRASE_TAG;
 use names::SHOULD_TAG;
 use names::TERM_TAG;
 use names::WHOLE_RANGE_TAG;
 use numbers::big2;
+use parts::part::body;
 use parts::part::size_of;
 use parts::part::tag_of;
 ghost use mathlib.Core.Path.{_≡_};
 ghost use Prim.Native.Nat.{_<_, _≤_};
-ghost use mathlib.Core.Bool.{true};
+ghost use mathlib.Core.Bool.{true, _&&_, _||_};
 ghost use mathlib.Core.List.{List};
-ghost use Rattle.rules.specs.Numbers.{booleanTag, selectionBytes, selectionDepth};
+ghost use Rattle.rules.specs.Numbers.{shouldTag, mustNotTag, selectionBytes, selectionDepth};
 ghost use lib.ListN.{length};
-ghost use Rattle.rules.specs.Bytes.{tagOf, every, each};
+ghost use lib.Dec.{eqb};
+ghost use Rattle.rules.specs.Bytes.{every, each};
 ghost use Rattle.rules.specs.Checked.{Stored, StoredClauses};
 ghost use Rattle.rules.specs.Lists.{isEntry, entryOf, Entry};
 ghost use Rattle.rules.specs.Matching.{matches};
 ghost use Rattle.entries.specs.Slots.{Told};
 ghost use Rattle.matching.specs.Level.{carries};
-ghost use Rattle.matching.specs.Truth.{IsLeaf, Truth, StoredFor, cut, Open, outcome, AtClause, At, Leads, Past};
+ghost use Rattle.matching.specs.Truth.{isOpen, IsLeaf, Truth, StoredFor, cut, Open, outcome, AtClause, At, Leads, Idle, Past};
 
 // Where the number of a Boolean's minimum stands: behind its header and that of the minimum.
 const MINIMUM_AT: usize = HEADER + HEADER;
+
+const OPEN_LEAST: usize = BOOLEAN_FRONT + 1;
 
 // Where the walk goes next: nowhere, or to the query from `at` to `end`, inside so many Booleans.
 pub enum Next {
@@ -49,7 +55,7 @@ pub enum Next {
 }
 
 fn leaf_true(q: &[u8], rec: &[u8], from: usize, slots: &[u16]) -> bool
-    requires { ⌜ Stored (now q) × IsLeaf (tagOf (now q)) × (every isEntry (now rec) ≡ true) × Told (now slots) from (now rec) ⌝ }
+    requires { ⌜ Stored (now q) × IsLeaf (now q) × (every isEntry (now rec) ≡ true) × Told (now slots) from (now rec) ⌝ }
     ensures { λ r. ⌜ Truth (now (q .entry)) (each entryOf (now (rec .entry))) r ⌝ }
 {
     match tag_of(q) {
@@ -84,16 +90,59 @@ fn clause(q: &[u8], row: &mut [u64], depth: usize, at: usize, l: Level) -> Next
     }
 }
 
-// The place of the first clause from `at` on that is no Should, or the end. In a Boolean that asks for no more Should clauses and has met
-// what it needs, those change nothing.
-fn past_shoulds(q: &[u8], at: usize, end: usize) -> usize
-    requires { ⌜ StoredClauses (cut (now q) at end) × (at ≤ end) × (end ≤ length (now q)) ⌝ }
-    ensures { λ r. ⌜ Past (now (q .entry)) at end 0 true r ⌝ }
+// ---- clauses that change nothing
+
+// A Should, in a Boolean that asks for no more of them and has met what it needs.
+fn is_spare(over: bool, tag: u8) -> bool
+    ensures { λ r. ⌜ r ≡ (over && eqb tag shouldTag) ⌝ }
+{
+    if !over {
+        return false;
+    }
+    tag == SHOULD_TAG
+}
+
+// A Should or a MustNot, where its query is false.
+fn is_optional(tag: u8) -> bool
+    ensures { λ r. ⌜ r ≡ (eqb tag shouldTag || eqb tag mustNotTag) ⌝ }
+{
+    if tag == SHOULD_TAG {
+        return true;
+    }
+    tag == MUST_NOT_TAG
+}
+
+// Whether the clause at the front is known to change nothing: a spare one, or an optional one of a term that the slots say is missing.
+fn is_idle(t: &[u8], over: bool, rec: &[u8], from: usize, slots: &[u16]) -> bool
+    requires { ⌜ StoredClauses (now t) × (0 < length (now t)) × Told (now slots) from (now rec) ⌝ }
+    ensures { λ r. ⌜ (r ≡ true → Idle (each entryOf (now (rec .entry))) over (now (t .entry))) ⌝ }
+{
+    let kind = tag_of(t);
+    if is_spare(over, kind) {
+        return true;
+    }
+    if slots.len() == 0 {
+        return false;
+    }
+    if !is_optional(kind) {
+        return false;
+    }
+    let q = body(t);
+    if tag_of(q) != TERM_TAG {
+        return false;
+    }
+    term_missing(q, rec, from, slots)
+}
+
+// The place of the first clause from `at` on that may change something, or the end. `over` says that the Boolean is true with no clause left.
+fn past_idle(q: &[u8], at: usize, end: usize, over: bool, rec: &[u8], from: usize, slots: &[u16]) -> usize
+    requires { ⌜ StoredClauses (cut (now q) at end) × (at ≤ end) × (end ≤ length (now q)) × Told (now slots) from (now rec) ⌝ }
+    ensures { λ r. ⌜ Past (each entryOf (now (rec .entry))) (now (q .entry)) at end over r ⌝ }
 {
     let mut p = at;
     while p < end {
         let t = &q[p..end];
-        if tag_of(t) != SHOULD_TAG {
+        if !is_idle(t, over, rec, from, slots) {
             return p;
         }
         p += HEADER + size_of(t);
@@ -101,22 +150,20 @@ fn past_shoulds(q: &[u8], at: usize, end: usize) -> usize
     p
 }
 
-// Where the next clause that can change the Boolean l stands, from `at` on.
-fn next_clause(q: &[u8], at: usize, l: Level) -> usize
-    requires { ⌜ StoredClauses (cut (now q) at (l .end)) × (at ≤ l .end) × (l .end ≤ length (now q)) ⌝ }
-    ensures { λ r. ⌜ Past (now (q .entry)) at (l .end) (l .asked) (l .met) r ⌝ }
-{
-    if is_over(l) {
-        return past_shoulds(q, at, l.end);
-    }
-    at
-}
-
 // From the end of a query that is true or not: to the next clause of the innermost Boolean that has one and is not decided.
-fn settle(q: &[u8], row: &mut [u64], depth: usize, at: usize, known: bool) -> Next
-    requires { ⌜ Open (now q) (now row) depth at × (length (now q) ≤ selectionBytes) × (selectionDepth ≤ length (now row)) ⌝ }
-    ensures { λ r. ⌜ ((es : List Entry) (o : Open (now (q .entry)) (now (row .entry)) depth at)
-        → Leads es (now (q .entry)) (now (row .exit)) at (outcome es o known) r) ⌝ }
+fn settle(
+    q: &[u8],
+    rec: &[u8],
+    from: usize,
+    slots: &[u16],
+    row: &mut [u64],
+    depth: usize,
+    at: usize,
+    known: bool,
+) -> Next
+    requires { ⌜ Open (now q) (now row) depth at × Told (now slots) from (now rec) × (length (now q) ≤ selectionBytes) × (selectionDepth ≤ length (now row)) ⌝ }
+    ensures { λ r. ⌜ ((o : Open (now (q .entry)) (now (row .entry)) depth at)
+        → Leads (each entryOf (now (rec .entry))) (now (q .entry)) (now (row .exit)) at (outcome (each entryOf (now (rec .entry))) o known) r) ⌝ }
 {
     let mut d = depth;
     let mut e = at;
@@ -127,12 +174,13 @@ fn settle(q: &[u8], row: &mut [u64], depth: usize, at: usize, known: bool) -> Ne
         let end = l.end;
         if allowed(l, y) {
             let m = answer(l, y);
-            let p = next_clause(q, e, m);
+            let over = is_over(m);
+            let p = past_idle(q, e, end, over, rec, from, slots);
             if p < end {
                 return clause(q, row, d, p, m);
             }
             e = end;
-            y = is_over(m);
+            y = over;
         } else {
             e = end;
             y = false;
@@ -141,25 +189,33 @@ fn settle(q: &[u8], row: &mut [u64], depth: usize, at: usize, known: bool) -> Ne
     Next::Done(y)
 }
 
-// Into the Boolean from `at` to `end`: to its first clause. With no clause it is false, whatever its minimum is.
+// A Boolean with clauses. One with none is false, whatever its minimum is, and is asked as a leaf.
+fn is_open(x: &[u8]) -> bool
+    requires { ⌜ 1 ≤ length (now x) ⌝ }
+    ensures { λ r. ⌜ r ≡ isOpen (now (x .entry)) ⌝ }
+{
+    if tag_of(x) != BOOLEAN_TAG {
+        return false;
+    }
+    x.len() >= OPEN_LEAST
+}
+
+// Into the Boolean from `at` to `end`: to its first clause.
 fn enter(q: &[u8], row: &mut [u64], depth: usize, at: usize, end: usize) -> Next
-    requires { ⌜ At (now q) (now row) depth at end × (tagOf (cut (now q) at end) ≡ booleanTag)
+    requires { ⌜ At (now q) (now row) depth at end × (isOpen (cut (now q) at end) ≡ true)
         × (length (now q) ≤ selectionBytes) × (selectionDepth ≤ length (now row)) ⌝ }
     ensures { λ r. ⌜ ((es : List Entry) (t : At (now (q .entry)) (now (row .entry)) depth at end)
         → Leads es (now (q .entry)) (now (row .exit)) at (outcome es (t .around) (matches es (t .query))) r) ⌝ }
 {
     let x = &q[at..end];
-    if x.len() > BOOLEAN_FRONT {
-        let asked = big2(&x[MINIMUM_AT..]);
-        let l = Level {
-            end,
-            asked,
-            met: false,
-            kind: NO_TAG,
-        };
-        return clause(q, row, depth, at + BOOLEAN_FRONT, l);
-    }
-    settle(q, row, depth, end, false)
+    let asked = big2(&x[MINIMUM_AT..]);
+    let l = Level {
+        end,
+        asked,
+        met: false,
+        kind: NO_TAG,
+    };
+    clause(q, row, depth, at + BOOLEAN_FRONT, l)
 }
 
 // From the query at hand.
@@ -180,8 +236,10 @@ fn step(
         (outcome (each entryOf (now (rec .entry))) (t .around) (matches (each entryOf (now (rec .entry))) (t .query))) r) ⌝ }
 {
     let x = &q[at..end];
+    if is_open(x) {
+        return enter(q, row, depth, at, end);
+    }
     match tag_of(x) {
-        BOOLEAN_TAG => enter(q, row, depth, at, end),
         BOOST_TAG => Next::Query {
             depth,
             at: at + BOOST_FRONT,
@@ -194,7 +252,7 @@ fn step(
         },
         _ => {
             let y = leaf_true(x, rec, from, slots);
-            settle(q, row, depth, end, y)
+            settle(q, rec, from, slots, row, depth, end, y)
         }
     }
 }

@@ -6,7 +6,7 @@ use mathlib.Core.Bool.{Bool, true, false, _&&_, and-true}
 use native.Mathlib.Omega.{arith}
 use native.Mathlib.Numerals.{add-one}
 use lib.ListN.{length, getD, take, drop, length-drop, drop-of-length-le}
-use lib.Seq.{drop-cons, drop-drop, take-all, length-take-le}
+use lib.Seq.{take-nil, drop-cons, drop-drop, take-all, length-take-le}
 use lib.Dec.{leb, eqb}
 use lib.Bits.{bitAnd, bitOr, bitXor, and-le-l, and-le-r, and-block, and-high, or-lt, or-add-and, xor-add-and, xor-self, or-zero-l}
 use borrow.Author.Tests.{leb-true, le-leb, eqb-true, eq-eqb}
@@ -138,9 +138,19 @@ pub differ-same : (k : ℕ) (a b : List ℕ) (p q : ℕ) → Bytes a → Bytes b
 differ-same k a b p q B C h i e f =
     differ-zero p q ∙ rw (e, f) (words-same k (take k a) (take k b) (bytes-take k a B) (bytes-take k b C) (length-take-le k a h) (length-take-le k b i))
 
+-- ---- a stretch's end
+
+pub drop-take : (k n : ℕ) (l : List ℕ) → drop k (take n l) ≡ take (n - k) (drop k l)
+drop-take zero n l = let z : n ≡ n - 0 = omega arith in ap (λ (m : ℕ). take m l) z
+drop-take (suc k) zero l = let z : 0 ≡ 0 - suc k = omega arith in ap (λ (m : ℕ). take m (drop (suc k) l)) z
+drop-take (suc k) (suc n) [] = sym (take-nil (suc n - suc k))
+drop-take (suc k) (suc n) (x ∷ l) =
+    let z : n - k ≡ suc n - suc k = omega arith in
+    drop-take k n l ∙ ap (λ (m : ℕ). take m (drop k l)) z
+
 -- ---- a text, and two stretches, in two pieces that meet or overlap: the last k bytes and the first k
 
-text-split : (k : ℕ) (s : List ℕ) → isText s ≡ (isText (take k s) && isText (drop k s))
+pub text-split : (k : ℕ) (s : List ℕ) → isText s ≡ (isText (take k s) && isText (drop k s))
 unfolding isText
 text-split zero s = refl
 text-split (suc k) [] = refl

@@ -24,7 +24,7 @@ const TOPS8: u64 = 0x8080_8080_8080_8080;
 const TOPS4: u32 = 0x8080_8080;
 
 // The top bits of the first eight bytes and of the first four: 0 exactly where these bytes are ASCII.
-fn tops8(s: &[u8]) -> u64
+pub fn tops8(s: &[u8]) -> u64
     requires { ⌜ 8 ≤ length (now s) ⌝ }
     ensures { λ r. ⌜ eqb r 0 ≡ isText (take 8 (now (s .entry))) ⌝ }
 {

@@ -9,7 +9,7 @@ use lib.ListN.{length, getD, drop, set, length-set}
 use lib.Seq.{getD-set-same, getD-set-other}
 use lib.Dec.{eqb}
 use borrow.Author.Tests.{eqb-true, eqb-false, eq-eqb, ne-eqb}
-use Rattle.rules.specs.Numbers.{fieldTag, textTag, wordTag}
+use Rattle.rules.specs.Numbers.{fieldMost, fieldTag, textTag, wordTag}
 use Rattle.rules.specs.Bytes.{bodyOf, restOf, isPart}
 use Rattle.rules.specs.Lists.{Entry, place, value}
 use Rattle.rules.proofs.Bools.{clash, split, or-l, or-r, either}
@@ -118,7 +118,14 @@ module _ {w f t : List ℕ} where
 
 module _ {w s : List ℕ} where
   pub looked-not : length w ≡ slotsMany → isPart fieldTag s ≡ false → Looked w s w false
-  looked-not l h = record { kept = kept-same w l; words = λ n W. clash (W .0) h; others = λ o. clash (o .0) h }
+  looked-not l h = record { kept = kept-same w l; words = λ n W. clash (W .0 .0) h; others = λ o. clash (o .0 .0) h }
+
+  pub looked-long : {f : List ℕ} → length w ≡ slotsMany → f ≡ bodyOf s → fieldMost < length f → Looked w s w false
+  looked-long l ef h = record {
+    kept = kept-same w l;
+    words = λ n W. absurd (let k = W .0 .1 in let e = ap length ef in omega arith);
+    others = λ o. absurd (let k = o .0 .1 in let e = ap length ef in omega arith);
+  }
 
   pub looked-behind : {f t after : List ℕ} {r : Bool} → f ≡ bodyOf s → t ≡ restOf s → Behind w f t after r → Looked w s after r
   looked-behind ef et B = record {

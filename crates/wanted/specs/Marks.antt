@@ -6,7 +6,7 @@ use mathlib.Core.Bool.{Bool, true, false, _||_}
 use mathlib.Core.Logic.{_⊎_}
 use lib.ListN.{length, getD, drop}
 use lib.Dec.{eqb}
-use Rattle.rules.specs.Numbers.{fieldTag, textTag, wordTag}
+use Rattle.rules.specs.Numbers.{fieldMost, fieldTag, textTag, wordTag}
 use Rattle.rules.specs.Bytes.{bodyOf, restOf, isPart}
 use Rattle.entries.specs.Slots.{slotsMany, hashOf}
 
@@ -48,11 +48,14 @@ pub record Behind (before f t after : List ℕ) (r : Bool) : Type 0 where
   pub others : Other t → r ≡ true
 
 -- a field, and behind it a word with this hash, or neither
+abbrev pub FieldAt : List ℕ → Type 0
+FieldAt s = (isPart fieldTag s ≡ true) × (length (bodyOf s) ≤ fieldMost)
+
 abbrev pub WordAt : ℕ → List ℕ → Type 0
-WordAt n s = (isPart fieldTag s ≡ true) × Word (bodyOf s) (restOf s) n
+WordAt n s = FieldAt s × Word (bodyOf s) (restOf s) n
 
 abbrev pub OtherAt : List ℕ → Type 0
-OtherAt s = (isPart fieldTag s ≡ true) × Other (restOf s)
+OtherAt s = FieldAt s × Other (restOf s)
 
 pub record Looked (before s after : List ℕ) (r : Bool) : Type 0 where
   pub kept : Kept before after

@@ -5,6 +5,7 @@ use entries::entry::is_place;
 use entries::entry::text;
 use entries::slots::SLOTS;
 use entries::slots::hash;
+use names::FIELD_MOST;
 use names::FIELD_TAG;
 use names::POSITION_BYTES;
 use names::TEXT_TAG;
@@ -81,6 +82,7 @@ fn look_behind(wanted: &mut [u8], f: &[u8], t: &[u8]) -> bool
     false
 }
 
+// No field is so long: what only seems one, as a part's length may, is passed by where it can be told.
 fn look(wanted: &mut [u8], t: &[u8]) -> bool
     requires { ⌜ length (now wanted) ≡ slotsMany ⌝ }
     ensures { λ r. ⌜ Looked (now (wanted .entry)) (now (t .entry)) (now (wanted .exit)) r ⌝ }
@@ -88,7 +90,11 @@ fn look(wanted: &mut [u8], t: &[u8]) -> bool
     if !is_part(t, FIELD_TAG) {
         return false;
     }
-    look_behind(wanted, body(t), rest(t))
+    let f = body(t);
+    if f.len() > FIELD_MOST {
+        return false;
+    }
+    look_behind(wanted, f, rest(t))
 }
 
 fn either(a: bool, b: bool) -> bool

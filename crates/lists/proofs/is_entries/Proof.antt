@@ -1,12 +1,12 @@
+use Rattle.lists.proofs.Lister as lister
 -- `lists::is_entries` meets its contract.
 use mathlib.Core.Path.{_≡_, refl, sym, ap, _∙_}
 use lib.ListN.{length}
 use denote.Ref.{now}
 use borrow.Author.Needs.{needs}
-use Rattle.rules.proofs.choosing.Entries as entries
 use Rattle.rules.proofs.stored.Rows as rows
 use Rattle.rules.proofs.stored.Parts as parts
-use Rattle.rules.proofs.Bools as bools
+use Rattle.lists.proofs.Lister as lister
 use Rattle.rules.specs.Lists.{isEntry}
 use Rattle.rules.specs.Bytes.{every}
 use Rattle.lists.proofs.is_entries.Statement.{statement}
@@ -21,20 +21,26 @@ abbrev μ-loop : tie.MeasureT-loop
 loop-holds : tie.Need-loop-holds Inv-loop μ-loop
 loop-holds c = refl
 
-is-entry-requires : tie.Need-is-entry-requires Inv-loop μ-loop
-is-entry-requires c κs = search needs
+entry-end-requires : tie.Need-entry-end-requires Inv-loop μ-loop
+entry-end-requires c κs = search needs
 
 returns : tie.Need-returns Inv-loop μ-loop
-returns c = sym (c .before .before .before .loop .inv ∙ rows.every-bad isEntry (now (c .before .before .before .loop .t)) (parts.more-empty (now (c .before .before .before .loop .t)) (c .before .before .loop-test .taken)) (bools.told-no (c .before .is-entry .ensures) (c .if1 .taken)))
+returns c = sym (c .before .before .before .loop .inv ∙ rows.every-bad isEntry (now (c .before .before .before .loop .t)) (parts.more-empty (now (c .before .before .before .loop .t)) (c .before .before .loop-test .taken)) (lister.no-end _ (c .before .entry-end .ensures) (c .if1 .taken)))
 
-rest-requires : tie.Need-rest-requires Inv-loop μ-loop
-rest-requires c κs = entries.entry-whole _ (bools.told-yes (c .before .is-entry .ensures) (c .if1 .left))
+sub-u : tie.Need-sub-u Inv-loop μ-loop
+sub-u c = lister.end-fits _ (c .before .entry-end .ensures) (c .if1 .left)
+
+part-u-start : tie.Need-part-u-start Inv-loop μ-loop
+part-u-start c = lister.end-fits _ (c .before .entry-end .ensures) (c .if1 .left)
+
+part-u-end : tie.Need-part-u-end Inv-loop μ-loop
+part-u-end c = search needs
 
 loop-less : tie.Need-loop-less Inv-loop μ-loop
-loop-less c = rw (c .rest .ensures) (parts.rest-shorter (now (c .before .before .before .before .loop .t)) (c .before .before .before .loop-test .taken))
+loop-less c = rw (lister.end-rest (now (c .before .before .before .before .loop .t)) (c .before .before .entry-end .ensures) (c .before .if1 .left)) (parts.rest-shorter (now (c .before .before .before .before .loop .t)) (c .before .before .before .loop-test .taken))
 
 loop-again : tie.Need-loop-again Inv-loop μ-loop
-loop-again c = c .before .before .before .before .loop .inv ∙ rows.every-next isEntry (now (c .before .before .before .before .loop .t)) (parts.more-empty (now (c .before .before .before .before .loop .t)) (c .before .before .before .loop-test .taken)) (bools.told-yes (c .before .before .is-entry .ensures) (c .before .if1 .left)) ∙ ap (every isEntry) (sym (c .rest .ensures))
+loop-again c = c .before .before .before .before .loop .inv ∙ rows.every-next isEntry (now (c .before .before .before .before .loop .t)) (parts.more-empty (now (c .before .before .before .before .loop .t)) (c .before .before .before .loop-test .taken)) (lister.some-end _ (c .before .before .entry-end .ensures) (c .before .if1 .left)) ∙ ap (every isEntry) (sym (lister.end-rest (now (c .before .before .before .before .loop .t)) (c .before .before .entry-end .ensures) (c .before .if1 .left)))
 
 returns-2 : tie.Need-returns-2 Inv-loop μ-loop
 returns-2 c = sym (c .before .loop .inv ∙ rows.every-done isEntry (now (c .before .loop .t)) (parts.less-empty (now (c .before .loop .t)) (c .loop-test .left)))
@@ -46,9 +52,11 @@ is-entries-spec =
     Inv-loop
     μ-loop
     loop-holds
-    is-entry-requires
+    entry-end-requires
     returns
-    rest-requires
+    sub-u
+    part-u-start
+    part-u-end
     loop-less
     loop-again
     returns-2)

@@ -14,19 +14,22 @@ returns : tie.Need-returns
 returns c = marking.looked-not (c .before .before .before .before .pre) (bools.told-no (c .before .is-part .ensures) (c .if1 .taken))
 
 body-requires : tie.Need-body-requires
-body-requires c κs = parts.part-is fieldTag _ (bools.told-yes (c .before .before .is-part .ensures) (c .before .if1 .left)) .0
+body-requires c κs = parts.part-is fieldTag _ (bools.told-yes (c .before .is-part .ensures) (c .if1 .left)) .0
+
+returns-2 : tie.Need-returns-2
+returns-2 c = marking.looked-long (c .before .before .before .before .before .before .pre) (c .before .body .ensures) (c .if2 .taken)
 
 rest-requires : tie.Need-rest-requires
-rest-requires c κs = parts.part-is fieldTag _ (bools.told-yes (c .before .before .before .is-part .ensures) (c .before .before .if1 .left)) .0
+rest-requires c κs = parts.part-is fieldTag _ (bools.told-yes (c .before .before .before .before .is-part .ensures) (c .before .before .before .if1 .left)) .0
 
 look-behind-requires : tie.Need-look-behind-requires
-look-behind-requires c κs = c .before .before .before .before .before .before .before .pre
+look-behind-requires c κs = c .before .before .before .before .before .before .before .before .pre
 
 same-length : tie.Need-same-length
 same-length c = search needs
 
-returns-2 : tie.Need-returns-2
-returns-2 c = marking.looked-behind (c .before .before .before .before .body .ensures) (c .before .before .before .rest .ensures) (c .before .before .look-behind .ensures)
+returns-3 : tie.Need-returns-3
+returns-3 c = marking.looked-behind (c .before .before .before .before .before .before .body .ensures) (c .before .before .before .rest .ensures) (c .before .before .look-behind .ensures)
 
 pub look-spec : {M : Type 1} → statement M
 look-spec =
@@ -35,7 +38,8 @@ look-spec =
     is-part-requires
     returns
     body-requires
+    returns-2
     rest-requires
     look-behind-requires
     same-length
-    returns-2)
+    returns-3)

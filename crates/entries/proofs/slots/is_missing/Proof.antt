@@ -19,7 +19,7 @@ mul-result : tie.Need-mul-result
 mul-result c = search needs
 
 shared-slice-read-result : tie.Need-shared-slice-read-result
-shared-slice-read-result c = let N = c .before .before .before .before .before .before .before .pre (omega (arith, c .before .before .if1 .left)) in omega (arith, N .many, c .before .slot .ensures .1)
+shared-slice-read-result c = omega (arith, c .before .before .before .before .before .before .before .pre (omega (arith, c .before .before .if1 .left)) .standing .many, c .before .slot .ensures .1)
 
 cast-result : tie.Need-cast-result
 cast-result c = omega (arith, c .shared-slice-known5 .given (c .before .slot .result))

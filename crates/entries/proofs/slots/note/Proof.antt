@@ -24,15 +24,7 @@ add-note-entry : tie.Need-add-note-entry Inv-loop μ-loop
 add-note-entry c = omega (arith, c .before .before .before .before .pre .2, c .before .loop .inv .fits)
 
 note-entry-requires : tie.Need-note-entry-requires Inv-loop μ-loop
-note-entry-requires c κs = (
-  noting.noting-first (c .before .before .loop .inv) (c .before .loop-test .taken),
-  (let g = c .before .loop-test .taken in omega (
-    arith,
-    c .before .before .before .before .before .pre .2,
-    c .before .before .loop .inv .fits,
-  )),
-  c .before .before .loop .inv .many,
-)
+note-entry-requires c κs = (noting.noting-first (c .before .before .loop .inv) (c .before .loop-test .taken), (let g = c .before .loop-test .taken in omega (arith, c .before .before .before .before .before .pre .2, c .before .before .loop .inv .fits)), (let g = c .before .loop-test .taken in omega (arith, c .before .before .loop .inv .fits)), c .before .before .before .before .before .pre .2, c .before .before .loop .inv .standing)
 
 rest-requires : tie.Need-rest-requires Inv-loop μ-loop
 rest-requires c κs = entries.entry-whole _ (noting.noting-first (c .before .before .before .before .before .loop .inv) (c .before .before .before .before .loop-test .taken))
@@ -45,7 +37,7 @@ loop-again c = noting.noting-next (c .before .before .before .before .before .be
     (c .before .before .before .note-entry .ensures)
 
 same-length : tie.Need-same-length Inv-loop μ-loop
-same-length c = c .before .loop .inv .many ∙ sym (c .before .before .before .before .pre .0 .many)
+same-length c = c .before .loop .inv .standing .many ∙ sym (c .before .before .before .before .pre .0 .many)
 
 returns : tie.Need-returns Inv-loop μ-loop
 returns c = noting.noting-end (c .before .loop .inv) (c .loop-test .left)

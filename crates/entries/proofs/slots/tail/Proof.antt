@@ -48,8 +48,8 @@ add-result c = search needs
 mul-result-2 : tie.Need-mul-result-2
 mul-result-2 c = search needs
 
-sub-wide : tie.Need-sub-wide
-sub-wide c = search needs
+add-wide : tie.Need-add-wide
+add-wide c = search needs
 
 shared-slice-read-wide-3 : tie.Need-shared-slice-read-wide-3
 shared-slice-read-wide-3 c = search needs
@@ -94,7 +94,7 @@ tail-spec =
     wide-requires-2
     add-result
     mul-result-2
-    sub-wide
+    add-wide
     shared-slice-read-wide-3
     wide-requires-3
     add-result-2

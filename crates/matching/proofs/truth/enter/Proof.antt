@@ -1,15 +1,15 @@
--- `matching::truth::enter` meets its contract.
-use mathlib.Core.List.{List}
-use mathlib.Core.Path.{ap, _∙_}
-use Prim.Native.Nat.{ℕ}
-use native.Mathlib.Omega.{arith}
-use lib.ListN.{length, take}
-use denote.Ref.{now}
-use borrow.Author.Needs.{needs}
-use Rattle.rules.specs.Bytes.{ofBig}
-use Rattle.rules.proofs.stored.Parts as parts
-use Rattle.matching.specs.Truth.{cut}
 use Rattle.matching.proofs.Walks as walks
+use Rattle.matching.specs.Truth.{cut}
+use Rattle.rules.proofs.stored.Parts as parts
+use Rattle.rules.specs.Bytes.{ofBig}
+use denote.Ref.{now}
+use lib.ListN.{length, take}
+use Prim.Native.Nat.{ℕ}
+use mathlib.Core.Path.{ap, _∙_}
+use mathlib.Core.List.{List, []}
+-- `matching::truth::enter` meets its contract.
+use native.Mathlib.Omega.{arith}
+use borrow.Author.Needs.{needs}
 use Rattle.matching.proofs.truth.enter.Statement.{statement}
 use Rattle.matching.proofs.truth.enter.Tie as tie
 
@@ -23,37 +23,28 @@ part-x-end : tie.Need-part-x-end
 part-x-end c = let f = c .before .before .pre .0 .fits in omega (arith, walks.at-end (c .before .before .pre .0))
 
 sub-big2 : tie.Need-sub-big2
-sub-big2 c = let g = c .if1 .taken in omega arith
+sub-big2 c = omega (arith, walks.open-long (c .before .before .before .pre .0) (c .before .before .before .pre .1), walks.at-length (c .before .before .before .pre .0))
 
 part-big2-start : tie.Need-part-big2-start
-part-big2-start c = let g = c .if1 .taken in omega arith
+part-big2-start c = omega (arith, walks.open-long (c .before .before .before .pre .0) (c .before .before .before .pre .1), walks.at-length (c .before .before .before .pre .0))
 
 part-big2-end : tie.Need-part-big2-end
 part-big2-end c = search needs
 
 big2-requires : tie.Need-big2-requires
-big2-requires c κs = let g = c .before .if1 .taken in omega (arith, ap length (parts.cut-from 6 (cut (now (c .before .before .before .before .before .args .q)) (c .before .before .before .before .before .args .at) (c .before .before .before .before .before .args .end))), lib.ListN.length-drop 6 (cut (now (c .before .before .before .before .before .args .q)) (c .before .before .before .before .before .args .at) (c .before .before .before .before .before .args .end)))
+big2-requires c κs = omega (arith, walks.open-long (c .before .before .before .before .pre .0) (c .before .before .before .before .pre .1), walks.at-length (c .before .before .before .before .pre .0), ap length (parts.cut-from 6 (cut (now (c .before .before .before .before .args .q)) (c .before .before .before .before .args .at) (c .before .before .before .before .args .end))), lib.ListN.length-drop 6 (cut (now (c .before .before .before .before .args .q)) (c .before .before .before .before .args .at) (c .before .before .before .before .args .end)))
 
 add-clause : tie.Need-add-clause
-add-clause c = let k = c .before .before .before .before .before .before .before .pre .2 in omega (arith, walks.at-end (c .before .before .before .before .before .before .before .pre .0), walks.boolean-long (c .before .before .before .before .before .before .before .pre .0) (c .before .before .before .before .before .before .before .pre .1))
+add-clause c = let k = c .before .before .before .before .before .before .pre .2 in omega (arith, walks.at-end (c .before .before .before .before .before .before .pre .0), walks.open-long (c .before .before .before .before .before .before .pre .0) (c .before .before .before .before .before .before .pre .1))
 
 clause-requires : tie.Need-clause-requires
-clause-requires c κs = (walks.to-clause (c .before .before .before .before .before .before .before .pre .0) (c .before .before .before .before .before .before .before .pre .1) (c .before .big2 .result) (let g = c .before .before .before .if1 .taken in omega (arith, walks.at-length (c .before .before .before .before .before .before .before .pre .0))) (c .before .big2 .ensures .0 ∙ ap (λ (l : List ℕ). ofBig (take 2 l)) (parts.cut-from 6 (cut (now (c .before .before .before .before .before .before .before .args .q)) (c .before .before .before .before .before .before .before .args .at) (c .before .before .before .before .before .before .before .args .end)))) .place, c .before .big2 .ensures .1, c .before .before .before .before .before .before .before .pre .2, c .before .before .before .before .before .before .before .pre .3)
+clause-requires c κs = (walks.to-clause (c .before .before .before .before .before .before .pre .0) (c .before .before .before .before .before .before .pre .1) [] (c .before .big2 .result) (c .before .big2 .ensures .0 ∙ ap (λ (l : List ℕ). ofBig (take 2 l)) (parts.cut-from 6 (cut (now (c .before .before .before .before .before .before .args .q)) (c .before .before .before .before .before .before .args .at) (c .before .before .before .before .before .before .args .end)))) .place, c .before .big2 .ensures .1, c .before .before .before .before .before .before .pre .2, c .before .before .before .before .before .before .pre .3)
 
 same-length : tie.Need-same-length
 same-length c = c .before .before .clause .kept .1 .0
 
 returns : tie.Need-returns
-returns c = λ es t. let N = walks.to-clause t (c .before .before .before .before .before .before .before .before .before .before .pre .1) (c .before .before .before .before .big2 .result) (let g = c .before .before .before .before .before .before .if1 .taken in omega (arith, walks.at-length (c .before .before .before .before .before .before .before .before .before .before .pre .0))) (c .before .before .before .before .big2 .ensures .0 ∙ ap (λ (l : List ℕ). ofBig (take 2 l)) (parts.cut-from 6 (cut (now (c .before .before .before .before .before .before .before .before .before .before .args .q)) (c .before .before .before .before .before .before .before .before .before .before .args .at) (c .before .before .before .before .before .before .before .before .before .before .args .end)))) in walks.leads-on es _ _ (c .before .before .clause .result) (omega arith) (N .value es) (c .before .before .clause .ensures es (N .place))
-
-settle-requires : tie.Need-settle-requires
-settle-requires c κs = (c .before .before .before .before .before .pre .0 .around, c .before .before .before .before .before .pre .2, c .before .before .before .before .before .pre .3)
-
-same-length-2 : tie.Need-same-length-2
-same-length-2 c = c .before .before .settle .kept .1 .0
-
-returns-2 : tie.Need-returns-2
-returns-2 c = λ es t. walks.leads-on es _ _ (c .before .before .settle .result) (t .fits) (walks.no-clause t (c .before .before .before .before .before .before .before .before .pre .1) (let g = c .before .before .before .before .if1 .left in omega (arith, walks.at-length (c .before .before .before .before .before .before .before .before .pre .0))) es) (c .before .before .settle .ensures es (t .around))
+returns c = λ es t. let N = walks.to-clause t (c .before .before .before .before .before .before .before .before .before .pre .1) es (c .before .before .before .before .big2 .result) (c .before .before .before .before .big2 .ensures .0 ∙ ap (λ (l : List ℕ). ofBig (take 2 l)) (parts.cut-from 6 (cut (now (c .before .before .before .before .before .before .before .before .before .args .q)) (c .before .before .before .before .before .before .before .before .before .args .at) (c .before .before .before .before .before .before .before .before .before .args .end)))) in walks.leads-on es _ _ (c .before .before .clause .result) (omega arith) (N .value) (c .before .before .clause .ensures es (N .place))
 
 pub enter-spec : {M : Type 1} → statement M
 enter-spec =
@@ -69,7 +60,4 @@ enter-spec =
     add-clause
     clause-requires
     same-length
-    returns
-    settle-requires
-    same-length-2
-    returns-2)
+    returns)
