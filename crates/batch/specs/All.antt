@@ -24,14 +24,14 @@ pub record Few (written count : ℕ) : Type 0 where
 
 -- the faults of the queries; the table where the list is sound
 pub record Prepared (s : List ℕ) (many : ℕ) (faults l : List ℕ) (list-fault : ℕ) (table : List ℕ) : Type 0 where
-  pub faults : length faults ≡ queriesMost
+  pub long : length faults ≡ queriesMost
   pub known : (i : ℕ) → i < many → getD faults i 0 ≡ numberOf (readForSelection (getD (queriesOf s) i []))
-  pub table : list-fault ≡ 0 → Table (queriesOf s) many l kept table
+  pub holds : list-fault ≡ 0 → Table (queriesOf s) many l kept table
 
 -- after all turns
 pub record Turned (s : List ℕ) (many : ℕ) (l answers rows : List ℕ) (w : ℕ) (answers′ rows′ : List ℕ) : Type 0 where
   pub written : w ≡ turns (queriesOf s) l rows .written
-  pub rows : rows′ ≡ turns (queriesOf s) l rows .rows
+  pub output : rows′ ≡ turns (queriesOf s) l rows .rows
   pub told : answers′ ≡ turns (queriesOf s) l rows .told ++ drop (length (turns (queriesOf s) l rows .told)) answers
   pub few : w ≤ many * (4 * listMost)
 

@@ -22,7 +22,7 @@ Sound s = numberOf (readForSelection s) ≡ 0
 pub record Queries (s : List ℕ) (many : ℕ) (faults masks : List ℕ) : Type 0 where
   pub cuts : Cuts s many
   pub planned : Planned (queriesOf s) many faults masks
-  pub faults : length faults ≡ queriesMost
+  pub long : length faults ≡ queriesMost
 
 -- a record of a list, whose entries stand from `from` on, and the rows for it
 pub record Ready (rec : List ℕ) (from : ℕ) (slots row : List ℕ) : Type 0 where
@@ -32,11 +32,11 @@ pub record Ready (rec : List ℕ) (from : ℕ) (slots row : List ℕ) : Type 0 w
   pub deep : selectionDepth ≤ length row
 
 -- the bits of the first n of the queries are their truths of es
-unfoldable pub Told : List (List ℕ) → ℕ → List Entry → ℕ → Type 0
-Told qs n es yes = (i : ℕ) → i < n → Sound (getD qs i []) → Truth (getD qs i []) es (bitAt yes (n - 1 - i))
+pub record Told (qs : List (List ℕ)) (n : ℕ) (es : List Entry) (bits : ℕ) : Type 0 where
+  pub at : (i : ℕ) → i < n → Sound (getD qs i []) → Truth (getD qs i []) es (bitAt bits (n - 1 - i))
 
-pub record Asked (s : List ℕ) (many : ℕ) (rec : List ℕ) (from : ℕ) (slots : List ℕ) (yes : ℕ) : Type 0 where
-  pub told : Told (queriesOf s) many (each entryOf rec) yes
+pub record Asked (s : List ℕ) (many : ℕ) (rec : List ℕ) (from : ℕ) (slots : List ℕ) (bits : ℕ) : Type 0 where
+  pub told : Told (queriesOf s) many (each entryOf rec) bits
   pub before : Before slots (from + length rec)
 
 -- ---- the table: eight bytes for each of the first 512 records
@@ -47,8 +47,9 @@ kept = 512
 abbrev pub rowAt : List ℕ → ℕ → ℕ
 rowAt table r = ofBig (take 8 (drop (8 * r) table))
 
-unfoldable pub Table : List (List ℕ) → ℕ → List ℕ → ℕ → List ℕ → Type 0
-Table qs many l n table = (r : ℕ) → r < n → r < length (each recordOf l) → Told qs many (getD (each recordOf l) r []) (rowAt table r)
+-- as far as the n-th of them
+pub record Table (qs : List (List ℕ)) (many : ℕ) (l : List ℕ) (n : ℕ) (table : List ℕ) : Type 0 where
+  pub at : (r : ℕ) → r < n → r < length (each recordOf l) → Told qs many (getD (each recordOf l) r []) (rowAt table r)
 
 -- a list that was checked
 pub record Records (l : List ℕ) : Type 0 where

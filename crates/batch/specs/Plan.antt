@@ -72,7 +72,7 @@ bareBy masks j = bitAt (getD masks bareAt 0) j
 -- ---- all queries
 
 pub record Known (s : List ℕ) (fault : ℕ) (masks : List ℕ) (j : ℕ) : Type 0 where
-  pub fault : fault ≡ numberOf (readForSelection s)
+  pub is : fault ≡ numberOf (readForSelection s)
   pub else : fault ≡ 0 → Else s (wantedBy masks j) (numbersBy masks j) (bareBy masks j)
 
 -- the first n of them; the last has the bit 0

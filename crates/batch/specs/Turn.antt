@@ -11,8 +11,8 @@ use Rattle.batch.specs.Bits.{bitAt}
 use Rattle.batch.specs.Ask.{kept, rowAt}
 
 -- the bits j of the table are the truths of the query s
-unfoldable pub Column : List ℕ → List ℕ → List ℕ → ℕ → Type 0
-Column s l table j = (r : ℕ) → r < kept → r < length (each recordOf l) → Truth s (getD (each recordOf l) r []) (bitAt (rowAt table r) j)
+pub record Column (s l table : List ℕ) (j : ℕ) : Type 0 where
+  pub at : (r : ℕ) → r < kept → r < length (each recordOf l) → Truth s (getD (each recordOf l) r []) (bitAt (rowAt table r) j)
 
 -- the table, the bit, and the row for open Booleans
 pub record Lent (table : List ℕ) (j : ℕ) (row : List ℕ) : Type 0 where

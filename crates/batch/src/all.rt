@@ -48,25 +48,25 @@ fn refuse(n: u8) -> Answer
 }
 
 // The faults of the queries, and the table where the list is sound.
-fn prepare(queries: &[u8], many: usize, faults: &mut [u8], list: &[u8], list_fault: u8, table: &mut [u8])
-    requires { ⌜ Cuts (now queries) many × (length (now faults) ≡ queriesMost) × (list_fault ≡ numberOf (readList (now list))) × (selectAllRoom ≤ length (now table)) ⌝ }
-    ensures { λ _. ⌜ Prepared (now (queries .entry)) many (now (faults .exit)) (now (list .entry)) list_fault (now (table .exit)) ⌝ }
+fn prepare(queries: &[u8], many: usize, faults: &mut [u8], list: &[u8], verdict: u8, table: &mut [u8])
+    requires { ⌜ Cuts (now queries) many × (length (now faults) ≡ queriesMost) × (verdict ≡ numberOf (readList (now list))) × (selectAllRoom ≤ length (now table)) ⌝ }
+    ensures { λ _. ⌜ Prepared (now (queries .entry)) many (now (faults .exit)) (now (list .entry)) verdict (now (table .exit)) ⌝ }
 {
     let mut row = [0u64; SELECTION_DEPTH];
     let mut masks = [0u64; MASKS];
     plan(queries, many, faults, &mut masks, &mut row);
-    if list_fault != 0 {
+    if verdict != 0 {
         return;
     }
     keep(queries, many, faults, &masks, list, table);
 }
 
 // How many records a sound list has.
-fn records_of(list: &[u8], list_fault: u8) -> usize
-    requires { ⌜ list_fault ≡ numberOf (readList (now list)) ⌝ }
-    ensures { λ r. ⌜ (list_fault ≡ 0 → r ≡ length (each recordOf (now (list .entry)))) ⌝ }
+fn records_of(list: &[u8], verdict: u8) -> usize
+    requires { ⌜ verdict ≡ numberOf (readList (now list)) ⌝ }
+    ensures { λ r. ⌜ (verdict ≡ 0 → r ≡ length (each recordOf (now (list .entry)))) ⌝ }
 {
-    if list_fault != 0 {
+    if verdict != 0 {
         return 0;
     }
     records(list)
@@ -106,24 +106,24 @@ fn turn_all(
     many: usize,
     faults: &[u8],
     list: &[u8],
-    list_fault: u8,
+    verdict: u8,
     table: &[u8],
     answers: &mut [u8],
     rows: &mut [u8],
 ) -> usize
-    requires { ⌜ Cuts (now queries) many × Prepared (now queries) many (now faults) (now list) list_fault (now table) × (list_fault ≡ numberOf (readList (now list)))
+    requires { ⌜ Cuts (now queries) many × Prepared (now queries) many (now faults) (now list) verdict (now table) × (verdict ≡ numberOf (readList (now list)))
         × (8 * many ≤ length (now answers)) × (selectAllRoom ≤ length (now table)) ⌝ }
     ensures { λ r. ⌜ Turned (now (queries .entry)) many (now (list .entry)) (now (answers .entry)) (now (rows .entry)) r (now (answers .exit)) (now (rows .exit)) ⌝ }
 {
     let mut row = [0u64; SELECTION_DEPTH];
-    let all = records_of(list, list_fault);
+    let all = records_of(list, verdict);
     let mut w: usize = 0;
     let mut a: usize = 0;
     let mut i: usize = 0;
     let mut t = queries;
     while i < many {
         let j = many - 1 - i;
-        let s = turn(first(t), faults[i], j, list, list_fault, all, table, &mut rows[w..], &mut row);
+        let s = turn(first(t), faults[i], j, list, verdict, all, table, &mut rows[w..], &mut row);
         a = tell(answers, a, s);
         w += written(s);
         i += 1;
@@ -144,9 +144,9 @@ fn answer_all(queries: &[u8], many: usize, list: &[u8], answers: &mut [u8], rows
         return refuse(LONG_ANSWER);
     }
     let mut faults = [0u8; QUERIES_MOST];
-    let list_fault = check_list(list);
-    prepare(queries, many, &mut faults, list, list_fault, room);
-    let w = turn_all(queries, many, &faults, list, list_fault, room, answers, rows);
+    let verdict = check_list(list);
+    prepare(queries, many, &mut faults, list, verdict, room);
+    let w = turn_all(queries, many, &faults, list, verdict, room, answers, rows);
     clear(room);
     Answer {
         refusal: 0,

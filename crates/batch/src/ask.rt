@@ -67,21 +67,21 @@ fn called(masks: &[u64], rec: &[u8]) -> u64
 fn truth(
     q: &[u8],
     fault: u8,
-    is_called: bool,
+    wants: bool,
     bare: bool,
     rec: &[u8],
     from: usize,
     slots: &[u16],
     row: &mut [u64],
 ) -> bool
-    requires { ⌜ (fault ≡ numberOf (readForSelection (now q))) × (fault ≡ 0 → is_called ≡ false → Truth (now q) (each entryOf (now rec)) bare)
+    requires { ⌜ (fault ≡ numberOf (readForSelection (now q))) × (fault ≡ 0 → wants ≡ false → Truth (now q) (each entryOf (now rec)) bare)
         × (every isEntry (now rec) ≡ true) × Told (now slots) from (now rec) × (selectionDepth ≤ length (now row)) ⌝ }
     ensures { λ r. ⌜ (fault ≡ 0 → Truth (now (q .entry)) (each entryOf (now (rec .entry))) r) ⌝ }
 {
     if fault != 0 {
         return false;
     }
-    if !is_called {
+    if !wants {
         return bare;
     }
     holds(q, rec, from, slots, row)
@@ -103,18 +103,18 @@ fn ask(
     let any = called(masks, rec);
     note(rec, from, slots);
     let bare = masks[BARE];
-    let mut yes: u64 = 0;
+    let mut bits: u64 = 0;
     let mut i: usize = 0;
     let mut t = queries;
     while i < many {
         let j = many - 1 - i;
         let y = truth(first(t), faults[i], bit_at(any, j), bit_at(bare, j), rec, from, slots, row);
-        yes = pushed(yes, y);
+        bits = pushed(bits, y);
         i += 1;
         let u = others(t);
         t = u;
     }
-    yes
+    bits
 }
 
 // ---- the first records of a list
@@ -137,8 +137,8 @@ pub fn keep(queries: &[u8], many: usize, faults: &[u8], masks: &[u64], list: &[u
             return;
         }
         let from = list.len() - t.len() + HEADER;
-        let yes = ask(queries, many, faults, masks, body(t), from, &mut slots, &mut row);
-        put_big8(table, BITS_BYTES * i, yes);
+        let bits = ask(queries, many, faults, masks, body(t), from, &mut slots, &mut row);
+        put_big8(table, BITS_BYTES * i, bits);
         i += 1;
         let u = rest(t);
         t = u;

@@ -110,21 +110,21 @@ pub fn turn(
     fault: u8,
     j: usize,
     list: &[u8],
-    list_fault: u8,
+    verdict: u8,
     records: usize,
     table: &[u8],
     rows: &mut [u8],
     row: &mut [u64],
 ) -> Selected
-    requires { ⌜ (fault ≡ numberOf (readForSelection (now query))) × (list_fault ≡ numberOf (readList (now list))) × Lent (now table) j (now row)
-        × (fault ≡ 0 → list_fault ≡ 0 → Column (now query) (now list) (now table) j) × (list_fault ≡ 0 → records ≡ length (each recordOf (now list))) ⌝ }
+    requires { ⌜ (fault ≡ numberOf (readForSelection (now query))) × (verdict ≡ numberOf (readList (now list))) × Lent (now table) j (now row)
+        × (fault ≡ 0 → verdict ≡ 0 → Column (now query) (now list) (now table) j) × (verdict ≡ 0 → records ≡ length (each recordOf (now list))) ⌝ }
     ensures { λ r. ⌜ SelectsBytes (now (query .entry)) (now (list .entry)) (now (rows .entry)) [] (now (rows .exit)) [] r ⌝ }
 {
     if fault != 0 {
         return Selected::Refused(fault);
     }
-    if list_fault != 0 {
-        return Selected::Refused(list_fault);
+    if verdict != 0 {
+        return Selected::Refused(verdict);
     }
     if !fits(query, j, list, records, table, rows.len() / 4, row) {
         return Selected::Refused(LONG_ANSWER);

@@ -1,3 +1,7 @@
+use Rattle.selection.specs.Select.{told}
+use Rattle.selection.specs.declared.select.Selected.{Selected}
+use mathlib.Core.Path.{ap}
+use Rattle.batch.proofs.Turning as turning
 use native.Mathlib.Omega.{arith}
 use borrow.Author.Needs.{needs}
 use Rattle.batch.proofs.all.tell.Statement.{statement}
@@ -32,7 +36,7 @@ put-big4-requires-3 c κs = search needs
 
 -- src/all.rt:87:34
 cast-put-big4-2 : tie.Need-cast-put-big4-2
-cast-put-big4-2 c = search needs
+cast-put-big4-2 c = omega (arith, turning.chosen-few (c .before .before .before .before .before .before .s2 .given .1) (c .before .before .before .before .before .before .before .before .before .pre .1))
 
 -- src/all.rt:87:13
 put-big4-requires-4 : tie.Need-put-big4-requires-4
@@ -44,7 +48,7 @@ same-length c = search needs
 
 -- src/all.rt:76:1
 returns : tie.Need-returns
-returns c = search needs
+returns c = turning.tell-put (told (c .before .before .before .before .before .before .before .before .before .before .before .before .args .s)) (ap (λ (x : Selected). told x .refusal) (c .before .before .before .before .before .before .before .before .before .s .given .1)) (ap (λ (x : Selected). told x .count) (c .before .before .before .before .before .before .before .before .before .s .given .1)) (c .before .before .before .before .before .before .put-big4 .ensures) (c .before .before .put-big42 .ensures) (c .before .before .before .before .before .before .before .before .before .before .before .before .pre .0)
 
 -- src/all.rt:76:1
 same-length-2 : tie.Need-same-length-2
@@ -52,7 +56,7 @@ same-length-2 c = search needs
 
 -- src/all.rt:76:1
 returns-2 : tie.Need-returns-2
-returns-2 c = search needs
+returns-2 c = turning.tell-put (told (c .before .before .before .before .before .before .before .before .before .before .before .before .args .s)) (ap (λ (x : Selected). told x .refusal) (c .before .before .before .before .before .before .before .before .before .s2 .given .1)) (ap (λ (x : Selected). told x .count) (c .before .before .before .before .before .before .before .before .before .s2 .given .1)) (c .before .before .before .before .before .before .put-big43 .ensures) (c .before .before .put-big44 .ensures) (c .before .before .before .before .before .before .before .before .before .before .before .before .pre .0)
 
 pub tell-spec : {M : Type 1} → statement M
 tell-spec =

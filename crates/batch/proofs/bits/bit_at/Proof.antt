@@ -1,3 +1,5 @@
+use Rattle.batch.specs.Bits.{bitAt}
+use mathlib.Core.Path.{refl}
 use native.Mathlib.Omega.{arith}
 use borrow.Author.Needs.{needs}
 use Rattle.batch.proofs.bits.bit_at.Statement.{statement}
@@ -11,7 +13,8 @@ shr-result c = search needs
 
 -- src/bits.rt:8:1
 returns : tie.Need-returns
-returns c = search needs
+unfolding bitAt
+returns c = refl
 
 pub bit-at-spec : {M : Type 1} → statement M
 bit-at-spec = tie.close (tie.spec shr-result returns)

@@ -19,11 +19,11 @@ mul-result-2 c = search needs
 
 -- src/bits.rt:15:1
 returns : tie.Need-returns
-returns c = search needs
+returns c = rw (c .if1 .taken)
 
 -- src/bits.rt:15:1
 returns-2 : tie.Need-returns-2
-returns-2 c = search needs
+returns-2 c = rw (c .if1 .left) (omega arith)
 
 pub pushed-spec : {M : Type 1} → statement M
 pushed-spec = tie.close (tie.spec mul-result add-result mul-result-2 returns returns-2)

@@ -1,3 +1,6 @@
+use Rattle.rules.proofs.stored.Cutting as cuts
+use Rattle.batch.proofs.Cutting as cutting
+use denote.Ref.{now}
 use native.Mathlib.Omega.{arith}
 use borrow.Author.Needs.{needs}
 use Rattle.batch.proofs.cut.first.Statement.{statement}
@@ -8,7 +11,7 @@ use Rattle.numbers.proofs.big2.Reads as big2-reads
 
 -- src/cut.rt:33:24
 big2-requires : tie.Need-big2-requires
-big2-requires c κs = search needs
+big2-requires c κs = cuts.first-long (now (c .before .args .s)) (c .before .pre)
 
 -- src/cut.rt:33:15
 add-end : tie.Need-add-end
@@ -24,11 +27,11 @@ part-result-start c = search needs
 
 -- src/cut.rt:34:5
 part-result-end : tie.Need-part-result-end
-part-result-end c = search needs
+part-result-end c = let h = cuts.first-fits (now (c .before .before .args .s)) (c .before .before .pre) in omega (arith, c .big2 .ensures .0)
 
 -- src/cut.rt:29:1
 returns : tie.Need-returns
-returns c = search needs
+returns c = cutting.first-is (now (c .before .before .before .args .s)) (c .before .big2 .ensures .0)
 
 pub first-spec : {M : Type 1} → statement M
 first-spec =

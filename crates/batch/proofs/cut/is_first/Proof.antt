@@ -1,3 +1,5 @@
+use Rattle.batch.proofs.Cutting as cutting
+use denote.Ref.{now}
 use native.Mathlib.Omega.{arith}
 use borrow.Author.Needs.{needs}
 use Rattle.batch.proofs.cut.is_first.Statement.{statement}
@@ -8,7 +10,7 @@ use Rattle.numbers.proofs.big2.Reads as big2-reads
 
 -- src/cut.rt:24:9
 returns : tie.Need-returns
-returns c = search needs
+returns c = cutting.first-short (now (c .before .before .args .s)) (c .if1 .taken)
 
 -- src/cut.rt:26:5
 big2-requires : tie.Need-big2-requires
@@ -20,7 +22,7 @@ sub-result c = search needs
 
 -- src/cut.rt:20:1
 returns-2 : tie.Need-returns-2
-returns-2 c = search needs
+returns-2 c = cutting.first-told (now (c .before .before .before .args .s)) (c .big2 .ensures .0) (c .before .if1 .left)
 
 pub is-first-spec : {M : Type 1} → statement M
 is-first-spec = tie.close (tie.spec returns big2-requires sub-result returns-2)

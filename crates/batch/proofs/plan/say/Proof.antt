@@ -1,3 +1,9 @@
+use Rattle.batch.proofs.Planning as planning
+use Rattle.rules.proofs.stored.Rows as rows
+use Rattle.rules.specs.Lists.{isEntry, entryOf}
+use mathlib.Core.List.{[]}
+use mathlib.Core.Path.{refl}
+use denote.Ref.{now}
 use native.Mathlib.Omega.{arith}
 use borrow.Author.Needs.{needs}
 use Rattle.batch.proofs.plan.say.Statement.{statement}
@@ -9,7 +15,7 @@ use Rattle.wanted.proofs.mark_query.Reads as mark-query-reads
 
 -- src/plan.rt:37:9
 returns : tie.Need-returns
-returns c = search needs
+returns c = record { many = c .before .before .before .before .pre .1; else = λ z. absurd (c .if1 .taken z) }
 
 -- src/plan.rt:43:25
 sub-holds : tie.Need-sub-holds
@@ -29,11 +35,11 @@ slice-aggregate-holds c = search needs
 
 -- src/plan.rt:43:9
 holds-requires : tie.Need-holds-requires
-holds-requires c κs = search needs
+holds-requires c κs = (planning.stored-for (now (c .before .before .before .before .before .before .before .args .q)) (λ i. omega (arith, c .before .before .before .before .before .before .shared-slice-known .given i)) (c .before .before .before .before .before .before .before .pre .0) (c .before .before .before .if1 .left), rows.every-done isEntry [] refl, (λ z. absurd (omega arith)), c .before .before .before .before .before .before .before .pre .2)
 
 -- src/plan.rt:44:9
 mark-query-requires : tie.Need-mark-query-requires
-mark-query-requires c κs = search needs
+mark-query-requires c κs = c .before .before .before .before .before .before .before .before .before .before .before .pre .1
 
 -- src/plan.rt:32:1
 same-length : tie.Need-same-length
@@ -45,7 +51,7 @@ same-length-2 c = search needs
 
 -- src/plan.rt:32:1
 returns-2 : tie.Need-returns-2
-returns-2 c = search needs
+returns-2 c = record { many = c .before .before .mark-query .ensures .many; else = λ z. planning.else-marked (c .before .before .before .before .before .before .holds .result) (c .before .before .mark-query .ensures) (rw (rows.each-done entryOf [] refl) at (c .before .before .before .before .before .before .holds .ensures)) }
 
 pub say-spec : {M : Type 1} → statement M
 say-spec =
