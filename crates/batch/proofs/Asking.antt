@@ -99,10 +99,10 @@ pub told-all : {qs : List (List ℕ)} {n many : ℕ} {es : List Entry} {bits : �
 told-all {n = n} {many} T h k = let e : n ≡ many = omega arith in rw (← e) T
 
 -- a query that wants nothing of the record
-pub uncalled : {s masks : List ℕ} {fault j : ℕ} {es : List Entry} → Known s fault masks j → fault ≡ 0 → (any : ℕ) → bitAt any j ≡ some (calling masks j) es
+pub uncalled : {s masks : List ℕ} {fault j : ℕ} (es : List Entry) → Known s fault masks j → fault ≡ 0 → (any : ℕ) → bitAt any j ≡ some (calling masks j) es
     → {w b : Bool} → w ≡ bitAt any j → b ≡ bareBy masks j → w ≡ false → Truth s es b
 unfolding Else
-uncalled {es = es} K z any c ew eb h = rw eb (K .else z es (sym c ∙ sym ew ∙ h))
+uncalled es K z any c ew eb h = rw eb (K .else z es (sym c ∙ sym ew ∙ h))
 
 -- ---- the records of a list, one after the other
 

@@ -39,7 +39,7 @@ within-written n (got ns) = go (leb (length ns) n) refl
     go true h = omega (arith, leb-true (length ns) n h)
     go false h = omega arith
 
-told-written : (r : Selected) → told r .written ≡ 4 * told r .count
+pub told-written : (r : Selected) → told r .written ≡ 4 * told r .count
 told-written (Refused n) = refl
 told-written (Chosen n) = refl
 
@@ -64,9 +64,9 @@ module _ {s l rows rows′ : List ℕ} {r : Selected} (S : SelectsBytes s l rows
   one-turn qs = rw (← S .answer, ← S .output)
 
 -- a column of the table
-pub column : {s l table : List ℕ} {many : ℕ} → Table (queriesOf s) many l kept table → (i : ℕ) → i < many → Sound (getD (queriesOf s) i [])
+pub column : (s : List ℕ) {l table : List ℕ} {many : ℕ} → Table (queriesOf s) many l kept table → (i : ℕ) → i < many → Sound (getD (queriesOf s) i [])
     → Column (getD (queriesOf s) i []) l table (many - 1 - i)
-column T i h z = record { at = λ r k e. T .at r k e .at i h z }
+column s T i h z = record { at = λ r k e. T .at r k e .at i h z }
 
 -- rows that were lent from w on
 pub lent-rest : (rows new : List ℕ) (w : ℕ) → w ≤ length rows → take w rows ++ (new ++ drop (length rows - w) (drop w rows)) ≡ take w rows ++ new

@@ -17,7 +17,7 @@ same-length : tie.Need-same-length
 same-length c = search needs
 
 returns : tie.Need-returns
-returns c = ?
+returns c = (leaving.refused-left (now (c .before .before .before .before .before .before .before .before .before .before .before .args .queries)) (now (c .before .before .before .before .before .before .before .before .before .before .before .args .list)) (now (c .before .before .before .before .before .before .before .before .before .before .before .args .answers)) (now (c .before .before .before .before .before .before .before .before .before .before .before .args .rows)) (now (c .before .before .before .before .before .before .before .before .before .before .before .args .room)) (leaving.gate-room (now (c .before .before .before .before .before .before .before .before .before .before .before .args .queries)) (now (c .before .before .before .before .before .before .before .before .before .before .before .args .answers)) (now (c .before .before .before .before .before .before .before .before .before .before .before .args .room)) (c .before .before .before .before .before .if1 .taken)) (c .refuse .ensures .0) (c .refuse .ensures .1) (c .refuse .ensures .2) (c .before .before .before .clear .ensures), leaving.no-few (c .refuse .ensures .1) (c .refuse .ensures .2))
 
 cut-all-requires : tie.Need-cut-all-requires
 cut-all-requires c κs = search needs
@@ -41,7 +41,7 @@ same-length-2 : tie.Need-same-length-2
 same-length-2 c = search needs
 
 returns-2 : tie.Need-returns-2
-returns-2 c = ?
+returns-2 c = let g = leaving.gate-cut (now (c .before .before .before .before .before .before .before .before .before .before .before .before .before .before .before .args .queries)) (now (c .before .before .before .before .before .before .before .before .before .before .before .before .before .before .before .args .answers)) (now (c .before .before .before .before .before .before .before .before .before .before .before .before .before .before .before .args .room)) (c .before .before .before .before .before .before .before .before .before .if1 .left) (c .before .before .before .before .before .before .before .before .cut-all .ensures) (c .before .before .before .before .before .before .n .given .1) in (leaving.refused-left (now (c .before .before .before .before .before .before .before .before .before .before .before .before .before .before .before .args .queries)) (now (c .before .before .before .before .before .before .before .before .before .before .before .before .before .before .before .args .list)) (now (c .before .before .before .before .before .before .before .before .before .before .before .before .before .before .before .args .answers)) (now (c .before .before .before .before .before .before .before .before .before .before .before .before .before .before .before .args .rows)) (now (c .before .before .before .before .before .before .before .before .before .before .before .before .before .before .before .args .room)) (g .1) (c .refuse2 .ensures .0 ∙ g .2) (c .refuse2 .ensures .1) (c .refuse2 .ensures .2) (c .before .before .before .clear2 .ensures), leaving.no-few (c .refuse2 .ensures .1) (c .refuse2 .ensures .2))
 
 same-length-3 : tie.Need-same-length-3
 same-length-3 c = search needs
@@ -53,7 +53,7 @@ same-length-5 : tie.Need-same-length-5
 same-length-5 c = search needs
 
 returns-3 : tie.Need-returns-3
-returns-3 c = ?
+returns-3 c = (c .before .before .before .before .before .before .answer-all .ensures .is, c .before .before .before .before .before .before .answer-all .ensures .few)
 
 pub select-all-spec : {M : Type 1} → statement M
 select-all-spec =

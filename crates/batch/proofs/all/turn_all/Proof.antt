@@ -1,3 +1,6 @@
+use lib.ListN.{length}
+use Prim.Native.Nat.{ℕ, _+_, _-_, _≤_}
+
 use Rattle.batch.proofs.Turning as turning
 use Rattle.batch.proofs.Cutting as cutting
 use Rattle.batch.specs.Cut.{queriesOf}
@@ -21,12 +24,10 @@ use Rattle.batch.proofs.cut.others.Reads as others-reads
 use Rattle.batch.proofs.turn.turn.Reads as turn-reads
 
 abbrev Inv-loop : tie.InvT-loop
-Inv-loop queries many faults list verdict table answers₀ rows₀ row₀ all w₀ a₀ i₀ t₀ answers rows row w a i t =
-    ?
+Inv-loop queries many faults list verdict table answers₀ rows₀ row₀ all w₀ a₀ i₀ t₀ answers rows row w a i t = (i ≤ many) × (length answers ≡ length answers₀) × (length row ≡ selectionDepth) × cutting.Queue queries t i × turning.Turning (queriesOf queries) list answers₀ rows₀ i w a answers rows
 
 abbrev μ-loop : tie.MeasureT-loop
-μ-loop queries many faults list verdict table answers₀ rows₀ row₀ all w₀ a₀ i₀ t₀ answers rows row w a i t =
-    ?
+μ-loop queries many faults list verdict table answers₀ rows₀ row₀ all w₀ a₀ i₀ t₀ answers rows row w a i t = many - i
 
 -- src/all.rt:119:9
 records-of-requires : tie.Need-records-of-requires Inv-loop μ-loop
@@ -70,7 +71,7 @@ slice-aggregate-turn c = sym (c .before .before .before .before .before .loop .i
 
 -- src/all.rt:126:13
 turn-requires : tie.Need-turn-requires Inv-loop μ-loop
-turn-requires c κs = let q = cutting.queue-query (c .before .before .before .before .before .before .before .before .before .before .before .before .before .pre .0) (c .before .before .before .before .before .loop .inv .3) (c .before .before .before .before .loop-test .taken) (c .before .before .before .first .ensures) in let K = c .before .before .before .before .before .before .before .before .before .before .before .before .before .pre .1 .known (c .before .before .before .before .before .loop .i) (c .before .before .before .before .loop-test .taken) in (rw q K, c .before .before .before .before .before .before .before .before .before .before .before .before .before .pre .2, record { long = c .before .before .before .before .before .before .before .before .before .before .before .before .before .pre .4; bits = (let f = c .before .before .before .before .before .before .before .before .before .before .before .before .before .pre .0 .few in let g = c .before .before .before .before .loop-test .taken in omega arith); deep = omega (arith, c .before .before .before .before .before .loop .inv .2) }, (λ z v. rw q (turning.column (c .before .before .before .before .before .before .before .before .before .before .before .before .before .pre .1 .holds v) (c .before .before .before .before .before .loop .i) (c .before .before .before .before .loop-test .taken) (sym K ∙ z))), (λ v. c .before .before .before .before .before .before .records-of .ensures v))
+turn-requires c κs = let q = cutting.queue-query (c .before .before .before .before .before .before .before .before .before .before .before .before .before .pre .0) (c .before .before .before .before .before .loop .inv .3) (c .before .before .before .before .loop-test .taken) (c .before .before .before .first .ensures) in let K = c .before .before .before .before .before .before .before .before .before .before .before .before .before .pre .1 .known (c .before .before .before .before .before .loop .i) (c .before .before .before .before .loop-test .taken) in (rw q K, c .before .before .before .before .before .before .before .before .before .before .before .before .before .pre .2, record { long = c .before .before .before .before .before .before .before .before .before .before .before .before .before .pre .4; bits = (let f = c .before .before .before .before .before .before .before .before .before .before .before .before .before .pre .0 .few in let g = c .before .before .before .before .loop-test .taken in omega arith); deep = omega (arith, c .before .before .before .before .before .loop .inv .2) }, (λ z v. rw q (turning.column (now (c .before .before .before .before .before .before .before .before .before .before .before .before .before .args .queries)) (c .before .before .before .before .before .before .before .before .before .before .before .before .before .pre .1 .holds v) (c .before .before .before .before .before .loop .i) (c .before .before .before .before .loop-test .taken) (sym K ∙ z))), (λ v. c .before .before .before .before .before .before .records-of .ensures v))
 
 -- src/all.rt:127:9
 tell-requires : tie.Need-tell-requires Inv-loop μ-loop
@@ -82,7 +83,7 @@ written-requires c κs = c .before .before .before .before .before .before .befo
 
 -- src/all.rt:128:9
 add-w : tie.Need-add-w Inv-loop μ-loop
-add-w c = let k = c .before .before .before .before .before .before .before .before .before .before .before .before .before .before .loop .inv .4 .within in ?
+add-w c = let f = c .before .before .before .before .before .before .before .before .before .before .before .before .before .before .loop .inv .4 .few in let m = c .before .before .before .before .before .before .before .before .before .before .before .before .before .before .before .before .before .before .before .before .before .before .pre .0 .few in let g = c .before .before .before .before .before .before .before .before .before .before .before .before .before .loop-test .taken in let e = c .written .ensures in let t = c .before .before .before .before .before .before .before .before .turn .ensures .few in omega (arith, turning.told-written (c .before .before .before .before .before .before .before .before .turn .result))
 
 -- src/all.rt:129:9
 add-i : tie.Need-add-i Inv-loop μ-loop
@@ -98,7 +99,7 @@ loop-less c = search needs
 
 -- src/all.rt:124:5
 loop-again : tie.Need-loop-again Inv-loop μ-loop
-loop-again c = ?
+loop-again c = let q = cutting.queue-query (c .before .before .before .before .before .before .before .before .before .before .before .before .before .before .before .before .before .before .before .before .before .before .before .pre .0) (c .before .before .before .before .before .before .before .before .before .before .before .before .before .before .before .loop .inv .3) (c .before .before .before .before .before .before .before .before .before .before .before .before .before .before .loop-test .taken) (c .before .before .before .before .before .before .before .before .before .before .before .before .before .first .ensures) in ((let g = c .before .before .before .before .before .before .before .before .before .before .before .before .before .before .loop-test .taken in omega arith), c .before .before .before .before .tell .kept .0 ∙ c .before .before .before .before .before .before .before .before .before .before .before .before .before .before .before .loop .inv .1, c .before .before .before .before .before .before .before .before .before .turn .kept .1 .1 .1 .1 .1 .1 .1 .1 .0 ∙ c .before .before .before .before .before .before .before .before .before .before .before .before .before .before .before .loop .inv .2, cutting.queue-next (c .before .before .before .before .before .before .before .before .before .before .before .before .before .before .before .before .before .before .before .before .before .before .before .pre .0) (c .before .before .before .before .before .before .before .before .before .before .before .before .before .before .before .loop .inv .3) (c .before .before .before .before .before .before .before .before .before .before .before .before .before .before .loop-test .taken) (c .others .ensures), turning.turning-next (c .before .before .before .before .before .before .before .before .before .before .before .before .before .before .before .loop .inv .4) (let k = c .before .before .before .before .before .before .before .before .before .before .before .before .before .before .before .before .before .before .before .before .before .before .before .pre .0 .count in let g = c .before .before .before .before .before .before .before .before .before .before .before .before .before .before .loop-test .taken in omega arith) q (rw parts.cut-from at (c .before .before .before .before .before .before .before .before .before .turn .ensures)) (rw parts.cut-from at (c .before .before .before .before .before .before .before .before .before .turn .kept .1 .1 .1 .1 .1 .1 .1 .0)) (turning.lent-rest _ _ (c .before .before .before .before .before .before .before .before .before .before .before .before .before .before .before .loop .w) (c .before .before .before .before .before .before .before .before .before .before .before .before .before .before .before .loop .inv .4 .within)) (c .before .before .before .before .tell .ensures) (ap (λ (n : ℕ). c .before .before .before .before .before .before .before .before .before .before .before .before .before .before .before .loop .w + n) (c .before .written .ensures)) (c .before .before .before .before .before .before .before .before .before .turn .ensures .few) (let m = c .before .before .before .before .before .before .before .before .before .before .before .before .before .before .before .before .before .before .before .before .before .before .before .pre .3 in let g = c .before .before .before .before .before .before .before .before .before .before .before .before .before .before .loop-test .taken in omega arith))
 
 -- src/all.rt:104:1
 same-length : tie.Need-same-length Inv-loop μ-loop

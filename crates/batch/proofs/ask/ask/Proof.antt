@@ -72,7 +72,7 @@ bit-at-requires-2 c κs = let f = c .before .before .before .before .before .bef
 
 -- src/ask.rt:111:13
 truth-requires : tie.Need-truth-requires Inv-loop μ-loop
-truth-requires c κs = let q = cutting.queue-query (c .before .before .before .before .before .before .before .before .before .before .before .before .before .before .before .before .before .before .before .before .pre .0 .cuts) (c .before .before .before .before .before .before .before .loop .inv .3) (c .before .before .before .before .before .before .loop-test .taken) (c .before .before .before .before .before .first .ensures) in let K = c .before .before .before .before .before .before .before .before .before .before .before .before .before .before .before .before .before .before .before .before .pre .0 .planned .known (c .before .before .before .before .before .before .before .loop .i) (c .before .before .before .before .before .before .loop-test .taken) in (rw q (K .is), (λ z w. rw q (asking.uncalled K z (c .before .before .before .before .before .before .before .before .before .before .before .before .before .called .result) (c .before .before .before .before .before .before .before .before .before .before .before .before .before .called .ensures (c .before .before .before .before .before .before .before .before .before .before .before .before .before .before .before .before .before .before .before .before .args .many - 1 - c .before .before .before .before .before .before .before .loop .i)) (c .before .before .before .bit-at .ensures) (c .before .before .bit-at2 .ensures) w)), c .before .before .before .before .before .before .before .before .before .before .before .before .before .before .before .before .before .before .before .before .pre .1 .entries, (λ z. c .before .before .before .before .before .before .before .before .before .before .before .note .ensures .0), (let d = c .before .before .before .before .before .before .before .before .before .before .before .before .before .before .before .before .before .before .before .before .pre .1 .deep in let k = c .before .before .before .before .before .before .before .loop .inv .1 in omega arith))
+truth-requires c κs = let q = cutting.queue-query (c .before .before .before .before .before .before .before .before .before .before .before .before .before .before .before .before .before .before .before .before .pre .0 .cuts) (c .before .before .before .before .before .before .before .loop .inv .3) (c .before .before .before .before .before .before .loop-test .taken) (c .before .before .before .before .before .first .ensures) in let K = c .before .before .before .before .before .before .before .before .before .before .before .before .before .before .before .before .before .before .before .before .pre .0 .planned .known (c .before .before .before .before .before .before .before .loop .i) (c .before .before .before .before .before .before .loop-test .taken) in (rw q (K .is), (λ z w. rw q (asking.uncalled (each entryOf (now (c .before .before .before .before .before .before .before .before .before .before .before .before .before .before .before .before .before .before .before .before .args .rec))) K z (c .before .before .before .before .before .before .before .before .before .before .before .before .before .called .result) (c .before .before .before .before .before .before .before .before .before .before .before .before .before .called .ensures (c .before .before .before .before .before .before .before .before .before .before .before .before .before .before .before .before .before .before .before .before .args .many - 1 - c .before .before .before .before .before .before .before .loop .i)) (c .before .before .before .bit-at .ensures) (c .before .before .bit-at2 .ensures) w)), c .before .before .before .before .before .before .before .before .before .before .before .before .before .before .before .before .before .before .before .before .pre .1 .entries, (λ z. c .before .before .before .before .before .before .before .before .before .before .before .note .ensures .0), (let d = c .before .before .before .before .before .before .before .before .before .before .before .before .before .before .before .before .before .before .before .before .pre .1 .deep in let k = c .before .before .before .before .before .before .before .loop .inv .1 in omega arith))
 
 -- src/ask.rt:112:9
 pushed-requires : tie.Need-pushed-requires Inv-loop μ-loop

@@ -63,7 +63,7 @@ loop-less : tie.Need-loop-less Inv-loop μ-loop
 loop-less c = rw (c .rest .ensures) (parts.rest-shorter _ (c .before .before .before .before .before .before .before .before .before .before .before .before .loop-test .taken))
 
 loop-again : tie.Need-loop-again Inv-loop μ-loop
-loop-again c = let F = c .before .before .before .before .before .before .before .before .before .before .before .before .before .loop .inv .3 in let w = selections.first-record _ (c .before .before .before .before .before .before .before .before .before .before .before .before .loop-test .taken) (F .records) in (c .before .before .table .given ∙ c .before .before .before .before .before .before .before .before .before .before .before .before .before .loop .inv .0, c .before .before .before .before .before .row2 .given ∙ c .before .before .before .before .before .before .before .before .before .before .before .before .before .loop .inv .1, (let k = c .before .before .before .before .before .before .before .before .before .before .before .before .before .loop .inv .2 in omega (arith, c .before .before .before .before .before .before .before .before .before .before .before .if1 .left)), asking.from-next F (c .before .before .before .before .before .before .before .before .before .before .before .before .loop-test .taken) (c .rest .ensures) (rw (c .rest .ensures) (parts.rest-shorter _ (c .before .before .before .before .before .before .before .before .before .before .before .before .loop-test .taken))), selections.before-next (now (c .before .before .before .before .before .before .before .before .before .before .before .before .before .before .before .before .before .before .before .args .list)) (now (c .before .before .before .before .before .before .before .before .before .before .before .before .before .loop .t)) (c .before .before .before .before .before .before .before .before .before .before .body .ensures) (selections.record-whole _ w) (let k = F .left in omega arith) (c .rest .ensures) (c .before .before .before .before .before .before .before .ask .ensures .before), asking.table-next (c .before .before .before .before .before .before .before .before .before .before .before .before .before .loop .inv .5) (let k = c .before .before .before .before .before .before .before .before .before .before .before .before .before .loop .inv .2 in let t = c .before .before .before .before .before .before .before .before .before .before .before .before .before .loop .inv .0 in let l = c .before .before .before .before .before .before .before .before .before .before .before .before .before .before .before .before .before .before .before .pre .2 in omega (arith, c .before .before .before .before .before .before .before .before .before .before .before .if1 .left)) (omega arith) (c .before .before .before .put-big8 .ensures) (rw (asking.from-record F (c .before .before .before .before .before .before .before .before .before .before .before .before .loop-test .taken) (c .before .before .before .before .before .before .before .before .before .before .body .ensures)) (c .before .before .before .before .before .before .before .ask .ensures .told)))
+loop-again c = let F = c .before .before .before .before .before .before .before .before .before .before .before .before .before .loop .inv .3 in let w = selections.first-record _ (c .before .before .before .before .before .before .before .before .before .before .before .before .loop-test .taken) (F .records) in (c .before .before .table .given ∙ c .before .before .before .before .before .before .before .before .before .before .before .before .before .loop .inv .0, c .before .before .before .before .before .before .before .ask .kept .1 .1 .1 .1 .1 .1 .1 .0 ∙ c .before .before .before .before .before .before .before .before .before .before .before .before .before .loop .inv .1, (let k = c .before .before .before .before .before .before .before .before .before .before .before .before .before .loop .inv .2 in omega (arith, c .before .before .before .before .before .before .before .before .before .before .before .if1 .left)), asking.from-next F (c .before .before .before .before .before .before .before .before .before .before .before .before .loop-test .taken) (c .rest .ensures) (rw (c .rest .ensures) (parts.rest-shorter _ (c .before .before .before .before .before .before .before .before .before .before .before .before .loop-test .taken))), selections.before-next (now (c .before .before .before .before .before .before .before .before .before .before .before .before .before .before .before .before .before .before .before .args .list)) (now (c .before .before .before .before .before .before .before .before .before .before .before .before .before .loop .t)) (c .before .before .before .before .before .before .before .before .before .before .body .ensures) (selections.record-whole _ w) (let k = F .left in omega arith) (c .rest .ensures) (c .before .before .before .before .before .before .before .ask .ensures .before), asking.table-next (c .before .before .before .before .before .before .before .before .before .before .before .before .before .loop .inv .5) (let k = c .before .before .before .before .before .before .before .before .before .before .before .before .before .loop .inv .2 in let t = c .before .before .before .before .before .before .before .before .before .before .before .before .before .loop .inv .0 in let l = c .before .before .before .before .before .before .before .before .before .before .before .before .before .before .before .before .before .before .before .pre .2 in omega (arith, c .before .before .before .before .before .before .before .before .before .before .before .if1 .left)) (omega arith) (c .before .before .before .put-big8 .ensures) (rw (asking.from-record F (c .before .before .before .before .before .before .before .before .before .before .before .before .loop-test .taken) (c .before .before .before .before .before .before .before .before .before .before .body .ensures)) (c .before .before .before .before .before .before .before .ask .ensures .told)))
 
 same-length-2 : tie.Need-same-length-2 Inv-loop μ-loop
 same-length-2 c = c .before .loop .inv .0

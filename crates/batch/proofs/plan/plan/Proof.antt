@@ -58,7 +58,7 @@ loop-less c = search needs
 
 -- src/plan.rt:85:5
 loop-again : tie.Need-loop-again Inv-loop μ-loop
-loop-again c = ((let g = c .before .before .before .before .before .before .before .before .before .before .loop-test .taken in omega arith), length-set _ _ _ ∙ c .before .before .before .before .before .before .before .before .before .before .before .loop .inv .1, c .before .before .row .given ∙ c .before .before .before .before .before .before .before .before .before .before .before .loop .inv .2, cutting.queue-next (c .before .before .before .before .before .before .before .before .before .before .before .before .before .before .before .before .pre .0) (c .before .before .before .before .before .before .before .before .before .before .before .loop .inv .3) (c .before .before .before .before .before .before .before .before .before .before .loop-test .taken) (c .others .ensures), planning.planned-next (c .before .before .before .before .before .before .before .before .before .before .before .loop .inv .4) (let f = c .before .before .before .before .before .before .before .before .before .before .before .before .before .before .before .before .pre .0 .few in let l = c .before .before .before .before .before .before .before .before .before .before .before .before .before .before .before .before .pre .1 in let k = c .before .before .before .before .before .before .before .before .before .before .before .loop .inv .1 in let g = c .before .before .before .before .before .before .before .before .before .before .loop-test .taken in omega arith) (cutting.queue-query (c .before .before .before .before .before .before .before .before .before .before .before .before .before .before .before .before .pre .0) (c .before .before .before .before .before .before .before .before .before .before .before .loop .inv .3) (c .before .before .before .before .before .before .before .before .before .before .loop-test .taken) (c .before .before .before .before .before .before .before .before .before .first .ensures)) (c .before .before .before .before .before .before .before .before .for-selection .ensures) (c .before .before .before .before .before .plan-query .ensures))
+loop-again c = ((let g = c .before .before .before .before .before .before .before .before .before .before .loop-test .taken in omega arith), simp length-set (c .before .before .before .before .before .before .before .before .before .before .before .loop .inv .1), c .before .before .row .given ∙ c .before .before .before .before .before .before .before .before .before .before .before .loop .inv .2, cutting.queue-next (c .before .before .before .before .before .before .before .before .before .before .before .before .before .before .before .before .pre .0) (c .before .before .before .before .before .before .before .before .before .before .before .loop .inv .3) (c .before .before .before .before .before .before .before .before .before .before .loop-test .taken) (c .others .ensures), planning.planned-next (c .before .before .before .before .before .before .before .before .before .before .before .loop .inv .4) (let f = c .before .before .before .before .before .before .before .before .before .before .before .before .before .before .before .before .pre .0 .few in let l = c .before .before .before .before .before .before .before .before .before .before .before .before .before .before .before .before .pre .1 in let k = c .before .before .before .before .before .before .before .before .before .before .before .loop .inv .1 in let g = c .before .before .before .before .before .before .before .before .before .before .loop-test .taken in omega arith) (cutting.queue-query (c .before .before .before .before .before .before .before .before .before .before .before .before .before .before .before .before .pre .0) (c .before .before .before .before .before .before .before .before .before .before .before .loop .inv .3) (c .before .before .before .before .before .before .before .before .before .before .loop-test .taken) (c .before .before .before .before .before .before .before .before .before .first .ensures)) (c .before .before .before .before .before .before .before .before .for-selection .ensures) (c .before .before .before .before .before .plan-query .ensures))
 
 -- src/plan.rt:78:1
 same-length : tie.Need-same-length Inv-loop μ-loop

@@ -1,3 +1,4 @@
+use Prim.Native.Nat.{ℕ}
 use mathlib.Core.Path.{sym, _∙_}
 use lib.Seq.{getD-set-other}
 use Rattle.batch.proofs.Planning as planning
@@ -33,7 +34,7 @@ slice-read-pushed-2 c = let m = c .before .before .before .before .before .push-
 
 -- src/plan.rt:65:19
 pushed-requires-2 : tie.Need-pushed-requires-2
-pushed-requires-2 c κs = rw (getD-set-other _ 512 513 _ 0 (λ z. omega arith), c .before .before .before .before .before .push-words .ensures .others 513 (omega arith)) (c .before .before .before .before .before .before .before .before .before .pre .2 513)
+pushed-requires-2 c κs = rw (getD-set-other {A = ℕ} _ 512 513 _ 0 (λ z. omega arith), c .before .before .before .before .before .push-words .ensures .others 513 (omega arith)) (c .before .before .before .before .before .before .before .before .before .pre .2 513)
 
 -- src/plan.rt:65:5
 slice-write-masks-2 : tie.Need-slice-write-masks-2
