@@ -29,6 +29,8 @@ pub const SELECTION_DEPTH: usize = 192;
 
 pub const LIST_MOST: usize = 65536;
 
+pub const QUERIES_MOST: usize = 64;
+
 // ---- working room of each call
 
 pub const PARSE_ROOM: usize = 5120;
@@ -36,6 +38,8 @@ pub const PARSE_ROOM: usize = 5120;
 pub const REWRITE_ROOM: usize = 38229;
 
 pub const SELECT_ROOM: usize = 0;
+
+pub const SELECT_ALL_ROOM: usize = 4096;
 
 // ---- operators and analyzers
 
@@ -243,5 +247,7 @@ pub const DEEP_QUERY: u8 = 21;
 pub const LONG_LIST: u8 = 22;
 
 pub const MALFORMED_LIST: u8 = 23;
+
+pub const MANY_QUERIES: u8 = 24;
 
 pub const SHORT_ROOM: u8 = 32;

@@ -1,4 +1,5 @@
-// Big-endian numbers at the widths of the stored form: two, four and eight bytes read at the front of a slice, two and four written.
+// Big-endian numbers at the widths of the stored form: two, four and eight bytes, read at the front of a slice and
+// written at a place.
 ghost use mathlib.Core.Path.{_≡_};
 ghost use Prim.Native.Nat.{_+_, _≤_, _<_};
 ghost use lib.ListN.{length, take};
@@ -65,4 +66,12 @@ pub fn put_big4(out: &mut [u8], at: usize, v: u32) -> usize
     out[at + 2] = (v / 256 % 256) as u8;
     out[at + 3] = (v % 256) as u8;
     at + 4
+}
+
+pub fn put_big8(out: &mut [u8], at: usize, v: u64) -> usize
+    requires { ⌜ at + 8 ≤ length (now out) ⌝ }
+    ensures { λ r. ⌜ Put (now (out .entry)) at (big 8 v) r (now (out .exit)) ⌝ }
+{
+    let middle = put_big4(out, at, (v / 4294967296) as u32);
+    put_big4(out, middle, (v % 4294967296) as u32)
 }

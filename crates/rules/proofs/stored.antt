@@ -7,6 +7,7 @@ pub mod Tags
 pub mod Leaves
 pub mod Refusals
 pub mod Steps
+pub mod Cutting
 pub mod Inverse
 pub mod Sound
 pub mod Accepted

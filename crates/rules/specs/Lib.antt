@@ -19,5 +19,6 @@ pub mod Lists
 pub mod Matching
 pub mod Show
 pub mod Answers
+pub mod Batch
 pub mod Cases
 pub mod Computing

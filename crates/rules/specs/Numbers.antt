@@ -39,6 +39,10 @@ selectionDepth = 192
 abbrev pub listMost : ℕ
 listMost = 65536
 
+-- queries of a batch
+abbrev pub queriesMost : ℕ
+queriesMost = 64
+
 -- working room, as docs/ROOM.md states it for each call
 abbrev pub parseRoom : ℕ
 parseRoom = 5120
@@ -48,6 +52,9 @@ rewriteRoom = 38229
 
 abbrev pub selectRoom : ℕ
 selectRoom = 0
+
+abbrev pub selectAllRoom : ℕ
+selectAllRoom = 4096
 
 -- ---- operators and analyzers
 
@@ -172,6 +179,7 @@ pub data Refusal : Type 0 where
   longAnswer : Refusal
   longQuery malformedQuery deepQuery : Refusal
   longList malformedList : Refusal
+  manyQueries : Refusal
   shortRoom : Refusal
 
 abbrev pub number : Refusal → ℕ
@@ -198,6 +206,7 @@ number malformedQuery = 20
 number deepQuery = 21
 number longList = 22
 number malformedList = 23
+number manyQueries = 24
 number shortRoom = 32
 
 -- what is read, or the refusal

@@ -139,7 +139,7 @@ bare-truth bare M T es z q i = T q i ∙ sym (unwanted-empty M q i es z)
 abbrev pub front : List ℕ → List ℕ → ℕ
 front l t = length l - length t + 3
 
-zeros-at : (n i : ℕ) → getD (replicate {A = ℕ} n 0) i 0 ≡ 0
+pub zeros-at : (n i : ℕ) → getD (replicate {A = ℕ} n 0) i 0 ≡ 0
 zeros-at zero i = refl
 zeros-at (suc n) zero = refl
 zeros-at (suc n) (suc i) = zeros-at n i
@@ -189,7 +189,7 @@ flat-rows true ns = flat-four ns
 flat-rows false ns = flat-one ns
 
 -- laid behind what was written before
-laid-behind : (front before : List ℕ) (w : ℕ) (bs : List ℕ) → length front ≡ w
+pub laid-behind : (front before : List ℕ) (w : ℕ) (bs : List ℕ) → length front ≡ w
     → laid (front ++ drop w before) w bs ≡ (front ++ bs) ++ drop (w + length bs) before
 unfolding laid
 laid-behind front before w bs e =

@@ -43,7 +43,7 @@ fn checked(query: &[u8], list: &[u8]) -> u8
     check_list(list)
 }
 
-fn records(list: &[u8]) -> usize
+pub fn records(list: &[u8]) -> usize
     requires { ⌜ every isRecord (now list) ≡ true ⌝ }
     ensures { λ r. ⌜ r ≡ length (each recordOf (now (list .entry))) ⌝ }
 {

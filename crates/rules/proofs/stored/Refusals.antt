@@ -3,7 +3,7 @@ use mathlib.Core.Path.{_≡_, refl, sym}
 use Prim.Native.Nat.{ℕ}
 use mathlib.Core.Bool.{Bool, true, false}
 use native.Mathlib.Omega.{arith}
-use Rattle.rules.specs.Numbers.{Refusal, longText, notAscii, badSetup, openQuote, nothingEscaped, rangeBracket, wildcard, fuzzyTerm, sloppyPhrase, unexpectedEnd, unexpectedToken, openBracket, badNumeral, noNumeral, longField, manyBrackets, longNumeral, longAnswer, longQuery, malformedQuery, deepQuery, longList, malformedList, shortRoom, number, Read, got, refused, need, onRead}
+use Rattle.rules.specs.Numbers.{Refusal, longText, notAscii, badSetup, openQuote, nothingEscaped, rangeBracket, wildcard, fuzzyTerm, sloppyPhrase, unexpectedEnd, unexpectedToken, openBracket, badNumeral, noNumeral, longField, manyBrackets, longNumeral, longAnswer, longQuery, malformedQuery, deepQuery, longList, malformedList, manyQueries, shortRoom, number, Read, got, refused, need, onRead}
 use Rattle.rules.specs.Query.{Kind, Query, Clauses, clause}
 use Rattle.rules.specs.Reading.{numberOf, closed, added}
 use Rattle.rules.proofs.Bools.{clash}
@@ -41,6 +41,7 @@ number-some malformedQuery e = omega arith
 number-some deepQuery e = omega arith
 number-some longList e = omega arith
 number-some malformedList e = omega arith
+number-some manyQueries e = omega arith
 number-some shortRoom e = omega arith
 
 module _ {A : Type 0} where

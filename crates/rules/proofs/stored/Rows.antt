@@ -13,16 +13,17 @@ use Rattle.rules.proofs.stored.Parts.{length-rest}
 pub rest-within : (n x : ℕ) (s : List ℕ) → length (x ∷ s) ≤ suc n → length (restOf (x ∷ s)) ≤ n
 rest-within n x s h = rw length-rest (omega arith)
 
--- a function that goes through a row by fuel does not depend on the fuel, once there is as much as the row is long
-module _ {B : Type 0} (F : ℕ → List ℕ → B) (end : B) (step : List ℕ → B → B) (stop : (n : ℕ) → F n [] ≡ end)
-    (go : (n x : ℕ) (s : List ℕ) → F (suc n) (x ∷ s) ≡ step (x ∷ s) (F n (restOf (x ∷ s)))) where
+-- a function that goes through a row by fuel, from the front to `rest`, does not depend on the fuel, once there is as much as the row is long
+module _ (rest : List ℕ → List ℕ) (within : (n x : ℕ) (s : List ℕ) → length (x ∷ s) ≤ suc n → length (rest (x ∷ s)) ≤ n)
+    {B : Type 0} (F : ℕ → List ℕ → B) (end : B) (step : List ℕ → B → B) (stop : (n : ℕ) → F n [] ≡ end)
+    (go : (n x : ℕ) (s : List ℕ) → F (suc n) (x ∷ s) ≡ step (x ∷ s) (F n (rest (x ∷ s)))) where
   pub enough : (n m : ℕ) (s : List ℕ) → length s ≤ n → length s ≤ m → F n s ≡ F m s
   enough zero m [] h k = stop zero ∙ sym (stop m)
   enough zero m (x ∷ s) h k = absurd (omega arith)
   enough (suc n) m [] h k = stop (suc n) ∙ sym (stop m)
   enough (suc n) zero (x ∷ s) h k = absurd (omega arith)
   enough (suc n) (suc m) (x ∷ s) h k =
-      go n x s ∙ ap (step (x ∷ s)) (enough n m (restOf (x ∷ s)) (rest-within n x s h) (rest-within m x s k)) ∙ sym (go m x s)
+      go n x s ∙ ap (step (x ∷ s)) (enough n m (rest (x ∷ s)) (within n x s h) (within m x s k)) ∙ sym (go m x s)
 
 module _ (P : List ℕ → Bool) where
   every-end : (n : ℕ) → everyIn P n [] ≡ true
@@ -35,7 +36,7 @@ module _ (P : List ℕ → Bool) where
   every-more n x s = refl
 
   pub every-in : (n : ℕ) (s : List ℕ) → length s ≤ n → everyIn P n s ≡ every P s
-  every-in n s h = enough (everyIn P) true (λ t b. P t && b) every-end every-more n (length s) s h (omega arith)
+  every-in n s h = enough restOf rest-within (everyIn P) true (λ t b. P t && b) every-end every-more n (length s) s h (omega arith)
 
   pub every-done : (s : List ℕ) → isEmpty s ≡ true → every P s ≡ true
   every-done [] e = every-end 0
@@ -85,7 +86,7 @@ module _ {A : Type 0} (g : List ℕ → A) where
   each-more n x s = refl
 
   pub each-in : (n : ℕ) (s : List ℕ) → length s ≤ n → eachIn g n s ≡ each g s
-  each-in n s h = enough (eachIn g) [] (λ t l. g t ∷ l) each-end each-more n (length s) s h (omega arith)
+  each-in n s h = enough restOf rest-within (eachIn g) [] (λ t l. g t ∷ l) each-end each-more n (length s) s h (omega arith)
 
   pub each-done : (s : List ℕ) → isEmpty s ≡ true → each g s ≡ []
   each-done [] e = each-end 0

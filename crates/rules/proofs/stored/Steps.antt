@@ -111,7 +111,7 @@ module _ (sub : List ℕ → Read Query) where
   clauses-more n x s = refl
 
   pub clauses-in : (n : ℕ) (s : List ℕ) → length s ≤ n → clausesIn sub n s ≡ clausesOf sub s
-  clauses-in n s h = enough (clausesIn sub) (got none) clauseOf clauses-end clauses-more n (length s) s h (omega arith)
+  clauses-in n s h = enough restOf rest-within (clausesIn sub) (got none) clauseOf clauses-end clauses-more n (length s) s h (omega arith)
 
   pub clauses-done : (s : List ℕ) → isEmpty s ≡ true → clausesOf sub s ≡ got none
   clauses-done [] e = clauses-end 0

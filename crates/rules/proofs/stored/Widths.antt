@@ -58,3 +58,13 @@ big-four n h =
     let e : n / 256 / 256 / 256 % 256 ≡ n / 16777216 = omega arith in
     let f : n / 256 / 256 % 256 ≡ n / 65536 % 256 = omega arith in
     rw (e, f)
+
+-- in two halves of four bytes
+pub big-eight : (n : ℕ) → n < 18446744073709551616 → big 8 n ≡ big 4 (n / 4294967296) ++ big 4 (n % 4294967296)
+big-eight n h =
+    let a : n / 256 / 256 / 256 / 256 ≡ n / 4294967296 = omega arith in
+    let b : n % 4294967296 / 256 / 256 / 256 % 256 ≡ n / 256 / 256 / 256 % 256 = omega arith in
+    let c : n % 4294967296 / 256 / 256 % 256 ≡ n / 256 / 256 % 256 = omega arith in
+    let d : n % 4294967296 / 256 % 256 ≡ n / 256 % 256 = omega arith in
+    let e : n % 4294967296 % 256 ≡ n % 256 = omega arith in
+    rw (a, b, c, d, e)
