@@ -90,7 +90,7 @@ pub fn repeating(r: &mut Random, deepest: usize) -> Query {
     let mut few = Vec::new();
     for _ in 0..r.pick(&[1, 1, 2, 2, 3, 5]) {
         few.push(if deepest > 2 && r.one_in(3) {
-            repeating(r, deepest - 1)
+            repeating(r, deepest.div_ceil(2))
         } else {
             query(r, deepest - 1)
         });
