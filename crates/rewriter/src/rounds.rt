@@ -17,6 +17,11 @@ ghost use Rattle.rules.specs.Answers.{rewriteLeft};
 ghost use Rattle.round.specs.Once.{Room};
 ghost use Rattle.rewriter.specs.Rounds.{Settled, left};
 
+// The two ways of rewriting, as `rules/specs/Rewriting` names them.
+pub const ORIGINAL: bool = false;
+
+pub const STRICT: bool = true;
+
 pub struct Rounds {
     pub len: usize,
     pub rounds: usize,
