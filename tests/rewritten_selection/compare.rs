@@ -160,7 +160,12 @@ fn original(bytes: &[u8], records: &[lists::Record], rows: &[u32], rounds: u32) 
     if rewritten.nan {
         return 0;
     }
-    hold("the original's rounds", &rounds, &rewritten.rounds, &[("query", bytes)]);
+    hold(
+        "the original's rounds",
+        &rounds,
+        &rewritten.rounds,
+        &[("query", bytes)],
+    );
     1
 }
 
@@ -237,7 +242,12 @@ fn one(r: &mut Random, way: Way, tally: &mut Tally, seen: &mut Seen) {
     };
     let got = lent.call(way, &query, &list);
     let inputs = [("query", &query[..]), ("list", &list)];
-    hold(&format!("rewrite_and_select, {way:?}"), &got, &want, &inputs);
+    hold(
+        &format!("rewrite_and_select, {way:?}"),
+        &got,
+        &want,
+        &inputs,
+    );
     if let Ok((rows, made)) = &got {
         seen.records += rows.len();
         seen.many += usize::from(*made > 1);
@@ -248,7 +258,10 @@ fn one(r: &mut Random, way: Way, tally: &mut Tally, seen: &mut Seen) {
 fn main() {
     let (count, seed) = tally::arguments();
     for (way, name) in [
-        (Way::Original, "rewritten and selected beside the query as written"),
+        (
+            Way::Original,
+            "rewritten and selected beside the query as written",
+        ),
         (Way::Strict, "the same, strictly, at every minimum"),
     ] {
         let mut tally = Tally::new(name);

@@ -40,11 +40,18 @@ fn strict_keeps_what_repeats() {
     let strict = query.rewrite_strict().expect("a query");
     assert_eq!((&strict.query, strict.rounds), (&query, 1));
     let original = query.rewrite().expect("a query");
-    assert_eq!((original.query.as_bytes(), original.rounds), (&b"\x07\x00\x00"[..], 3));
+    assert_eq!(
+        (original.query.as_bytes(), original.rounds),
+        (&b"\x07\x00\x00"[..], 3)
+    );
     assert_eq!(original.query.select(&list), Ok(vec![]));
     let cut = Query::from_bytes(&TERM[..10]);
     assert_eq!(cut.rewrite_strict(), Err(Refusal::MalformedQuery));
-    let narrow = calls::rewrite_strict(&TERM, &mut [0; 10], &mut vec![0; calls::rewrite_strict_room()]);
+    let narrow = calls::rewrite_strict(
+        &TERM,
+        &mut [0; 10],
+        &mut vec![0; calls::rewrite_strict_room()],
+    );
     assert_eq!(narrow.done(), Err(Refusal::LongAnswer));
 }
 

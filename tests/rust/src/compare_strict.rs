@@ -55,7 +55,12 @@ fn document(desk: &mut Desk) {
     let query = queries::stored(&twice);
     let inputs = [("query", &query[..])];
     let strict = desk.rewrite_strict(&query, query.len());
-    hold("document 01, strict", &strict, &Ok((query.clone(), 1)), &inputs);
+    hold(
+        "document 01, strict",
+        &strict,
+        &Ok((query.clone(), 1)),
+        &inputs,
+    );
     let none = Ok((queries::stored(&Query::MatchNone), 3));
     let original = desk.rewrite(&query, query.len());
     hold("document 01, original", &original, &none, &inputs);
@@ -103,13 +108,21 @@ fn query(r: &mut Random) -> Vec<u8> {
             shapes::wide(r, clauses, &LARGER_MINIMA)
         }
         4 => {
-            let bytes = if r.one_in(100) { REWRITER.0 } else { 60 + r.below(500) };
+            let bytes = if r.one_in(100) {
+                REWRITER.0
+            } else {
+                60 + r.below(500)
+            };
             shapes::pile(r, bytes, &LARGER_MINIMA)
         }
         5..=19 => queries::stored(&random_queries::query(r, deepest)),
         _ => queries::stored(&random_queries::repeating(r, deepest)),
     };
-    if r.one_in(10) { damaged(r, &query) } else { query }
+    if r.one_in(10) {
+        damaged(r, &query)
+    } else {
+        query
+    }
 }
 
 /// The archive's answer, which has to be the plain one; with an output that fits, is longer, or is short.
@@ -166,7 +179,10 @@ fn promises(
     let rows = chosen(tree, &records);
     let after = result.map(|result| chosen(&result, &records));
     hold("rows of the result", &after, &Ok(rows.clone()), &inputs);
-    for (what, by) in [("rows by the query", query), ("rows by the result", rewritten)] {
+    for (what, by) in [
+        ("rows by the query", query),
+        ("rows by the result", rewritten),
+    ] {
         let archive = desk.select(by, &list, 4 * rows.len());
         hold(what, &archive, &Ok(rows.clone()), &inputs);
     }

@@ -18,11 +18,7 @@ pub fn chain(r: &mut Random) -> Vec<u8> {
     let mut made = word();
     for _ in 0..r.below(66) {
         let kind = r.pick(&[Kind::Must, Kind::Should, Kind::Should]);
-        let beside = if r.one_in(40) {
-            query(r, 2)
-        } else {
-            word()
-        };
+        let beside = if r.one_in(40) { query(r, 2) } else { word() };
         made = Query::Boolean(r.pick(&[0, 1]), vec![(kind, made), (kind, beside)]);
     }
     stored(&made)
@@ -56,7 +52,10 @@ pub fn pile(r: &mut Random, bytes: usize, minima: &[u16]) -> Vec<u8> {
     let mut left = bytes - 8;
     while left > 60 {
         let clause = if pairs {
-            let word = Query::Term(Vec::new(), vec![b'a' + u8::try_from(left % 26).expect("a letter")]);
+            let word = Query::Term(
+                Vec::new(),
+                vec![b'a' + u8::try_from(left % 26).expect("a letter")],
+            );
             let inside = vec![
                 (Kind::Should, Query::MatchAll),
                 (Kind::Should, Query::MatchAll),
