@@ -1,10 +1,11 @@
 /* gorbihesh.h: the calls that a scheduler written in C makes.
  *
- *     gorbihesh_parse      the text of a selector     ->  a stored query
- *     gorbihesh_rewrite    a stored query             ->  a stored query that asks the same, made simpler
- *     gorbihesh_select     a stored query and a list  ->  the numbers of the records that it picks
+ *     gorbihesh_parse           the text of a selector     ->  a stored query
+ *     gorbihesh_rewrite         a stored query             ->  a stored query that asks the same, made simpler
+ *     gorbihesh_rewrite_strict  the same, where clauses may repeat under a minimum_should_match above 1
+ *     gorbihesh_select          a stored query and a list  ->  the numbers of the records that it picks
  *
- * What holds of all three:
+ * What holds of all of them:
  *
  * Slices.  A slice is a pointer and a number of bytes. No byte outside the lent slices is read or written.
  *   Where the number is 0 the pointer is not used and may be NULL. A slice that a call writes to (output,
@@ -50,10 +51,12 @@ uint32_t gorbihesh_version(void);
  */
 #define GORBIHESH_PARSE_ROOM 5120
 #define GORBIHESH_REWRITE_ROOM 38229
+#define GORBIHESH_REWRITE_STRICT_ROOM 38229
 #define GORBIHESH_SELECT_ROOM 0
 
 size_t gorbihesh_parse_room(void);
 size_t gorbihesh_rewrite_room(void);
+size_t gorbihesh_rewrite_strict_room(void);
 size_t gorbihesh_select_room(void);
 
 /* ---- limits */
@@ -63,7 +66,7 @@ size_t gorbihesh_select_room(void);
 #define GORBIHESH_REWRITE_QUERY_MOST 32768 /* bytes of a stored query that is rewritten, */
 #define GORBIHESH_REWRITE_DEPTH_MOST 64    /*   and how many query records stand one in another */
 #define GORBIHESH_SELECT_QUERY_MOST 65535  /* the same of a stored query that selects; */
-#define GORBIHESH_SELECT_DEPTH_MOST 192    /*   whatever gorbihesh_rewrite answers lies within these two */
+#define GORBIHESH_SELECT_DEPTH_MOST 192    /*   whatever a rewriting answers lies within these two */
 #define GORBIHESH_LIST_MOST 65536          /* bytes of a catalogue list */
 
 /* ---- operators and analyzers */
@@ -148,7 +151,7 @@ typedef struct {
     uint32_t refusal; /* 0, or why nothing was done */
     uint32_t length;  /* the bytes written to the output */
     uint32_t count;   /* gorbihesh_select: the records picked; 0 for the other calls */
-    uint32_t rounds;  /* gorbihesh_rewrite: the rounds made, the last unchanged one included; else 0 */
+    uint32_t rounds;  /* either rewriting: the rounds made, the last unchanged one included; else 0 */
 } gorbihesh_answer;
 
 /* Parses a selector.
@@ -181,6 +184,23 @@ gorbihesh_answer gorbihesh_parse(uint8_t operator_, uint8_t analyzer,
 gorbihesh_answer gorbihesh_rewrite(const uint8_t *query, size_t query_len,
                                    uint8_t *out, size_t out_len,
                                    uint8_t *room, size_t room_len);
+
+/* Rewrites a stored query strictly. Every rule, the count of rounds and the refusals are gorbihesh_rewrite's, but
+ * for one: Should clauses are never dropped as duplicates while minimum_should_match is above 1.
+ *
+ * With minimum 2 and the Should clauses a, a, gorbihesh_rewrite drops the second a, as the original program does;
+ * one is too few, and the result picks nothing, though the query picks the records with an a. Strictly the query
+ * stays as it is. Use it for queries that were not made by gorbihesh_parse and may have a minimum above 1; of all
+ * other queries both make the same bytes in as many rounds.
+ *
+ * Takes     query: one stored query that fills the slice.
+ * Promises  out: the stored query of the last round, and `rounds`. At every minimum_should_match it picks exactly
+ *           the records that the query picks. GORBIHESH_SELECT_QUERY_MOST bytes serve.
+ * Refuses   32; then 19 over 32,768 bytes; then 20 and 21 (deeper than 64) in reading order; then 18.
+ */
+gorbihesh_answer gorbihesh_rewrite_strict(const uint8_t *query, size_t query_len,
+                                          uint8_t *out, size_t out_len,
+                                          uint8_t *room, size_t room_len);
 
 /* Picks the records of a catalogue list for which a stored query is true.
  *

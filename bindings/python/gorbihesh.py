@@ -147,9 +147,11 @@ def _load() -> ctypes.CDLL:
         ("words", ctypes.c_char_p, [ctypes.c_uint32]),
         ("parse_room", ctypes.c_size_t, []),
         ("rewrite_room", ctypes.c_size_t, []),
+        ("rewrite_strict_room", ctypes.c_size_t, []),
         ("select_room", ctypes.c_size_t, []),
         ("parse", _Answer, [byte, byte, *lent, *lent, *lent, *written, *written]),
         ("rewrite", _Answer, [*lent, *written, *written]),
+        ("rewrite_strict", _Answer, [*lent, *written, *written]),
         ("select", _Answer, [*lent, *lent, *written, *written]),
     ):
         call = getattr(library, f"gorbihesh_{name}")
@@ -240,9 +242,19 @@ class Rewritten(NamedTuple):
 
 def rewrite(query: bytes) -> Rewritten:
     """Rewrites a stored query until a round changes nothing. What parse() made picks the same records afterwards."""
+    return _rewrite("rewrite", query)
+
+
+def rewrite_strict(query: bytes) -> Rewritten:
+    """The same, but that Should clauses are never dropped as duplicates while the minimum is above 1: every query picks the
+    same records afterwards."""
+    return _rewrite("rewrite_strict", query)
+
+
+def _rewrite(call: str, query: bytes) -> Rewritten:
     out = _lend_buffer(SELECT_QUERY_MOST)
-    room = _lend_buffer(_library.gorbihesh_rewrite_room())
-    answer = _answer(_library.gorbihesh_rewrite(*_lend(query), out, len(out), room, len(room)))
+    room = _lend_buffer(getattr(_library, f"gorbihesh_{call}_room")())
+    answer = _answer(getattr(_library, f"gorbihesh_{call}")(*_lend(query), out, len(out), room, len(room)))
     return Rewritten(_written(out, answer), answer.rounds)
 
 

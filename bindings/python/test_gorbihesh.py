@@ -169,6 +169,19 @@ class Calls(unittest.TestCase):
                 gorbihesh.select(TERM, data)
             self.assertEqual(raised.exception.number, refusal)
 
+    def test_strict(self) -> None:
+        """Minimum 2 and Should f:a twice, the case of document 01: it matches a record with a, and the original drops one."""
+        clause = bytes.fromhex("21000b") + TERM
+        twice = bytes.fromhex("0300211300020002") + clause + clause
+        files = List()
+        files.add(Record().add_word("f", 0, "a"))
+        self.assertEqual(gorbihesh.select(twice, files), [0])
+        self.assertEqual(gorbihesh.rewrite_strict(twice), (twice, 1))
+        self.assertEqual(gorbihesh.rewrite(twice), (bytes.fromhex("070000"), 3))
+        with self.assertRaises(Refused) as raised:
+            gorbihesh.rewrite_strict(TERM[:10])
+        self.assertEqual(raised.exception.number, Refusal.MALFORMED_QUERY)
+
     def test_another_major_version(self) -> None:
         """A library of another major version has another layout, and is not called."""
         own = gorbihesh.__version__

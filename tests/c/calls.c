@@ -64,14 +64,24 @@ outcome parse_in(setup s, bytes text, size_t out_len, size_t room_len) {
     return check_output(a, &out);
 }
 
-outcome rewrite_in(bytes query, size_t out_len, size_t room_len) {
+typedef gorbihesh_answer rewriting(const uint8_t *, size_t, uint8_t *, size_t, uint8_t *, size_t);
+
+static outcome rewrite_by(rewriting *call, bytes query, size_t out_len, size_t room_len) {
     lent input = lend_copy(query), out = lend_dirty(out_len), room = lend_dirty(room_len);
-    gorbihesh_answer a = gorbihesh_rewrite(input.at, input.len, out.at, out.len, room.at, room.len);
+    gorbihesh_answer a = call(input.at, input.len, out.at, out.len, room.at, room.len);
     check_input(&input);
     check_room(&room);
     CHECK(a.count == 0);
     CHECK(a.refusal != 0 || a.rounds > 0);
     return check_output(a, &out);
+}
+
+outcome rewrite_in(bytes query, size_t out_len, size_t room_len) {
+    return rewrite_by(gorbihesh_rewrite, query, out_len, room_len);
+}
+
+outcome rewrite_strictly_in(bytes query, size_t out_len, size_t room_len) {
+    return rewrite_by(gorbihesh_rewrite_strict, query, out_len, room_len);
 }
 
 outcome pick_in(bytes query, bytes list, size_t rows_len, size_t room_len) {
@@ -90,6 +100,10 @@ outcome pick_in(bytes query, bytes list, size_t rows_len, size_t room_len) {
 outcome parse(setup s, bytes text) { return parse_in(s, text, OUTPUT, gorbihesh_parse_room()); }
 
 outcome rewrite(bytes query) { return rewrite_in(query, OUTPUT, gorbihesh_rewrite_room()); }
+
+outcome rewrite_strictly(bytes query) {
+    return rewrite_strictly_in(query, OUTPUT, gorbihesh_rewrite_strict_room());
+}
 
 outcome pick(bytes query, bytes list) { return pick_in(query, list, OUTPUT, gorbihesh_select_room()); }
 

@@ -1,4 +1,4 @@
-/* The three calls as tests make them: every slice fenced, output and room dirty. Each run checks what holds of
+/* The calls as tests make them: every slice fenced, output and room dirty. Each run checks what holds of
  * every call, whatever its answer: fences and inputs as they were, the room all zeros, the output behind the
  * answer as it was, and the members of the answer that must be 0.
  */
@@ -24,11 +24,13 @@ typedef struct {
 /* With the output and the room that are always enough. */
 outcome parse(setup s, bytes text);
 outcome rewrite(bytes query);
+outcome rewrite_strictly(bytes query);
 outcome pick(bytes query, bytes list);
 
 /* With an output and a room of these lengths; NULL_LENGTH lends a null pointer. */
 outcome parse_in(setup s, bytes text, size_t out_len, size_t room_len);
 outcome rewrite_in(bytes query, size_t out_len, size_t room_len);
+outcome rewrite_strictly_in(bytes query, size_t out_len, size_t room_len);
 outcome pick_in(bytes query, bytes list, size_t rows_len, size_t room_len);
 
 /* Enough for every answer. */

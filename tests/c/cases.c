@@ -79,6 +79,7 @@ static void rewriting(void) {
     check_about("minimum 2, Should a twice");
     stored("03 0021 13 0002 0002 21 000B" A "21 000B" A, &query);
     CHECK(is_rewritten(rewrite(all(&query)), "07 0000", 3));
+    CHECK(is_rewritten(rewrite_strictly(all(&query)), "03 0021 13 0002 0002 21 000B" A "21 000B" A, 1));
     CHECK(is_picked(pick(all(&query), with_a), "1"));
     CHECK(is_picked(pick(TEXT("\7\0\0"), with_a), ""));
 }

@@ -19,9 +19,11 @@ static void rooms(void) {
     check_about("rooms");
     CHECK(gorbihesh_parse_room() == GORBIHESH_PARSE_ROOM);
     CHECK(gorbihesh_rewrite_room() == GORBIHESH_REWRITE_ROOM);
+    CHECK(gorbihesh_rewrite_strict_room() == GORBIHESH_REWRITE_STRICT_ROOM);
     CHECK(gorbihesh_select_room() == GORBIHESH_SELECT_ROOM);
     CHECK(GORBIHESH_PARSE_ROOM <= 4194304);
     CHECK(GORBIHESH_REWRITE_ROOM <= 4194304);
+    CHECK(GORBIHESH_REWRITE_STRICT_ROOM <= 4194304);
     CHECK(GORBIHESH_SELECT_ROOM <= 4194304);
 }
 

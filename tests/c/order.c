@@ -84,12 +84,14 @@ static void limits_in_turn(void) {
     text_gives(16, TEXT("((((((((((((((((((((((((+("));
 }
 
-/* ---- rewriting: 32, 19, then 20 and 21 in reading order, 18 */
+/* ---- rewriting, in either way: 32, 19, then 20 and 21 in reading order, 18 */
 
 static void query_gives(const char *what, uint32_t refusal, bytes query) {
     check_about("rewriting, %s", what);
     CHECK(is_refused(rewrite_in(query, 0, gorbihesh_rewrite_room()), refusal));
     CHECK(is_refused(rewrite_in(query, 0, gorbihesh_rewrite_room() - 1), 32));
+    CHECK(is_refused(rewrite_strictly_in(query, 0, gorbihesh_rewrite_strict_room()), refusal));
+    CHECK(is_refused(rewrite_strictly_in(query, 0, gorbihesh_rewrite_strict_room() - 1), 32));
 }
 
 static void long_queries(void) {

@@ -92,6 +92,7 @@ static void long_answers(void) {
     check_about("refusal 18");
     CHECK(is_refused(parse_in(plain_setup(), TEXT("a"), 10, gorbihesh_parse_room()), 18));
     CHECK(is_refused(rewrite_in(TEXT("\6\0\0"), 2, gorbihesh_rewrite_room()), 18));
+    CHECK(is_refused(rewrite_strictly_in(TEXT("\6\0\0"), 2, gorbihesh_rewrite_strict_room()), 18));
     CHECK(is_refused(pick_in(TEXT("\6\0\0"), TEXT("\x40\0\0"), 3, gorbihesh_select_room()), 18));
 }
 
@@ -126,6 +127,7 @@ static void rooms(void) {
     check_about("refusal 32");
     CHECK(is_refused(parse_in(plain_setup(), TEXT("a"), OUTPUT, gorbihesh_parse_room() - 1), 32));
     CHECK(is_refused(rewrite_in(TEXT("\6\0\0"), OUTPUT, gorbihesh_rewrite_room() - 1), 32));
+    CHECK(is_refused(rewrite_strictly_in(TEXT("\6\0\0"), OUTPUT, gorbihesh_rewrite_strict_room() - 1), 32));
     size_t room = gorbihesh_select_room();
     if (room > 0) CHECK(is_refused(pick_in(TEXT("\6\0\0"), NONE, OUTPUT, room - 1), 32));
 }

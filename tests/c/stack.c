@@ -34,6 +34,10 @@ static void call_rewrite(void) {
     answer = gorbihesh_rewrite(query.at, query.len, out, OUTPUT, room, gorbihesh_rewrite_room());
 }
 
+static void call_rewrite_strict(void) {
+    answer = gorbihesh_rewrite_strict(query.at, query.len, out, OUTPUT, room, gorbihesh_rewrite_strict_room());
+}
+
 static void call_select(void) {
     answer = gorbihesh_select(query.at, query.len, list.at, list.len, out, OUTPUT, room, gorbihesh_select_room());
 }
@@ -107,16 +111,18 @@ static void put_nested_boosts(size_t depth) {
     for (size_t i = 1; i < depth; i++) wrap(&query, i % 2 ? 0x05 : 0x04, i % 2 ? "" : "40000000");
 }
 
-/* Should clauses that all differ. */
-static void put_wide(size_t clauses) {
+/* Should clauses that all differ, under a minimum. */
+static void put_wide_under(size_t clauses, const char *minimum) {
     query.len = 0;
     for (size_t i = 0; i < clauses; i++) {
         put_hex(&query, "21 000C 01 0009 10 0001 66 11 0002");
         put_fill(&query, (uint8_t)(i / 128 % 128), 1);
         put_fill(&query, (uint8_t)(i % 128), 1);
     }
-    wrap(&query, 0x03, "13 0002 0000");
+    wrap(&query, 0x03, minimum);
 }
+
+static void put_wide(size_t clauses) { put_wide_under(clauses, "13 0002 0000"); }
 
 static void rewriting(void) {
     put_nested(GORBIHESH_REWRITE_DEPTH_MOST, 0x20);
@@ -132,6 +138,18 @@ static void rewriting(void) {
     print("rewrite", "2,100 clauses", call_rewrite);
     put_nested(GORBIHESH_REWRITE_DEPTH_MOST + 1, 0x20);
     print("rewrite", "a 65th record", call_rewrite);
+}
+
+static void rewriting_strictly(void) {
+    put_nested(GORBIHESH_REWRITE_DEPTH_MOST, 0x20);
+    print("strict", "Booleans to depth 64", call_rewrite_strict);
+    put_nested_boosts(GORBIHESH_REWRITE_DEPTH_MOST);
+    print("strict", "boosts and constant scores to depth 64", call_rewrite_strict);
+    put_wide_under(40, "13 0002 0002");
+    for (size_t i = 2; i < GORBIHESH_REWRITE_DEPTH_MOST; i++) wrap(&query, i % 2 ? 0x05 : 0x04, i % 2 ? "" : "40000000");
+    print("strict", "40 clauses under boosts and scores to depth 64", call_rewrite_strict);
+    put_wide_under(2100, "13 0002 0002");
+    print("strict", "2,100 clauses, minimum 2", call_rewrite_strict);
 }
 
 static void selecting(void) {
@@ -152,6 +170,7 @@ int main(void) {
     parsing();
     parsing_words();
     rewriting();
+    rewriting_strictly();
     selecting();
     free(room);
     return most > CALL_MOST;

@@ -1,4 +1,4 @@
-/* Stored queries that are malformed, each beside the sound one that it is near to. Both calls that read stored queries
+/* Stored queries that are malformed, each beside the sound one that it is near to. All calls that read stored queries
  * take the one and refuse the other.
  */
 #include "calls.h"
@@ -18,12 +18,14 @@ static bytes hex(const char *digits) {
 static void sound(const char *digits) {
     check_about("the sound query %s", digits);
     CHECK(rewrite(hex(digits)).answer.refusal == 0);
+    CHECK(rewrite_strictly(hex(digits)).answer.refusal == 0);
     CHECK(pick(hex(digits), NONE).answer.refusal == 0);
 }
 
 static void bad(const char *digits) {
     check_about("the bad query %s", digits);
     CHECK(is_refused(rewrite(hex(digits)), 20));
+    CHECK(is_refused(rewrite_strictly(hex(digits)), 20));
     CHECK(is_refused(pick(hex(digits), NONE), 20));
 }
 

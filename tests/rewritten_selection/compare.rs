@@ -1,6 +1,7 @@
-//! `rewrite_and_select` on random queries with minimums of at most 1 and random lists, damaged once in a while and with rooms and rows that
-//! are short once in a while. The records are those that a plain matcher says the query as written is true of; the rounds are the original's,
-//! and what the original rewrites the query to is true of the same records. Every lent byte is looked at.
+//! `rewrite_and_select`, strict and not, on random queries and lists, damaged once in a while and with rooms and rows that are short once in a
+//! while. Strict, the queries have any minimum and clauses that repeat; else none above 1. The records are those that a plain matcher says the
+//! query as written is true of; the rounds are those of a plain rewriter over trees and, not strict, the original's, and what the original
+//! rewrites the query to is true of the same records. Every lent byte is looked at.
 //!
 //!     compare COUNT SEED
 
@@ -14,6 +15,7 @@ use plain::lists;
 use plain::matching::chosen;
 use plain::queries::{self, Query, REWRITER};
 use plain::random::Random;
+use plain::rewriting::{self, Way};
 use plain::{random_lists, random_queries};
 use tally::{Tally, generator, hold};
 
@@ -31,6 +33,7 @@ struct Answer {
 
 unsafe extern "C" {
     fn probe_rewrite_and_select(
+        strict: bool,
         q: *const u8,
         qn: usize,
         l: *const u8,
@@ -63,11 +66,12 @@ impl Lent {
     }
 
     /// The rows and the rounds, or the refusal; ends the program where a byte is not as promised.
-    fn call(&mut self, query: &[u8], list: &[u8]) -> Result<(Vec<u32>, u64), u32> {
+    fn call(&mut self, way: Way, query: &[u8], list: &[u8]) -> Result<(Vec<u32>, u64), u32> {
         let (rows, held, room) = (&mut self.rows, &mut self.held, &mut self.room);
         // safe: each pointer and length are of one slice that lives until the call returns
         let answer = unsafe {
             probe_rewrite_and_select(
+                way == Way::Strict,
                 query.as_ptr(),
                 query.len(),
                 list.as_ptr(),
@@ -122,23 +126,29 @@ fn lowered(query: Query) -> Query {
     }
 }
 
-fn query(r: &mut Random) -> Vec<u8> {
-    let deepest = 1 + r.below(6);
-    let mut query = random_queries::query(r, deepest);
+fn query(r: &mut Random, way: Way) -> Vec<u8> {
+    let mut query = if way == Way::Strict {
+        let deepest = 2 + r.below(4);
+        random_queries::repeating(r, deepest)
+    } else {
+        let deepest = 1 + r.below(6);
+        lowered(random_queries::query(r, deepest))
+    };
     if r.one_in(50) {
         let records = r.pick(&[57, 60, 62, 63, 64]);
         query = random_queries::deepened(r, query, records);
     }
-    let mut bytes = queries::stored(&lowered(query));
+    let mut bytes = queries::stored(&query);
     if r.one_in(3_000) {
         bytes.resize(REWRITER.0 - 3 + r.below(8), 0);
     }
     bytes
 }
 
-/// The original's rounds, and that its result selects the same; none where a NaN is made, which is outside the comparison.
+/// That the original's result selects the same in the same rounds; where a NaN is made, which is outside the comparison, not its rounds.
+/// How many answers had its rounds: one or none.
 #[cfg(with_original)]
-fn rounds(bytes: &[u8], records: &[lists::Record], rows: &[u32]) -> Option<u64> {
+fn original(bytes: &[u8], records: &[lists::Record], rows: &[u32], rounds: u32) -> usize {
     let rewritten = original::answers::rewrite(bytes);
     let result = queries::read(&rewritten.stored, queries::SELECTION).expect("a stored query");
     hold(
@@ -147,21 +157,33 @@ fn rounds(bytes: &[u8], records: &[lists::Record], rows: &[u32]) -> Option<u64> 
         &rows.to_vec(),
         &[("query", bytes)],
     );
-    (!rewritten.nan).then(|| u64::from(rewritten.rounds))
+    if rewritten.nan {
+        return 0;
+    }
+    hold(
+        "the original's rounds",
+        &rounds,
+        &rewritten.rounds,
+        &[("query", bytes)],
+    );
+    1
 }
 
 #[cfg(not(with_original))]
-fn rounds(_: &[u8], _: &[lists::Record], _: &[u32]) -> Option<u64> {
-    None
+fn original(_: &[u8], _: &[lists::Record], _: &[u32], _: u32) -> usize {
+    0
 }
 
-/// 32; 19, 20, 21 of the query; 22, 23 of the list; and 18. A damaged query may have a minimum above 1, of which the contract says less: none.
+/// 32; 19, 20, 21 of the query; 22, 23 of the list; and 18. A damaged query may have a minimum above 1, of which the contract says less where it
+/// is not strict: none.
 fn expected(
+    way: Way,
     query: &[u8],
     list: &[u8],
     lent: &Lent,
-) -> Option<Result<(Vec<u32>, Option<u64>), u32>> {
-    if lent.held.len() < HELD || lent.room.len() < HELD {
+    seen: &mut Seen,
+) -> Option<Result<(Vec<u32>, u64), u32>> {
+    if lent.held.len() < HELD || lent.room.len() < ROOM {
         return Some(Err(32));
     }
     let tree = match queries::read(query, REWRITER) {
@@ -172,70 +194,86 @@ fn expected(
         Ok(records) => records,
         Err(refusal) => return Some(Err(refusal)),
     };
-    if queries::greatest_minimum(&tree) > 1 {
+    let larger = queries::greatest_minimum(&tree) > 1;
+    if larger && way == Way::Original {
         return None;
     }
+    seen.larger += usize::from(larger);
     let rows = chosen(&tree, &records);
-    let rounds = rounds(query, &records, &rows);
+    let (_, rounds) = rewriting::rewrite(way, &tree);
+    if way == Way::Original {
+        seen.original += original(query, &records, &rows, rounds);
+    }
     Some(if rows.len() > lent.rows.len() {
         Err(18)
     } else {
-        Ok((rows, rounds))
+        Ok((rows, u64::from(rounds)))
     })
+}
+
+/// How much was compared, so that a reader sees that it is not seldom.
+#[derive(Default)]
+struct Seen {
+    records: usize,
+    original: usize,
+    larger: usize,
+    many: usize,
+}
+
+fn one(r: &mut Random, way: Way, tally: &mut Tally, seen: &mut Seen) {
+    let (mut query, mut list) = (query(r, way), random_lists::list(r));
+    if r.one_in(6) {
+        query = damaged(r, &query);
+    }
+    if r.one_in(6) {
+        list = damaged(r, &list);
+    }
+    let room = |r: &mut Random, least: usize| {
+        if r.one_in(100) {
+            r.below(least)
+        } else {
+            least + r.below(3)
+        }
+    };
+    let rows = if r.one_in(8) { r.below(4) } else { 4_000 };
+    let mut lent = Lent::new(rows, room(r, HELD), room(r, ROOM));
+    let Some(want) = expected(way, &query, &list, &lent, seen) else {
+        return;
+    };
+    let got = lent.call(way, &query, &list);
+    let inputs = [("query", &query[..]), ("list", &list)];
+    hold(
+        &format!("rewrite_and_select, {way:?}"),
+        &got,
+        &want,
+        &inputs,
+    );
+    if let Ok((rows, made)) = &got {
+        seen.records += rows.len();
+        seen.many += usize::from(*made > 1);
+    }
+    tally.count(&got);
 }
 
 fn main() {
     let (count, seed) = tally::arguments();
-    let mut tally = Tally::new("rewritten and selected beside the query as written");
-    let (mut records, mut compared, mut many) = (0, 0, 0);
-    for i in 0..count {
-        let mut r = generator(seed, i);
-        let (mut query, mut list) = (query(&mut r), random_lists::list(&mut r));
-        if r.one_in(6) {
-            query = damaged(&mut r, &query);
+    for (way, name) in [
+        (
+            Way::Original,
+            "rewritten and selected beside the query as written",
+        ),
+        (Way::Strict, "the same, strictly, at every minimum"),
+    ] {
+        let mut tally = Tally::new(name);
+        let mut seen = Seen::default();
+        for i in 0..count {
+            let mut r = generator(seed, i);
+            one(&mut r, way, &mut tally, &mut seen);
         }
-        if r.one_in(6) {
-            list = damaged(&mut r, &list);
-        }
-        let rows = if r.one_in(8) { r.below(4) } else { 4_000 };
-        let held = if r.one_in(100) {
-            r.below(HELD)
-        } else {
-            HELD + r.below(3)
-        };
-        let room = if r.one_in(100) {
-            r.below(HELD)
-        } else {
-            ROOM + r.below(3)
-        };
-        let mut lent = Lent::new(rows, held, room);
-        let Some(want) = expected(&query, &list, &lent) else {
-            continue;
-        };
-        let got = lent.call(&query, &list);
-        // rounds are compared where the original has them
-        let told = want.as_ref().ok().and_then(|(_, rounds)| *rounds);
-        let want = want.map(|(rows, rounds)| {
-            (
-                rows,
-                rounds.unwrap_or_else(|| got.as_ref().map_or(0, |(_, rounds)| *rounds)),
-            )
-        });
-        hold(
-            "rewrite_and_select",
-            &got,
-            &want,
-            &[("query", &query), ("list", &list)],
+        tally.print();
+        println!(
+            "  {} records; {} with a minimum above 1; {} of more than one round; {} with the original's rounds",
+            seen.records, seen.larger, seen.many, seen.original
         );
-        if let Ok((rows, made)) = &got {
-            records += rows.len();
-            compared += usize::from(told.is_some());
-            many += usize::from(*made > 1);
-        }
-        tally.count(&got);
     }
-    tally.print();
-    println!(
-        "  {records} records; {compared} answers with the original's rounds; {many} of more than one round"
-    );
 }

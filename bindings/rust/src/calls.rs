@@ -15,7 +15,7 @@ pub struct Answer {
     pub length: u32,
     /// The records picked, of [`select`]; else 0.
     pub count: u32,
-    /// The rounds made, of [`rewrite`], the last unchanged one included; else 0.
+    /// The rounds made, of [`rewrite`] and [`rewrite_strict`], the last unchanged one included; else 0.
     pub rounds: u32,
 }
 
@@ -52,6 +52,8 @@ mod archive {
         pub safe fn gorbihesh_parse_room() -> usize;
         /// The bytes of room that [`super::rewrite`] needs.
         pub safe fn gorbihesh_rewrite_room() -> usize;
+        /// The bytes of room that [`super::rewrite_strict`] needs.
+        pub safe fn gorbihesh_rewrite_strict_room() -> usize;
         /// The bytes of room that [`super::select`] needs.
         pub safe fn gorbihesh_select_room() -> usize;
 
@@ -81,6 +83,15 @@ mod archive {
             room_len: usize,
         ) -> Answer;
 
+        pub fn gorbihesh_rewrite_strict(
+            query: *const u8,
+            query_len: usize,
+            out: *mut u8,
+            out_len: usize,
+            room: *mut u8,
+            room_len: usize,
+        ) -> Answer;
+
         pub fn gorbihesh_select(
             query: *const u8,
             query_len: usize,
@@ -96,6 +107,7 @@ mod archive {
 
 pub use archive::gorbihesh_parse_room as parse_room;
 pub use archive::gorbihesh_rewrite_room as rewrite_room;
+pub use archive::gorbihesh_rewrite_strict_room as rewrite_strict_room;
 pub use archive::gorbihesh_select_room as select_room;
 pub use archive::gorbihesh_version as version;
 
@@ -136,6 +148,22 @@ pub fn rewrite(query: &[u8], out: &mut [u8], room: &mut [u8]) -> Answer {
     // SAFETY: as in `parse`.
     unsafe {
         archive::gorbihesh_rewrite(
+            query.as_ptr(),
+            query.len(),
+            out.as_mut_ptr(),
+            out.len(),
+            room.as_mut_ptr(),
+            room.len(),
+        )
+    }
+}
+
+/// Rewrites a stored query strictly: Should clauses are never dropped as duplicates while the minimum is above 1, so that the
+/// result picks what the query picks, at every minimum.
+pub fn rewrite_strict(query: &[u8], out: &mut [u8], room: &mut [u8]) -> Answer {
+    // SAFETY: as in `parse`.
+    unsafe {
+        archive::gorbihesh_rewrite_strict(
             query.as_ptr(),
             query.len(),
             out.as_mut_ptr(),

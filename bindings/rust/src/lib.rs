@@ -20,6 +20,8 @@ pub const VERSION: u32 = 1_000_000;
 pub const PARSE_ROOM: usize = 5_120;
 /// The bytes of working room that [`calls::rewrite`] needs.
 pub const REWRITE_ROOM: usize = 38_229;
+/// The bytes of working room that [`calls::rewrite_strict`] needs.
+pub const REWRITE_STRICT_ROOM: usize = 38_229;
 /// The bytes of working room that [`calls::select`] needs.
 pub const SELECT_ROOM: usize = 0;
 

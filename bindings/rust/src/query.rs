@@ -28,15 +28,31 @@ impl Query {
         &self.0
     }
 
-    /// Rewrites the query, round by round, until a round changes nothing. What [`crate::Setup::parse`] made
-    /// picks the same records before and after.
+    /// Rewrites the query, round by round, until a round changes nothing. Where no minimum_should_match is above 1, as in all that
+    /// [`crate::Setup::parse`] makes, it picks the same records before and after.
     ///
     /// # Errors
     /// The query is too long, malformed or too deep.
     pub fn rewrite(&self) -> Result<Rewritten, Refusal> {
+        self.rewritten_by(calls::rewrite_room(), calls::rewrite)
+    }
+
+    /// The same, but that Should clauses are never dropped as duplicates while the minimum is above 1: the result picks the same
+    /// records as the query at every minimum.
+    ///
+    /// # Errors
+    /// The query is too long, malformed or too deep.
+    pub fn rewrite_strict(&self) -> Result<Rewritten, Refusal> {
+        self.rewritten_by(calls::rewrite_strict_room(), calls::rewrite_strict)
+    }
+
+    fn rewritten_by(
+        &self,
+        room: usize,
+        call: impl Fn(&[u8], &mut [u8], &mut [u8]) -> calls::Answer,
+    ) -> Result<Rewritten, Refusal> {
         let mut out = vec![0; SELECT_QUERY_MOST];
-        let mut room = vec![0; calls::rewrite_room()];
-        let answer = calls::rewrite(&self.0, &mut out, &mut room).done()?;
+        let answer = call(&self.0, &mut out, &mut vec![0; room]).done()?;
         Ok(Rewritten {
             query: Self::from_bytes(&out[..answer.length as usize]),
             rounds: answer.rounds,

@@ -28,6 +28,33 @@ fn parses_rewrites_and_selects() {
     assert_eq!(query.select(List::new()).expect("no rows"), []);
 }
 
+/// Minimum 2 and Should `f:a` twice, the case of document 01: it matches a record with `a`, and the original rewriting drops one.
+#[test]
+fn strict_keeps_what_repeats() {
+    let clause = [b"\x21\x00\x0B", &TERM[..]].concat();
+    let twice = [b"\x03\x00\x21\x13\x00\x02\x00\x02", &clause[..], &clause].concat();
+    let query = Query::from_bytes(twice);
+    let mut list = List::new();
+    list.push(&Record::new().word("f", 0, "a")).expect("space");
+    assert_eq!(query.select(&list), Ok(vec![0]));
+    let strict = query.rewrite_strict().expect("a query");
+    assert_eq!((&strict.query, strict.rounds), (&query, 1));
+    let original = query.rewrite().expect("a query");
+    assert_eq!(
+        (original.query.as_bytes(), original.rounds),
+        (&b"\x07\x00\x00"[..], 3)
+    );
+    assert_eq!(original.query.select(&list), Ok(vec![]));
+    let cut = Query::from_bytes(&TERM[..10]);
+    assert_eq!(cut.rewrite_strict(), Err(Refusal::MalformedQuery));
+    let narrow = calls::rewrite_strict(
+        &TERM,
+        &mut [0; 10],
+        &mut vec![0; calls::rewrite_strict_room()],
+    );
+    assert_eq!(narrow.done(), Err(Refusal::LongAnswer));
+}
+
 #[test]
 fn the_setup_reaches_the_call() {
     let both = setup().joined_by(Operator::And).parse("a b");

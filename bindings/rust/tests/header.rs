@@ -45,6 +45,7 @@ fn limits_and_rooms_are_the_headers() {
     let own = BTreeMap::from([
         ("PARSE_ROOM", gorbihesh::PARSE_ROOM),
         ("REWRITE_ROOM", gorbihesh::REWRITE_ROOM),
+        ("REWRITE_STRICT_ROOM", gorbihesh::REWRITE_STRICT_ROOM),
         ("SELECT_ROOM", gorbihesh::SELECT_ROOM),
         ("TEXT_MOST", gorbihesh::TEXT_MOST),
         ("FIELD_MOST", gorbihesh::FIELD_MOST),
@@ -62,6 +63,10 @@ fn limits_and_rooms_are_the_headers() {
 fn rooms_are_the_archives() {
     assert_eq!(calls::parse_room(), gorbihesh::PARSE_ROOM);
     assert_eq!(calls::rewrite_room(), gorbihesh::REWRITE_ROOM);
+    assert_eq!(
+        calls::rewrite_strict_room(),
+        gorbihesh::REWRITE_STRICT_ROOM
+    );
     assert_eq!(calls::select_room(), gorbihesh::SELECT_ROOM);
 }
 

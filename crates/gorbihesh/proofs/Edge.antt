@@ -1,6 +1,7 @@
 -- From the answers of the crates below to the four numbers of an exported call. Assumes nothing.
 use mathlib.Core.Path.{_≡_, sym, ap, subst, _∙_}
 use Prim.Native.Nat.{ℕ, _*_, _≤_}
+use mathlib.Core.Bool.{Bool}
 use mathlib.Core.List.{List}
 use Rattle.rules.specs.Numbers.{listMost, rewriterBytes, selectionBytes}
 use Rattle.rules.specs.Bytes.{Bytes}
@@ -31,12 +32,12 @@ module _ {o a : ℕ} {f es text out room out′ room′ : List ℕ} {p : Parsed}
 
 -- ---- rewriting
 
-module _ (s out room : List ℕ) (B : Bytes s) {out′ room′ : List ℕ} {a b c : ℕ} (e : left a b 0 c out′ room′ ≡ rewriteLeft s out room) where
+module _ (strict : Bool) (s out room : List ℕ) (B : Bytes s) {out′ room′ : List ℕ} {a b c : ℕ} (e : left a b 0 c out′ room′ ≡ rewriteLeft strict s out room) where
   pub rewrite-short : b ≤ selectionBytes
-  rewrite-short = rw (ap (λ (x : Left). x .answer .written) e) (rewrite-small s B out room .0)
+  rewrite-short = rw (ap (λ (x : Left). x .answer .written) e) (rewrite-small strict s B out room .0)
 
   pub rewrite-few : c ≤ rewriterBytes
-  rewrite-few = rw (ap (λ (x : Left). x .answer .rounds) e) (rewrite-small s B out room .1)
+  rewrite-few = rw (ap (λ (x : Left). x .answer .rounds) e) (rewrite-small strict s B out room .1)
 
 pub rewrite-left : {given : Left} {out room : List ℕ} {a b c refusal len count rounds : ℕ} → left a b 0 c out room ≡ given
     → Told a b 0 c refusal len count rounds → left refusal len count rounds out room ≡ given

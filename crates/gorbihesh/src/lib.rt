@@ -5,11 +5,14 @@ use names::REWRITE_ROOM;
 use names::SELECT_ROOM;
 use parser::parse::Parsed;
 use parser::parse::parse;
+use rewriter::rounds::ORIGINAL;
+use rewriter::rounds::STRICT;
 use rewriter::rounds::rewrite;
 use selection::select::Selected;
 use selection::select::select_bytes;
 ghost use mathlib.Core.Path.{_≡_};
 ghost use Rattle.rules.specs.Numbers.{parseRoom, rewriteRoom, selectRoom};
+ghost use Rattle.rules.specs.Rewriting.{original, strictly};
 ghost use Rattle.rules.specs.Answers.{parseLeft, rewriteLeft, selectLeft};
 ghost use Rattle.gorbihesh.specs.Edge.{left, Told, version};
 
@@ -54,12 +57,30 @@ pub extern "C" fn gorbihesh_parse(
     }
 }
 
+// Rewriting in either way.
+fn rewrite_by(strict: bool, query: &[u8], out: &mut [u8], room: &mut [u8]) -> Answer
+    ensures { λ r. ⌜ left (r .refusal) (r .length) (r .count) (r .rounds) (now (out .exit)) (now (room .exit)) ≡ rewriteLeft strict (now (query .entry)) (now (out .entry)) (now (room .entry)) ⌝ }
+{
+    let a = rewrite(strict, query, out, room);
+    told(a.refusal as u32, a.len as u32, 0, a.rounds as u32)
+}
+
 #[no_mangle]
 pub extern "C" fn gorbihesh_rewrite(query: &[u8], out: &mut [u8], room: &mut [u8]) -> Answer
-    ensures { λ r. ⌜ left (r .refusal) (r .length) (r .count) (r .rounds) (now (out .exit)) (now (room .exit)) ≡ rewriteLeft (now (query .entry)) (now (out .entry)) (now (room .entry)) ⌝ }
+    ensures { λ r. ⌜ left (r .refusal) (r .length) (r .count) (r .rounds) (now (out .exit)) (now (room .exit)) ≡ rewriteLeft original (now (query .entry)) (now (out .entry)) (now (room .entry)) ⌝ }
 {
-    let a = rewrite(query, out, room);
-    told(a.refusal as u32, a.len as u32, 0, a.rounds as u32)
+    rewrite_by(ORIGINAL, query, out, room)
+}
+
+#[no_mangle]
+pub extern "C" fn gorbihesh_rewrite_strict(
+    query: &[u8],
+    out: &mut [u8],
+    room: &mut [u8],
+) -> Answer
+    ensures { λ r. ⌜ left (r .refusal) (r .length) (r .count) (r .rounds) (now (out .exit)) (now (room .exit)) ≡ rewriteLeft strictly (now (query .entry)) (now (out .entry)) (now (room .entry)) ⌝ }
+{
+    rewrite_by(STRICT, query, out, room)
 }
 
 #[no_mangle]
@@ -97,6 +118,13 @@ pub extern "C" fn gorbihesh_parse_room() -> usize
 
 #[no_mangle]
 pub extern "C" fn gorbihesh_rewrite_room() -> usize
+    ensures { λ r. ⌜ r ≡ rewriteRoom ⌝ }
+{
+    REWRITE_ROOM
+}
+
+#[no_mangle]
+pub extern "C" fn gorbihesh_rewrite_strict_room() -> usize
     ensures { λ r. ⌜ r ≡ rewriteRoom ⌝ }
 {
     REWRITE_ROOM

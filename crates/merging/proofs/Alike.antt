@@ -48,22 +48,22 @@ not-alone n e = clash e refl
 
 -- ---- a clause that no other equals
 
-module _ (m : ℕ) (k : Kind) (h : Query) where
+module _ (strict : Bool) (m : ℕ) (k : Kind) (h : Query) where
   -- one that is taken up has its signature
-  alike : (j : Kind) (p : Query) → eats m k h j p ≡ true → eqb (signatureOf (encode (held m j p))) (signatureOf (encode h)) ≡ true
+  alike : (j : Kind) (p : Query) → eats strict m k h j p ≡ true → eqb (signatureOf (encode (held m j p))) (signatureOf (encode h)) ≡ true
   alike j p e =
-      let z : h ≡ held m j p = equal-eq h (held m j p) (and-r (standsFor k j) (equal h (held m j p)) e) in
+      let z : h ≡ held m j p = equal-eq h (held m j p) (and-r (standsFor strict m k j) (equal h (held m j p)) e) in
       eq-eqb (signatureOf (encode (held m j p))) (signatureOf (encode h)) (ap (λ (q : Query). signatureOf (encode q)) (sym z))
 
-  pub none-eaten : (cs : Clauses) → having m (signatureOf (encode h)) cs ≡ 0 → (s : Float) → (stayed m k h cs ≡ cs) × (sumEaten m k h s cs ≡ s)
+  pub none-eaten : (cs : Clauses) → having m (signatureOf (encode h)) cs ≡ 0 → (s : Float) → (stayed strict m k h cs ≡ cs) × (sumEaten strict m k h s cs ≡ s)
   unfolding having stayed sumEaten
   none-eaten none n s = (refl, refl)
-  none-eaten (clause j p cs) n s = go (eats m k h j p) refl (eqb (signatureOf (encode (held m j p))) (signatureOf (encode h))) refl n (λ z. none-eaten cs z s)
+  none-eaten (clause j p cs) n s = go (eats strict m k h j p) refl (eqb (signatureOf (encode (held m j p))) (signatureOf (encode h))) refl n (λ z. none-eaten cs z s)
     where
-      go : (b : Bool) → eats m k h j p ≡ b → (c : Bool) → eqb (signatureOf (encode (held m j p))) (signatureOf (encode h)) ≡ c
+      go : (b : Bool) → eats strict m k h j p ≡ b → (c : Bool) → eqb (signatureOf (encode (held m j p))) (signatureOf (encode h)) ≡ c
           → cond c (suc (having m (signatureOf (encode h)) cs)) (having m (signatureOf (encode h)) cs) ≡ 0
-          → (having m (signatureOf (encode h)) cs ≡ 0 → (stayed m k h cs ≡ cs) × (sumEaten m k h s cs ≡ s))
-          → (cond b (stayed m k h cs) (clause j p (stayed m k h cs)) ≡ clause j p cs) × (sumEaten m k h (cond b (fed m j p s) s) cs ≡ s)
+          → (having m (signatureOf (encode h)) cs ≡ 0 → (stayed strict m k h cs ≡ cs) × (sumEaten strict m k h s cs ≡ s))
+          → (cond b (stayed strict m k h cs) (clause j p (stayed strict m k h cs)) ≡ clause j p cs) × (sumEaten strict m k h (cond b (fed m j p s) s) cs ≡ s)
       go true e c f z ih = clash (alike j p e) (f ∙ gone c z)
         where
           gone : (c : Bool) → cond c (suc (having m (signatureOf (encode h)) cs)) (having m (signatureOf (encode h)) cs) ≡ 0 → c ≡ false
@@ -72,13 +72,13 @@ module _ (m : ℕ) (k : Kind) (h : Query) where
       go false e true f z ih = absurd (omega arith)
       go false e false f z ih = let r = ih z in (ap (clause j p) (r .0), r .1)
 
-  pub stayed-having : (g : ℕ) (cs : Clauses) → having m g (stayed m k h cs) ≤ having m g cs
+  pub stayed-having : (g : ℕ) (cs : Clauses) → having m g (stayed strict m k h cs) ≤ having m g cs
   unfolding having stayed
   stayed-having g none = omega arith
-  stayed-having g (clause j p cs) = go (eats m k h j p) (eqb (signatureOf (encode (held m j p))) g) refl (stayed-having g cs)
+  stayed-having g (clause j p cs) = go (eats strict m k h j p) (eqb (signatureOf (encode (held m j p))) g) refl (stayed-having g cs)
     where
-      go : (b c : Bool) → eqb (signatureOf (encode (held m j p))) g ≡ c → having m g (stayed m k h cs) ≤ having m g cs
-          → having m g (cond b (stayed m k h cs) (clause j p (stayed m k h cs))) ≤ cond c (suc (having m g cs)) (having m g cs)
+      go : (b c : Bool) → eqb (signatureOf (encode (held m j p))) g ≡ c → having m g (stayed strict m k h cs) ≤ having m g cs
+          → having m g (cond b (stayed strict m k h cs) (clause j p (stayed strict m k h cs))) ≤ cond c (suc (having m g cs)) (having m g cs)
       go true true e l = omega arith
       go true false e l = l
       go false true e l = rw e (omega arith)
@@ -97,12 +97,12 @@ having-fewer m g k q cs = go (eqb (signatureOf (encode (held m k q))) g)
     go false = omega arith
 
 -- so it is as if it had gone over them
-pub alone-ate : {m b k at end : ℕ} {room : List ℕ} (table : List ℕ) (s : Float) → Eatable b k at end room → Alone m table b at end room
+pub alone-ate : {strict : Bool} {m b k at end : ℕ} {room : List ℕ} (table : List ℕ) (s : Float) → Eatable b k at end room → Alone m table b at end room
     → cellOf table (signatureOf (within b at room)) ≡ 1 → (i : Kind) (h : Query) (cs : Clauses) → kindTag i ≡ k → Is (within b at room) h → Are (within at end room) cs
-    → Ate m at end room i h cs s at s room
-alone-ate {m} {b} {k} {at} {end} {room} table s E A t i h cs ei ih a =
+    → Ate strict m at end room i h cs s at s room
+alone-ate {strict} {m} {b} {k} {at} {end} {room} table s E A t i h cs ei ih a =
     let z : having m (signatureOf (encode h)) cs ≡ 0 = ap (λ (l : List ℕ). having m (signatureOf l) cs) (ih .form) ∙ A cs a t in
-    let r = none-eaten m i h cs z s in
+    let r = none-eaten strict m i h cs z s in
     record {
       kept = refl;
       low = omega arith;

@@ -30,20 +30,20 @@ use Rattle.merging.proofs.Rows.{encodes-snoc, join-snoc, valids-snoc}
 
 -- ---- whether one is taken up
 
-module _ (m k : ℕ) (h : List ℕ) (j : ℕ) (q : List ℕ) (a : Bool) (ea : (i l : Kind) → kindTag i ≡ k → kindTag l ≡ j → a ≡ standsFor i l) where
-  pub eats-alike : a ≡ true → (v : List ℕ) → ((x : Query) (l : Kind) → Is q x → kindTag l ≡ j → Is v (held m l x)) → (r : Bool) → r ≡ same h v → Eats m k h j q r
+module _ (strict : Bool) (m k : ℕ) (h : List ℕ) (j : ℕ) (q : List ℕ) (a : Bool) (ea : (i l : Kind) → kindTag i ≡ k → kindTag l ≡ j → a ≡ standsFor strict m i l) where
+  pub eats-alike : a ≡ true → (v : List ℕ) → ((x : Query) (l : Kind) → Is q x → kindTag l ≡ j → Is v (held m l x)) → (r : Bool) → r ≡ same h v → Eats strict m k h j q r
   eats-alike t v ev r er i l x y ei el ix iy =
       let w = ev y l iy el in
       rw (sym (ea i l ei el) ∙ t) (er ∙ ap (λ (s : List ℕ). same s v) (sym (ix .form)) ∙ ap (same (encode x)) (sym (w .form))
       ∙ sym (equal-bytes x (held m l y) (ix .valid) (w .valid)))
 
-  pub eats-unlike : a ≡ false → Eats m k h j q false
+  pub eats-unlike : a ≡ false → Eats strict m k h j q false
   eats-unlike n i l x y ei el ix iy = sym (and-no-l (equal x (held m l y)) (sym (ea i l ei el) ∙ n))
 
 -- ---- the loop
 
 -- the clauses from u on are left; of those before them the ones that were not taken up stand right before u
-pub record Eating (m b k at end : ℕ) (s₀ : Float) (room₀ room : List ℕ) (s : Float) (from u : ℕ) : Type 0 where
+pub record Eating (strict : Bool) (m b k at end : ℕ) (s₀ : Float) (room₀ room : List ℕ) (s : Float) (from u : ℕ) : Type 0 where
   pub all : Eatable b k at end room₀
   pub long : length room ≡ length room₀
   pub kept : take at room ≡ take at room₀
@@ -54,14 +54,14 @@ pub record Eating (m b k at end : ℕ) (s₀ : Float) (room₀ room : List ℕ) 
   pub are-left : Are (within u end room) left
   pub done : Clauses
   pub are-done : Are (within from u room) done
-  pub whole : join done (stayed m (all .kind) (all .query) left) ≡ stayed m (all .kind) (all .query) (all .clauses)
-  pub summed : sumEaten m (all .kind) (all .query) s left ≡ sumEaten m (all .kind) (all .query) s₀ (all .clauses)
+  pub whole : join done (stayed strict m (all .kind) (all .query) left) ≡ stayed strict m (all .kind) (all .query) (all .clauses)
+  pub summed : sumEaten strict m (all .kind) (all .query) s left ≡ sumEaten strict m (all .kind) (all .query) s₀ (all .clauses)
   pub grown : ((from ≡ at) × (s ≡ s₀)) ⊎ (at + 6 ≤ from)
 
 empty-within : (a : ℕ) (room : List ℕ) → within a a room ≡ []
 empty-within a room = let z : a - a ≡ 0 = omega arith in ap (λ (n : ℕ). take n (drop a room)) z
 
-pub eating-start : {m b k at end : ℕ} (s : Float) {room : List ℕ} → Eatable b k at end room → Eating m b k at end s room room s at at
+pub eating-start : {strict : Bool} {m b k at end : ℕ} (s : Float) {room : List ℕ} → Eatable b k at end room → Eating strict m b k at end s room room s at at
 unfolding encodes Valids
 eating-start {at = at} s {room} E = record {
   all = E;
@@ -79,7 +79,7 @@ eating-start {at = at} s {room} E = record {
   grown = inl (refl, refl);
 }
 
-module _ {m b k at end : ℕ} {s₀ : Float} {room₀ room : List ℕ} {s : Float} {from u : ℕ} (g : Eating m b k at end s₀ room₀ room s from u) where
+module _ {strict : Bool} {m b k at end : ℕ} {s₀ : Float} {room₀ room : List ℕ} {s : Float} {from u : ℕ} (g : Eating strict m b k at end s₀ room₀ room s from u) where
   pub inside : end ≤ length room
   inside = omega (arith, g .all .fits, g .long)
 
@@ -101,24 +101,24 @@ module _ {m b k at end : ℕ} {s₀ : Float} {room₀ room : List ℕ} {s : Floa
       are-next : Are (within v end room) (here .others)
       are-next = record { valid = here .are .valid; form = here .are .form ∙ ap (λ (i : ℕ). within i end room) (sym (clause-end here v ev)) }
 
-      module _ (r : Bool) (er : Eats m k (within b at room) j (within (u + 3) v room) r) where
-        test : eats m (g .all .kind) (g .all .query) (here .kind) (here .query) ≡ r
+      module _ (r : Bool) (er : Eats strict m k (within b at room) j (within (u + 3) v room) r) where
+        test : eats strict m (g .all .kind) (g .all .query) (here .kind) (here .query) ≡ r
         test = sym (er (g .all .kind) (here .kind) (g .all .query) (here .query) (g .all .tag) tag own (clause-is here v ev))
 
-        unroll-stayed : stayed m (g .all .kind) (g .all .query) (g .left)
-            ≡ cond r (stayed m (g .all .kind) (g .all .query) (here .others)) (clause (here .kind) (here .query) (stayed m (g .all .kind) (g .all .query) (here .others)))
+        unroll-stayed : stayed strict m (g .all .kind) (g .all .query) (g .left)
+            ≡ cond r (stayed strict m (g .all .kind) (g .all .query) (here .others)) (clause (here .kind) (here .query) (stayed strict m (g .all .kind) (g .all .query) (here .others)))
         unfolding stayed
-        unroll-stayed = ap (stayed m (g .all .kind) (g .all .query)) (here .split) ∙ rw test
+        unroll-stayed = ap (stayed strict m (g .all .kind) (g .all .query)) (here .split) ∙ rw test
 
-        unroll-sum : sumEaten m (g .all .kind) (g .all .query) s (g .left)
-            ≡ sumEaten m (g .all .kind) (g .all .query) (cond r (fed m (here .kind) (here .query) s) s) (here .others)
+        unroll-sum : sumEaten strict m (g .all .kind) (g .all .query) s (g .left)
+            ≡ sumEaten strict m (g .all .kind) (g .all .query) (cond r (fed m (here .kind) (here .query) s) s) (here .others)
         unfolding sumEaten
         unroll-sum =
-            ap (sumEaten m (g .all .kind) (g .all .query) s) (here .split)
-            ∙ ap (λ (z : Bool). sumEaten m (g .all .kind) (g .all .query) (cond z (fed m (here .kind) (here .query) s) s) (here .others)) test
+            ap (sumEaten strict m (g .all .kind) (g .all .query) s) (here .split)
+            ∙ ap (λ (z : Bool). sumEaten strict m (g .all .kind) (g .all .query) (cond z (fed m (here .kind) (here .query) s) s) (here .others)) test
 
         -- it stays
-        pub eat-not : r ≡ false → Eating m b k at end s₀ room₀ room s from v
+        pub eat-not : r ≡ false → Eating strict m b k at end s₀ room₀ room s from v
         eat-not n =
             let x = next in
             let e = clause-end here v ev in
@@ -141,7 +141,7 @@ module _ {m b k at end : ℕ} {s₀ : Float} {room₀ room : List ℕ} {s : Floa
                     ∙ joined room from u v (g .mid) (omega arith);
               };
               whole =
-                  join-snoc (g .done) (here .kind) (here .query) (stayed m (g .all .kind) (g .all .query) (here .others))
+                  join-snoc (g .done) (here .kind) (here .query) (stayed strict m (g .all .kind) (g .all .query) (here .others))
                   ∙ ap (join (g .done)) (sym (unroll-stayed ∙ rw n)) ∙ g .whole;
               summed = sym (unroll-sum ∙ rw n) ∙ g .summed;
               grown = g .grown;
@@ -156,7 +156,7 @@ module _ {m b k at end : ℕ} {s₀ : Float} {room₀ room : List ℕ} {s : Floa
           pub eat-fits : from + (v - u) + length (take (u - from) (drop from room)) ≤ length room
           eat-fits = let n = next in omega (arith, moved, inside, g .mid)
 
-          pub eat-one : Eating m b k at end s₀ room₀ room₁ x (from + (v - u)) v
+          pub eat-one : Eating strict m b k at end s₀ room₀ room₁ x (from + (v - u)) v
           eat-one =
               let n = next in
               let l = moved in
@@ -188,13 +188,13 @@ module _ {m b k at end : ℕ} {s₀ : Float} {room₀ room : List ℕ} {s : Floa
                 };
                 whole = ap (join (g .done)) (sym (unroll-stayed ∙ rw t)) ∙ g .whole;
                 summed =
-                    ap (λ (y : Float). sumEaten m (g .all .kind) (g .all .query) y (here .others)) (ex (here .kind) (here .query) tag (clause-is here v ev))
+                    ap (λ (y : Float). sumEaten strict m (g .all .kind) (g .all .query) y (here .others)) (ex (here .kind) (here .query) tag (clause-is here v ev))
                     ∙ sym (unroll-sum ∙ rw t) ∙ g .summed;
                 grown = inr (omega (arith, g .low));
               }
 
   pub eating-end : end ≤ u → (i : Kind) (h : Query) (cs : Clauses) → kindTag i ≡ k → Is (within b at room₀) h → Are (within at end room₀) cs
-      → Ate m at end room₀ i h cs s₀ from s room
+      → Ate strict m at end room₀ i h cs s₀ from s room
   unfolding stayed sumEaten
   eating-end p i h cs ei ih a =
       let n = no-clause-at room u end (g .left) (g .are-left) p in
@@ -202,9 +202,9 @@ module _ {m b k at end : ℕ} {s₀ : Float} {room₀ room : List ℕ} {s : Floa
       let ek : g .all .kind ≡ i = same-kind (g .all .kind) i (g .all .tag ∙ sym ei) in
       let eh : g .all .query ≡ h = is-same (g .all .is) ih in
       let ec : g .all .clauses ≡ cs = are-same (g .all .are) a in
-      let d : g .done ≡ stayed m i h cs =
-      sym (join-none (g .done)) ∙ ap (join (g .done)) (sym (ap (stayed m (g .all .kind) (g .all .query)) n)) ∙ g .whole
-      ∙ ap (λ (x : Kind). stayed m x (g .all .query) (g .all .clauses)) ek ∙ ap (λ (x : Query). stayed m i x (g .all .clauses)) eh ∙ ap (stayed m i h) ec in
+      let d : g .done ≡ stayed strict m i h cs =
+      sym (join-none (g .done)) ∙ ap (join (g .done)) (sym (ap (stayed strict m (g .all .kind) (g .all .query)) n)) ∙ g .whole
+      ∙ ap (λ (x : Kind). stayed strict m x (g .all .query) (g .all .clauses)) ek ∙ ap (λ (x : Query). stayed strict m i x (g .all .clauses)) eh ∙ ap (stayed strict m i h) ec in
       record {
         kept = g .kept;
         low = g .low;
@@ -214,7 +214,7 @@ module _ {m b k at end : ℕ} {s₀ : Float} {room₀ room : List ℕ} {s : Floa
           form = ap encodes (sym d) ∙ g .are-done .form ∙ ap (λ (e : ℕ). within from e room) u-end;
         };
         sum =
-            sym (ap (sumEaten m (g .all .kind) (g .all .query) s) n) ∙ g .summed
-            ∙ ap (λ (x : Kind). sumEaten m x (g .all .query) s₀ (g .all .clauses)) ek ∙ ap (λ (x : Query). sumEaten m i x s₀ (g .all .clauses)) eh ∙ ap (sumEaten m i h s₀) ec;
+            sym (ap (sumEaten strict m (g .all .kind) (g .all .query) s) n) ∙ g .summed
+            ∙ ap (λ (x : Kind). sumEaten strict m x (g .all .query) s₀ (g .all .clauses)) ek ∙ ap (λ (x : Query). sumEaten strict m i x s₀ (g .all .clauses)) eh ∙ ap (sumEaten strict m i h s₀) ec;
         grown = g .grown;
       }

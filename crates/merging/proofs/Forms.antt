@@ -3,7 +3,7 @@ use mathlib.Core.Path.{_≡_, refl, sym, ap, _∙_, subst}
 use mathlib.Core.Logic.{_⊎_, inl, inr}
 use Prim.Native.Nat.{ℕ, _-_, _≤_, _<_}
 use mathlib.Core.List.{List}
-use mathlib.Core.Bool.{true, false}
+use mathlib.Core.Bool.{Bool, true, false}
 use native.Mathlib.Omega.{arith}
 use lib.ListN.{length, take, drop}
 use lib.Dec.{leb, eqb}
@@ -24,7 +24,7 @@ use Rattle.rules.proofs.stored.Equal.{encode-injective, encodes-injective}
 use Rattle.rules.proofs.stored.Sizes.{length-encode}
 use Rattle.rules.proofs.stored.Views.{Front, front-of, no-front}
 use Rattle.rules.proofs.rewriting.Boosts.{widened-one}
-use Rattle.rules.proofs.rewriting.Kinds.{stands-is, stands-self}
+use Rattle.rules.proofs.rewriting.Kinds.{stands-is}
 
 -- ---- one query, one row of clauses
 
@@ -133,28 +133,51 @@ module _ (m : ℕ) (j : Kind) (k : ℕ) (e : kindTag j ≡ k) where
       go mustNot e = refl
       go filter e = refl
 
-module _ (i l : Kind) (j k : ℕ) (ei : kindTag i ≡ j) (el : kindTag l ≡ k) where
-  pub stands-equal : j ≡ k → true ≡ standsFor i l
-  stands-equal h = sym (ap (λ (x : Kind). standsFor x l) (same-kind i l (ei ∙ h ∙ sym el)) ∙ stands-self l)
+-- a clause of its own kind
+module _ (strict : Bool) (m : ℕ) (l : Kind) (k : ℕ) (e : kindTag l ≡ k) where
+  pub own-strict : k ≡ 0x21 → strict ≡ true → leb m 1 ≡ standsFor strict m l l
+  own-strict h s = rw (kind-is l 0x21 (e ∙ h), s)
 
-  pub stands-filter : k ≡ 0x23 → (j ≡ k → ⊥) → eqb j 0x20 ≡ standsFor i l
-  stands-filter h n = alike (eqb j 0x20) (standsFor i l) there back
+  pub own-original : strict ≡ false → true ≡ standsFor strict m l l
+  own-original s = rw s (go l)
     where
-      there : eqb j 0x20 ≡ true → standsFor i l ≡ true
+      go : (l : Kind) → true ≡ standsFor false m l l
+      go must = refl
+      go should = refl
+      go mustNot = refl
+      go filter = refl
+
+  pub own-other : (k ≡ 0x21 → ⊥) → true ≡ standsFor strict m l l
+  own-other n = go l e
+    where
+      go : (l : Kind) → kindTag l ≡ k → true ≡ standsFor strict m l l
+      go must e = refl
+      go should e = absurd (n (sym e))
+      go mustNot e = refl
+      go filter e = refl
+
+module _ (strict : Bool) (m : ℕ) (i l : Kind) (j k : ℕ) (ei : kindTag i ≡ j) (el : kindTag l ≡ k) where
+  pub stands-equal : j ≡ k → (r : Bool) → r ≡ standsFor strict m l l → r ≡ standsFor strict m i l
+  stands-equal h r e = e ∙ sym (ap (λ (x : Kind). standsFor strict m x l) (same-kind i l (ei ∙ h ∙ sym el)))
+
+  pub stands-filter : k ≡ 0x23 → (j ≡ k → ⊥) → eqb j 0x20 ≡ standsFor strict m i l
+  stands-filter h n = alike (eqb j 0x20) (standsFor strict m i l) there back
+    where
+      there : eqb j 0x20 ≡ true → standsFor strict m i l ≡ true
       there t =
           let a : i ≡ must = kind-is i 0x20 (ei ∙ eqb-true j 0x20 t) in
           let b : l ≡ filter = kind-is l 0x23 (el ∙ h) in
-          ap (λ (x : Kind). standsFor x l) a ∙ ap (standsFor must) b
+          ap (λ (x : Kind). standsFor strict m x l) a ∙ ap (standsFor strict m must) b
 
       pass : (i ≡ l) ⊎ ((i ≡ must) × (l ≡ filter)) → eqb j 0x20 ≡ true
       pass (inl e) = absurd (n (sym ei ∙ ap kindTag e ∙ el))
       pass (inr w) = eq-eqb j 0x20 (sym ei ∙ ap kindTag (w .0))
 
-      back : standsFor i l ≡ true → eqb j 0x20 ≡ true
-      back t = pass (stands-is i l t)
+      back : standsFor strict m i l ≡ true → eqb j 0x20 ≡ true
+      back t = pass (stands-is strict m i l t)
 
-  pub stands-other : (j ≡ k → ⊥) → (k ≡ 0x23 → ⊥) → false ≡ standsFor i l
-  stands-other n o = sym (fails (standsFor i l) (λ t. pass (stands-is i l t)))
+  pub stands-other : (j ≡ k → ⊥) → (k ≡ 0x23 → ⊥) → false ≡ standsFor strict m i l
+  stands-other n o = sym (fails (standsFor strict m i l) (λ t. pass (stands-is strict m i l t)))
     where
       pass : (i ≡ l) ⊎ ((i ≡ must) × (l ≡ filter)) → ⊥
       pass (inl e) = n (sym ei ∙ ap kindTag e ∙ el)

@@ -59,7 +59,7 @@ put-behind {room} {room₁} {w} {v} {s} P fits a t h e =
     sym (joined room₁ a w v h (omega (arith, P .place))) ∙ ap {B = List ℕ} (λ l. l ++ within w v room₁) (put-below P fits a w h (omega arith) ∙ e) ∙ ap {B = List ℕ} (λ l. t ++ l) new
 
 -- the clauses from t up to `last` are left, and what is kept of those before them stands in the first w bytes
-pub record Merging (end m : ℕ) (table room₀ room : List ℕ) (t w last : ℕ) : Type 0 where
+pub record Merging (strict : Bool) (end m : ℕ) (table room₀ room : List ℕ) (t w last : ℕ) : Type 0 where
   pub all : Mergeable end room₀
   pub long : length room ≡ length room₀
   pub low : w ≤ t
@@ -69,15 +69,15 @@ pub record Merging (end m : ℕ) (table room₀ room : List ℕ) (t w last : ℕ
   pub done : Clauses
   pub place : w ≡ length (encodes done)
   pub there : within 0 w room ≡ encodes done
-  pub whole : join done (mergedClauses m left) ≡ mergedClauses m (all .clauses)
+  pub whole : join done (mergedClauses strict m left) ≡ mergedClauses strict m (all .clauses)
   pub fits : last + clauseCounts left ≤ length room
   pub small : last + clauseCounts left < 65536
   pub noted : Noted m table left
 
-pub merging-start : {end : ℕ} (m : ℕ) (table : List ℕ) {room : List ℕ} → Mergeable end room → ((cs : Clauses) → Are (within 0 end room) cs → Noted m table cs)
-    → Merging end m table room room 0 0 end
+pub merging-start : (strict : Bool) {end : ℕ} (m : ℕ) (table : List ℕ) {room : List ℕ} → Mergeable end room → ((cs : Clauses) → Are (within 0 end room) cs → Noted m table cs)
+    → Merging strict end m table room room 0 0 end
 unfolding encodes
-merging-start m table M N = record {
+merging-start strict m table M N = record {
   all = M;
   long = refl;
   low = omega arith;
@@ -93,7 +93,7 @@ merging-start m table M N = record {
   noted = N (M .clauses) (M .are);
 }
 
-module _ {end m : ℕ} {table room₀ room : List ℕ} {t w last : ℕ} (g : Merging end m table room₀ room t w last) where
+module _ {strict : Bool} {end m : ℕ} {table room₀ room : List ℕ} {t w last : ℕ} (g : Merging strict end m table room₀ room t w last) where
   pub inside : last ≤ length room
   inside = omega (arith, g .fits)
 
@@ -164,9 +164,9 @@ module _ {end m : ℕ} {table room₀ room : List ℕ} {t w last : ℕ} (g : Mer
 
         -- what is left of those behind it stands from f on, and its sum is s
         module _ {f : ℕ} {s : Float} {room₁ : List ℕ}
-            (ates : (j : Kind) (q : Query) (cs : Clauses) → kindTag j ≡ k′ → Is (within b e room) q → Are (within e last room) cs → Ate m e last room j q cs x f s room₁)
+            (ates : (j : Kind) (q : Query) (cs : Clauses) → kindTag j ≡ k′ → Is (within b e room) q → Are (within e last room) cs → Ate strict m e last room j q cs x f s room₁)
             (l₁ : length room₁ ≡ length room) (n : ℕ) (en : n ≡ mergedSize s (e - b)) where
-          A : Ate m e last room (here .kind) h (here .others) x f s room₁
+          A : Ate strict m e last room (here .kind) h (here .others) x f s room₁
           A = ates (here .kind) h (here .others) (sym (F .kind)) base-is others-are
 
           -- at most one byte is missing
@@ -200,18 +200,18 @@ module _ {end m : ℕ} {table room₀ room : List ℕ} {t w last : ℕ} (g : Mer
                 within-same room₂ room₁ a c f i (omega (arith, A .low)) (W .kept) ∙ within-same room₁ room a c e i j (A .kept)
 
             abbrev new : Query
-            new = reboosted (here .kind) h (sumEaten m (here .kind) h (ownSum m (here .kind) (here .query)) (here .others))
+            new = reboosted (here .kind) h (sumEaten strict m (here .kind) h (ownSum m (here .kind) (here .query)) (here .others))
 
-            sum-is : s ≡ sumEaten m (here .kind) h (ownSum m (here .kind) (here .query)) (here .others)
-            sum-is = A .sum ∙ ap (λ (y : Float). sumEaten m (here .kind) h y (here .others)) (F .sum)
+            sum-is : s ≡ sumEaten strict m (here .kind) h (ownSum m (here .kind) (here .query)) (here .others)
+            sum-is = A .sum ∙ ap (λ (y : Float). sumEaten strict m (here .kind) h y (here .others)) (F .sum)
 
             bytes-here : reboostedBytes s (within b e room₂) ≡ encode new
             bytes-here =
                 let l = base-low in
                 ap (reboostedBytes s) (same b e (l .1) (omega arith) ∙ base-here)
                 ∙ ap (λ (y : Float). reboostedBytes y (encode h)) sum-is
-                ∙ sym (reboosted-bytes m (here .kind) h (sumEaten m (here .kind) h (ownSum m (here .kind) (here .query)) (here .others))
-                (λ n. sum-stays m (here .kind) h (ownSum m (here .kind) (here .query)) n (here .others) ∙ own-one m (here .kind) (here .query) n))
+                ∙ sym (reboosted-bytes m (here .kind) h (sumEaten strict m (here .kind) h (ownSum m (here .kind) (here .query)) (here .others))
+                (λ n. sum-stays strict m (here .kind) h (ownSum m (here .kind) (here .query)) n (here .others) ∙ own-one m (here .kind) (here .query) n))
 
             module _ {u : ℕ} {room₃ : List ℕ} (P : Put room₂ w (part k′ (reboostedBytes s (within b e room₂))) u room₃) where
               size : length (part k′ (reboostedBytes s (within b e room₂))) ≡ n
@@ -220,7 +220,7 @@ module _ {end m : ℕ} {table room₀ room : List ℕ} {t w last : ℕ} (g : Mer
                   let z = within-length room₂ b e (l .1) (omega (arith, inside)) in
                   omega (arith, en, merged-size s (within b e room₂), ap (mergedSize s) z)
 
-              pub merge-next : Merging end m table room₀ room₃ v u (last + (v - f))
+              pub merge-next : Merging strict end m table room₀ room₃ v u (last + (v - f))
               merge-next =
                   let nr = near in
                   let c = counted in
@@ -236,7 +236,7 @@ module _ {end m : ℕ} {table room₀ room : List ℕ} {t w last : ℕ} (g : Mer
                     long = put-long P fits ∙ l₂ ∙ l₁ ∙ g .long;
                     low = omega (arith, P .place, W .place);
                     high = omega arith;
-                    left = stayed m (here .kind) h (here .others);
+                    left = stayed strict m (here .kind) h (here .others);
                     are-left = record {
                       valid = A .are .valid;
                       form =
@@ -250,28 +250,28 @@ module _ {end m : ℕ} {table room₀ room : List ℕ} {t w last : ℕ} (g : Mer
                         put-behind P fits 0 (encodes (g .done)) (omega arith) (same 0 w (omega arith) lo ∙ g .there)
                         ∙ ap {B = List ℕ} (λ l. encodes (g .done) ++ l) bytes ∙ sym (encodes-snoc (g .done) (here .kind) new);
                     whole = next-whole;
-                    fits = omega (arith, g .fits, put-long P fits, stayed-count m (here .kind) h (here .others));
-                    small = omega (arith, g .small, stayed-count m (here .kind) h (here .others));
+                    fits = omega (arith, g .fits, put-long P fits, stayed-count strict m (here .kind) h (here .others));
+                    small = omega (arith, g .small, stayed-count strict m (here .kind) h (here .others));
                     noted = λ i y. omega (
                       arith,
                       g .noted i y,
-                      stayed-having m (here .kind) h i (here .others),
+                      stayed-having strict m (here .kind) h i (here .others),
                       having-fewer m i (here .kind) (here .query) (here .others),
                       ap (having m i) (here .split),
                     );
                   }
                 where
-                  next-whole : join (snoc (g .done) (here .kind) new) (mergedClauses m (stayed m (here .kind) h (here .others))) ≡ mergedClauses m (g .all .clauses)
+                  next-whole : join (snoc (g .done) (here .kind) new) (mergedClauses strict m (stayed strict m (here .kind) h (here .others))) ≡ mergedClauses strict m (g .all .clauses)
                   next-whole =
-                      join-snoc (g .done) (here .kind) new (mergedClauses m (stayed m (here .kind) h (here .others)))
-                      ∙ ap (join (g .done)) (sym (ap (mergedClauses m) (here .split) ∙ merged-first m (here .kind) (here .query) (here .others)))
+                      join-snoc (g .done) (here .kind) new (mergedClauses strict m (stayed strict m (here .kind) h (here .others)))
+                      ∙ ap (join (g .done)) (sym (ap (mergedClauses strict m) (here .split) ∙ merged-first strict m (here .kind) (here .query) (here .others)))
                       ∙ g .whole
 
-  pub merging-end : last ≤ t → (cs : Clauses) → Are (within 0 end room₀) cs → Stands 0 room₀ w (encodes (mergedClauses m cs)) room
+  pub merging-end : last ≤ t → (cs : Clauses) → Are (within 0 end room₀) cs → Stands 0 room₀ w (encodes (mergedClauses strict m cs)) room
   merging-end p cs a =
-      let n : mergedClauses m (g .left) ≡ none = ap (mergedClauses m) (no-clause-at room t last (g .left) (g .are-left) p) ∙ merged-none m in
-      let c : g .done ≡ mergedClauses m cs =
-      sym (join-none (g .done)) ∙ ap (join (g .done)) (sym n) ∙ g .whole ∙ ap (mergedClauses m) (are-same (g .all .are) a) in
+      let n : mergedClauses strict m (g .left) ≡ none = ap (mergedClauses strict m) (no-clause-at room t last (g .left) (g .are-left) p) ∙ merged-none strict m in
+      let c : g .done ≡ mergedClauses strict m cs =
+      sym (join-none (g .done)) ∙ ap (join (g .done)) (sym n) ∙ g .whole ∙ ap (mergedClauses strict m) (are-same (g .all .are) a) in
       let z : w - 0 ≡ w = omega arith in
       record {
         long = g .long;

@@ -17,8 +17,8 @@ use Rattle.rules.specs.Eating.{held, eats, ownSum, fed, sumEaten, stayed}
 use Rattle.places.specs.Within.{within}
 
 -- whether a clause of kind k that is compared by the query in h takes up one of kind j with the query in q
-abbrev pub Eats : ℕ → ℕ → List ℕ → ℕ → List ℕ → Bool → Type 0
-Eats m k h j q r = (i l : Kind) (x y : Query) → kindTag i ≡ k → kindTag l ≡ j → Is h x → Is q y → r ≡ eats m i x l y
+abbrev pub Eats : Bool → ℕ → ℕ → List ℕ → ℕ → List ℕ → Bool → Type 0
+Eats strict m k h j q r = (i l : Kind) (x y : Query) → kindTag i ≡ k → kindTag l ≡ j → Is h x → Is q y → r ≡ eats strict m i x l y
 
 -- the sum s once one of kind j with the query in q was taken up
 abbrev pub Fed : ℕ → Float → ℕ → List ℕ → Float → Type 0
@@ -43,12 +43,12 @@ pub record Eatable (b k at end : ℕ) (room : List ℕ) : Type 0 where
   pub fits : end ≤ length room
 
 -- what is left of the clauses cs stands from e on, and the sum has become s′. Where any was taken up, so much space is before them.
-pub record Ate (m at end : ℕ) (room : List ℕ) (k : Kind) (h : Query) (cs : Clauses) (s : Float) (e : ℕ) (s′ : Float) (room′ : List ℕ) : Type 0 where
+pub record Ate (strict : Bool) (m at end : ℕ) (room : List ℕ) (k : Kind) (h : Query) (cs : Clauses) (s : Float) (e : ℕ) (s′ : Float) (room′ : List ℕ) : Type 0 where
   pub kept : take at room′ ≡ take at room
   pub low : at ≤ e
   pub high : e ≤ end
-  pub are : Are (within e end room′) (stayed m k h cs)
-  pub sum : s′ ≡ sumEaten m k h s cs
+  pub are : Are (within e end room′) (stayed strict m k h cs)
+  pub sum : s′ ≡ sumEaten strict m k h s cs
   pub grown : ((e ≡ at) × (s′ ≡ s)) ⊎ (at + 6 ≤ e)
 
 -- the base's bytes with the sum put back, where it is not 1; and the length of a clause that holds them

@@ -72,16 +72,28 @@ fn summable(least: usize, k: u8) -> bool
     }
 }
 
-fn stands_for(j: u8, k: u8) -> bool
-    ensures { λ r. ⌜ ((i l : Kind) → kindTag i ≡ j → kindTag l ≡ k → r ≡ standsFor i l) ⌝ }
+// Whether an equal clause of kind k stands for another of its kind: a strict one of a Should does so only where the minimum is at most 1.
+fn stands_for_own(least: usize, strict: bool, k: u8) -> bool
+    ensures { λ r. ⌜ ((l : Kind) → kindTag l ≡ k → r ≡ standsFor strict least l l) ⌝ }
+{
+    if k == SHOULD_TAG {
+        if strict {
+            return least <= 1;
+        }
+    }
+    true
+}
+
+fn stands_for(least: usize, strict: bool, j: u8, k: u8) -> bool
+    ensures { λ r. ⌜ ((i l : Kind) → kindTag i ≡ j → kindTag l ≡ k → r ≡ standsFor strict least i l) ⌝ }
 {
     if j == k {
-        true
-    } else if k == FILTER_TAG {
-        j == MUST_TAG
-    } else {
-        false
+        return stands_for_own(least, strict, k);
     }
+    if k == FILTER_TAG {
+        return j == MUST_TAG;
+    }
+    false
 }
 
 // A query with one outer boost taken off.
@@ -117,11 +129,11 @@ fn held(least: usize, k: u8, q: &[u8]) -> &[u8]
 }
 
 // Does a clause of kind k that is compared by h stand for one of kind j with the query q?
-fn eats(least: usize, k: u8, h: &[u8], j: u8, q: &[u8]) -> bool
+fn eats(least: usize, strict: bool, k: u8, h: &[u8], j: u8, q: &[u8]) -> bool
     requires { ⌜ Stored (now q) ⌝ }
-    ensures { λ r. ⌜ Eats least k (now (h .entry)) j (now (q .entry)) r ⌝ }
+    ensures { λ r. ⌜ Eats strict least k (now (h .entry)) j (now (q .entry)) r ⌝ }
 {
-    if stands_for(k, j) {
+    if stands_for(least, strict, k, j) {
         return same(h, held(least, j, q));
     }
     false
@@ -165,9 +177,16 @@ struct Eaten {
 }
 
 // Goes over the clauses from `at`, where the base of m ends, up to `end`.
-fn eat(room: &mut [u8], m: Merged, at: usize, end: usize, least: usize) -> Eaten
+fn eat(
+    room: &mut [u8],
+    m: Merged,
+    at: usize,
+    end: usize,
+    least: usize,
+    strict: bool,
+) -> Eaten
     requires { ⌜ Eatable (m .base) (m .kind) at end (now room) ⌝ }
-    ensures { λ r. ⌜ ((k : Kind) (h : Query) (cs : Clauses) → kindTag k ≡ m .kind → Is (within (m .base) at (now (room .entry))) h → Are (within at end (now (room .entry))) cs → Ate least at end (now (room .entry)) k h cs (m .sum) (r .from) (r .sum) (now (room .exit))) ⌝ }
+    ensures { λ r. ⌜ ((k : Kind) (h : Query) (cs : Clauses) → kindTag k ≡ m .kind → Is (within (m .base) at (now (room .entry))) h → Are (within at end (now (room .entry))) cs → Ate strict least at end (now (room .entry)) k h cs (m .sum) (r .from) (r .sum) (now (room .exit))) ⌝ }
 {
     let b = m.base;
     let k = m.kind;
@@ -177,7 +196,7 @@ fn eat(room: &mut [u8], m: Merged, at: usize, end: usize, least: usize) -> Eaten
     while u < end {
         let j = room[u];
         let v = end_of(room, u);
-        if eats(least, k, &room[b..at], j, &room[u + HEADER..v]) {
+        if eats(least, strict, k, &room[b..at], j, &room[u + HEADER..v]) {
             let x = fed(least, sum, j, &room[u + HEADER..v]);
             let f = from + (v - u);
             shift(room, f, from, u - from);
@@ -196,10 +215,11 @@ fn eat_others(
     at: usize,
     end: usize,
     least: usize,
+    strict: bool,
     table: &[u8],
 ) -> Eaten
     requires { ⌜ Eatable (m .base) (m .kind) at end (now room) × Alone least (now table) (m .base) at end (now room) ⌝ }
-    ensures { λ r. ⌜ ((k : Kind) (h : Query) (cs : Clauses) → kindTag k ≡ m .kind → Is (within (m .base) at (now (room .entry))) h → Are (within at end (now (room .entry))) cs → Ate least at end (now (room .entry)) k h cs (m .sum) (r .from) (r .sum) (now (room .exit))) ⌝ }
+    ensures { λ r. ⌜ ((k : Kind) (h : Query) (cs : Clauses) → kindTag k ≡ m .kind → Is (within (m .base) at (now (room .entry))) h → Are (within at end (now (room .entry))) cs → Ate strict least at end (now (room .entry)) k h cs (m .sum) (r .from) (r .sum) (now (room .exit))) ⌝ }
 {
     let b = m.base;
     if is_alone(table, &room[b..at]) {
@@ -208,7 +228,7 @@ fn eat_others(
             sum: m.sum,
         };
     }
-    eat(room, m, at, end, least)
+    eat(room, m, at, end, least, strict)
 }
 
 // Lays a clause at w: what stands from b up to e.
@@ -273,9 +293,9 @@ fn make_way(room: &mut [u8], need: usize, at: usize, end: usize) -> usize
 }
 
 // Merges the clauses that stand in the first `end` bytes, and lays what is kept at the front.
-fn merge_all(room: &mut [u8], end: usize, least: usize, table: &[u8]) -> usize
+fn merge_all(room: &mut [u8], end: usize, least: usize, strict: bool, table: &[u8]) -> usize
     requires { ⌜ Mergeable end (now room) × ((cs : Clauses) → Are (within 0 end (now room)) cs → Noted least (now table) cs) ⌝ }
-    ensures { λ r. ⌜ ((cs : Clauses) → Are (within 0 end (now (room .entry))) cs → Stands 0 (now (room .entry)) r (encodes (mergedClauses least cs)) (now (room .exit))) ⌝ }
+    ensures { λ r. ⌜ ((cs : Clauses) → Are (within 0 end (now (room .entry))) cs → Stands 0 (now (room .entry)) r (encodes (mergedClauses strict least cs)) (now (room .exit))) ⌝ }
 {
     let mut t = 0;
     let mut w = 0;
@@ -285,7 +305,7 @@ fn merge_all(room: &mut [u8], end: usize, least: usize, table: &[u8]) -> usize
         let m = first_of(least, t + HEADER, room[t], &room[t + HEADER..e]);
         let b = m.base;
         let k = m.kind;
-        let a = eat_others(room, m, e, last, least, table);
+        let a = eat_others(room, m, e, last, least, strict, table);
         let s = a.sum;
         let f = a.from;
         let g = make_way(room, w + merged_size(s, e - b), f, last);
@@ -319,13 +339,13 @@ fn note_all(s: &[u8], least: usize, table: &mut [u8])
     }
 }
 
-fn merge_many(room: &mut [u8], end: usize, least: usize) -> usize
+fn merge_many(room: &mut [u8], end: usize, least: usize, strict: bool) -> usize
     requires { ⌜ Mergeable end (now room) ⌝ }
-    ensures { λ r. ⌜ ((cs : Clauses) → Are (within 0 end (now (room .entry))) cs → Stands 0 (now (room .entry)) r (encodes (mergedClauses least cs)) (now (room .exit))) ⌝ }
+    ensures { λ r. ⌜ ((cs : Clauses) → Are (within 0 end (now (room .entry))) cs → Stands 0 (now (room .entry)) r (encodes (mergedClauses strict least cs)) (now (room .exit))) ⌝ }
 {
     let mut table = [0u8; TABLE];
     note_all(&room[0..end], least, &mut table);
-    merge_all(room, end, least, &table)
+    merge_all(room, end, least, strict, &table)
 }
 
 // Are there so few clauses that a table is not worth its clearing?
@@ -347,12 +367,12 @@ fn is_few(clauses: &[u8]) -> bool
 }
 
 // Merges the clauses that stand in the first `end` bytes, and lays what is kept at the front. Few clauses are compared with no table.
-pub fn merge_clauses(room: &mut [u8], end: usize, least: usize) -> usize
+pub fn merge_clauses(room: &mut [u8], end: usize, least: usize, strict: bool) -> usize
     requires { ⌜ Mergeable end (now room) ⌝ }
-    ensures { λ r. ⌜ ((cs : Clauses) → Are (within 0 end (now (room .entry))) cs → Stands 0 (now (room .entry)) r (encodes (mergedClauses least cs)) (now (room .exit))) ⌝ }
+    ensures { λ r. ⌜ ((cs : Clauses) → Are (within 0 end (now (room .entry))) cs → Stands 0 (now (room .entry)) r (encodes (mergedClauses strict least cs)) (now (room .exit))) ⌝ }
 {
     if is_few(&room[0..end]) {
-        return merge_all(room, end, least, b"");
+        return merge_all(room, end, least, strict, b"");
     }
-    merge_many(room, end, least)
+    merge_many(room, end, least, strict)
 }

@@ -13,15 +13,16 @@ pub struct Answer {
 
 #[no_mangle]
 pub extern "C" fn probe_rewrite_and_select(
+    strict: bool,
     query: &[u8],
     list: &[u8],
     rows: &mut [u32],
     held: &mut [u8],
     room: &mut [u8],
 ) -> Answer
-    ensures { λ r. ⌜ left (r .refusal) (r .count) (r .rounds) (now (rows .exit)) (now (held .exit)) (now (room .exit)) ≡ choiceLeft (now (query .entry)) (now (list .entry)) (now (rows .entry)) (now (held .entry)) (now (room .entry)) ⌝ }
+    ensures { λ r. ⌜ left (r .refusal) (r .count) (r .rounds) (now (rows .exit)) (now (held .exit)) (now (room .exit)) ≡ choiceLeft strict (now (query .entry)) (now (list .entry)) (now (rows .entry)) (now (held .entry)) (now (room .entry)) ⌝ }
 {
-    let c = rewrite_and_select(query, list, rows, held, room);
+    let c = rewrite_and_select(strict, query, list, rows, held, room);
     Answer {
         refusal: c.refusal as u64,
         count: c.count as u64,

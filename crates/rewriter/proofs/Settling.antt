@@ -48,36 +48,36 @@ more-one k (rewritten q n) = let z : k + suc n ≡ k + 1 + n = omega arith in ap
 
 -- ---- one round more
 
-module _ (q : Query) (v : Valid q) where
-  once-last : weight (rewriteOnce q) ≡ weight q → rewriteOnce q ≡ q
-  once-last e = go (once-lighter q v)
+module _ (strict : Bool) (q : Query) (v : Valid q) where
+  once-last : weight (rewriteOnce strict q) ≡ weight q → rewriteOnce strict q ≡ q
+  once-last e = go (once-lighter strict q v)
     where
-      go : (rewriteOnce q ≡ q) ⊎ (weight (rewriteOnce q) < weight q) → rewriteOnce q ≡ q
+      go : (rewriteOnce strict q ≡ q) ⊎ (weight (rewriteOnce strict q) < weight q) → rewriteOnce strict q ≡ q
       go (inl s) = s
       go (inr l) = absurd (omega arith)
 
-  once-less : (weight (rewriteOnce q) ≡ weight q → ⊥) → weight (rewriteOnce q) < weight q
-  once-less n = go (once-lighter q v)
+  once-less : (weight (rewriteOnce strict q) ≡ weight q → ⊥) → weight (rewriteOnce strict q) < weight q
+  once-less n = go (once-lighter strict q v)
     where
-      go : (rewriteOnce q ≡ q) ⊎ (weight (rewriteOnce q) < weight q) → weight (rewriteOnce q) < weight q
+      go : (rewriteOnce strict q ≡ q) ⊎ (weight (rewriteOnce strict q) < weight q) → weight (rewriteOnce strict q) < weight q
       go (inl s) = absurd (n (ap weight s))
       go (inr l) = l
 
-  rewrite-last : weight (rewriteOnce q) ≡ weight q → rewrite q ≡ rewritten (rewriteOnce q) 1
-  rewrite-last e = rewrite-is q v (rewritten (rewriteOnce q) 1) (last (once-last e))
+  rewrite-last : weight (rewriteOnce strict q) ≡ weight q → rewrite strict q ≡ rewritten (rewriteOnce strict q) 1
+  rewrite-last e = rewrite-is strict q v (rewritten (rewriteOnce strict q) 1) (last (once-last e))
 
-  rewrite-more : (weight (rewriteOnce q) ≡ weight q → ⊥) → rewrite q ≡ oneRoundMore (rewrite (rewriteOnce q))
+  rewrite-more : (weight (rewriteOnce strict q) ≡ weight q → ⊥) → rewrite strict q ≡ oneRoundMore (rewrite strict (rewriteOnce strict q))
   rewrite-more n =
-      rewrite-is q v (oneRoundMore (rewrite (rewriteOnce q)))
-      (more-made (λ s. n (ap weight s)) (made (weight (rewriteOnce q)) (rewriteOnce q) (valid-once q v) (omega arith)))
+      rewrite-is strict q v (oneRoundMore (rewrite strict (rewriteOnce strict q)))
+      (more-made (λ s. n (ap weight s)) (made strict (weight (rewriteOnce strict q)) (rewriteOnce strict q) (valid-once strict q v) (omega arith)))
 
 -- after `count` rounds the query now stands from t on, and weighs `left`
-pub record Settling (at : ℕ) (room₀ room : List ℕ) (t count left : ℕ) : Type 0 where
+pub record Settling (strict : Bool) (at : ℕ) (room₀ room : List ℕ) (t count left : ℕ) : Type 0 where
   pub all : Room at room₀
   pub now : Query
   pub is : Is (drop t room) now
   pub long : length room ≡ length room₀
-  pub same : rewrite (all .query) ≡ more count (rewrite now)
+  pub same : rewrite strict (all .query) ≡ more count (rewrite strict now)
   pub weighs : left ≡ weight now
   pub few : count + left ≤ length room
   pub fits : bulk now ≤ length room
@@ -102,8 +102,8 @@ module _ {at : ℕ} {room : List ℕ} (R : Room at room) where
   pub first-stored : Stored (within at (length room) room)
   first-stored = record { query = R .query; is = first-is }
 
-  pub settling-start : (w : ℕ) → Weighs (within at (length room) room) w → Settling at room room at 0 w
-  settling-start w s =
+  pub settling-start : (strict : Bool) (w : ℕ) → Weighs (within at (length room) room) w → Settling strict at room room at 0 w
+  settling-start strict w s =
       let e = s .weighs (R .query) first-is in
       let l = tail-long at room (R .is) in
       record {
@@ -111,43 +111,43 @@ module _ {at : ℕ} {room : List ℕ} (R : Room at room) where
         now = R .query;
         is = R .is;
         long = refl;
-        same = sym (more-none (rewrite (R .query)));
+        same = sym (more-none (rewrite strict (R .query)));
         weighs = e;
         few = omega (arith, weight-length (R .query));
         fits = bulk-fits;
         small = R .small;
       }
 
-module _ {at : ℕ} {room₀ room : List ℕ} {t count left : ℕ} (g : Settling at room₀ room t count left) where
+module _ {strict : Bool} {at : ℕ} {room₀ room : List ℕ} {t count left : ℕ} (g : Settling strict at room₀ room t count left) where
   pub round-room : Room t room
   round-room = record { query = g .now; is = g .is; fits = omega (arith, tail-long t room (g .is), bulk-is (g .now), g .fits); small = g .small }
 
   pub one-left : 1 ≤ left
   one-left = omega (arith, g .weighs, one-weight (g .now))
 
-  module _ (m : ℕ) (room₁ : List ℕ) (rounds : (q : Query) → Is (drop t room) q → Stands 0 room m (encode (rewriteOnce q)) room₁) where
-    S : Stands 0 room m (encode (rewriteOnce (g .now))) room₁
+  module _ (m : ℕ) (room₁ : List ℕ) (rounds : (q : Query) → Is (drop t room) q → Stands 0 room m (encode (rewriteOnce strict q)) room₁) where
+    S : Stands 0 room m (encode (rewriteOnce strict (g .now))) room₁
     S = rounds (g .now) (g .is)
 
     pub round-fits : (m ≤ length room₁) × (length room₁ ≡ length room)
-    round-fits = omega (arith, S .size, S .long, once-bulk (g .now), g .fits)
+    round-fits = omega (arith, S .size, S .long, once-bulk strict (g .now), g .fits)
 
-    front-is : Is (within 0 m room₁) (rewriteOnce (g .now))
+    front-is : Is (within 0 m room₁) (rewriteOnce strict (g .now))
     front-is =
         let z : m - 0 ≡ m = omega arith in
-        record { valid = valid-once (g .now) (g .is .valid); form = sym (ap (λ (k : ℕ). take k (drop 0 room₁)) z ∙ S .there) }
+        record { valid = valid-once strict (g .now) (g .is .valid); form = sym (ap (λ (k : ℕ). take k (drop 0 room₁)) z ∙ S .there) }
 
     pub round-stored : Stored (within 0 m room₁)
-    round-stored = record { query = rewriteOnce (g .now); is = front-is }
+    round-stored = record { query = rewriteOnce strict (g .now); is = front-is }
 
     module _ (w : ℕ) (W : Weighs (within 0 m room₁) w) where
-      weighs-now : w ≡ weight (rewriteOnce (g .now))
-      weighs-now = W .weighs (rewriteOnce (g .now)) front-is
+      weighs-now : w ≡ weight (rewriteOnce strict (g .now))
+      weighs-now = W .weighs (rewriteOnce strict (g .now)) front-is
 
-      pub round-last : w ≡ left → (q : Query) → Is (drop at room₀) q → Settled (resultOf (rewrite q)) (countOf (rewrite q)) m (count + 1) room₁
+      pub round-last : w ≡ left → (q : Query) → Is (drop at room₀) q → Settled (resultOf (rewrite strict q)) (countOf (rewrite strict q)) m (count + 1) room₁
       round-last e q i =
-          let st = rewrite-last (g .now) (g .is .valid) (sym weighs-now ∙ e ∙ g .weighs) in
-          let r : rewrite q ≡ rewritten (rewriteOnce (g .now)) (count + 1) = ap rewrite (is-same i (g .all .is)) ∙ g .same ∙ ap (more count) st in
+          let st = rewrite-last strict (g .now) (g .is .valid) (sym weighs-now ∙ e ∙ g .weighs) in
+          let r : rewrite strict q ≡ rewritten (rewriteOnce strict (g .now)) (count + 1) = ap (rewrite strict) (is-same i (g .all .is)) ∙ g .same ∙ ap (more count) st in
           record {
             low = round-fits .0;
             here = sym (front-is .form) ∙ ap (λ (x : Rewritten). encode (resultOf x)) (sym r);
@@ -155,29 +155,29 @@ module _ {at : ℕ} {room₀ room : List ℕ} {t count left : ℕ} (g : Settling
           }
 
       module _ (n : w ≡ left → ⊥) where
-        differs : weight (rewriteOnce (g .now)) ≡ weight (g .now) → ⊥
+        differs : weight (rewriteOnce strict (g .now)) ≡ weight (g .now) → ⊥
         differs e = n (weighs-now ∙ e ∙ sym (g .weighs))
 
         pub lighter : w < left
-        lighter = omega (arith, once-less (g .now) (g .is .valid) differs, weighs-now, g .weighs)
+        lighter = omega (arith, once-less strict (g .now) (g .is .valid) differs, weighs-now, g .weighs)
 
-        pub round-next : {x : ℕ} {room₂ : List ℕ} → Put room₁ (length room₁ - m) (take m (drop 0 room₁)) x room₂ → Settling at room₀ room₂ (length room₁ - m) (count + 1) w
+        pub round-next : {x : ℕ} {room₂ : List ℕ} → Put room₁ (length room₁ - m) (take m (drop 0 room₁)) x room₂ → Settling strict at room₀ room₂ (length room₁ - m) (count + 1) w
         round-next {x} {room₂} P =
             let f = round-fits in
-            let o = once-bulk (g .now) in
+            let o = once-bulk strict (g .now) in
             let l = lighter in
             let T = moved 0 m P (S .there) (omega arith) (omega arith) in
             let k = T .long in
             let z : length room₂ - (length room₁ - m) ≡ m = omega arith in
             record {
               all = g .all;
-              now = rewriteOnce (g .now);
+              now = rewriteOnce strict (g .now);
               is = record {
                 valid = front-is .valid;
                 form = sym (sym (cut-from (length room₁ - m) room₂) ∙ ap (λ (i : ℕ). take i (drop (length room₁ - m) room₂)) z ∙ T .there);
               };
               long = T .long ∙ S .long ∙ g .long;
-              same = g .same ∙ ap (more count) (rewrite-more (g .now) (g .is .valid) differs) ∙ more-one count (rewrite (rewriteOnce (g .now)));
+              same = g .same ∙ ap (more count) (rewrite-more strict (g .now) (g .is .valid) differs) ∙ more-one count (rewrite strict (rewriteOnce strict (g .now)));
               weighs = weighs-now;
               few = omega (arith, g .few);
               fits = omega (arith, g .fits);
@@ -189,18 +189,18 @@ module _ {at : ℕ} {room₀ room : List ℕ} {t count left : ℕ} (g : Settling
 pub zeroed : (room a b : List ℕ) → b ≡ replicate (length a) 0 → length a ≡ length room → b ≡ zeros room
 zeroed room a b e l = e ∙ ap (λ (n : ℕ). replicate n 0) l
 
-module _ (s out room : List ℕ) where
-  pub short-room : length room < rewriteRoom → left 32 0 0 out (zeros room) ≡ rewriteLeft s out room
+module _ (strict : Bool) (s out room : List ℕ) where
+  pub short-room : length room < rewriteRoom → left 32 0 0 out (zeros room) ≡ rewriteLeft strict s out room
   unfolding rewriteLeft call
   short-room h = rw (lt-leb rewriteRoom (length room) h)
 
   module _ (h : rewriteRoom ≤ length room) where
-    pub refused-left : (r : ℕ) → r ≡ numberOf (readForRewriting s) → (r ≡ 0 → ⊥) → left r 0 0 out (zeros room) ≡ rewriteLeft s out room
+    pub refused-left : (r : ℕ) → r ≡ numberOf (readForRewriting s) → (r ≡ 0 → ⊥) → left r 0 0 out (zeros room) ≡ rewriteLeft strict s out room
     unfolding rewriteLeft call rewriteReply
     refused-left r e n = let R = number-not (readForRewriting s) (λ z. n (e ∙ z)) in go (readForRewriting s) (R .0) (R .1) (e ∙ ap numberOf (R .1))
       where
         go : (o : Read Query) (x : Refusal) → o ≡ refused x → r ≡ number x
-            → left r 0 0 out (zeros room) ≡ leave (need (leb rewriteRoom (length room)) shortRoom (andThen (onRead (λ q. rewrittenReply (rewrite q)) o) (fitting (length out)))) out room
+            → left r 0 0 out (zeros room) ≡ leave (need (leb rewriteRoom (length room)) shortRoom (andThen (onRead (λ q. rewrittenReply (rewrite strict q)) o) (fitting (length out)))) out room
         go o x eo er = rw (eo, er, le-leb rewriteRoom (length room) h)
 
     module _ (B : Bytes s) (r : ℕ) (e : r ≡ numberOf (readForRewriting s)) (z : r ≡ 0) where
@@ -240,8 +240,8 @@ module _ (s out room : List ℕ) where
             record { query = query; is = is-there; fits = omega (arith, bulk-is query, ap length (is-query .form), room-for); small = f .2 }
 
         module _ {n k : ℕ} {room₂ : List ℕ}
-            (settled : (q : Query) → Is (drop (length room - length s) room₁) q → Settled (resultOf (rewrite q)) (countOf (rewrite q)) n k room₂) where
-          result : Settled (resultOf (rewrite query)) (countOf (rewrite query)) n k room₂
+            (settled : (q : Query) → Is (drop (length room - length s) room₁) q → Settled (resultOf (rewrite strict q)) (countOf (rewrite strict q)) n k room₂) where
+          result : Settled (resultOf (rewrite strict query)) (countOf (rewrite strict query)) n k room₂
           result = settled query is-there
 
           pub settled-low : (n ≤ length room₂) × (length (within 0 n room₂) ≡ n)
@@ -249,26 +249,26 @@ module _ (s out room : List ℕ) where
               let z : n - 0 ≡ n = omega arith in
               (result .low, within-length room₂ 0 n (omega arith) (result .low) ∙ z)
 
-          answer : rewriteReply s ≡ got (rewrittenReply (rewrite query))
+          answer : rewriteReply strict s ≡ got (rewrittenReply (rewrite strict query))
           unfolding rewriteReply query
           answer = rw (read .1)
 
-          n-is : n ≡ length (encode (resultOf (rewrite query)))
+          n-is : n ≡ length (encode (resultOf (rewrite strict query)))
           n-is = sym (sym (ap length (result .here)) ∙ within-length room₂ 0 n (omega arith) (result .low) ∙ minus)
             where
               minus : n - 0 ≡ n
               minus = omega arith
 
-          pub long-left : length out < n → left 18 0 0 out (zeros room) ≡ rewriteLeft s out room
+          pub long-left : length out < n → left 18 0 0 out (zeros room) ≡ rewriteLeft strict s out room
           unfolding rewriteLeft call
-          long-left l = rw (le-leb rewriteRoom (length room) h, answer) (go (rewrite query) (sym n-is))
+          long-left l = rw (le-leb rewriteRoom (length room) h, answer) (go (rewrite strict query) (sym n-is))
             where
               go : (w : Rewritten) → length (encode (resultOf w)) ≡ n → left 18 0 0 out (zeros room) ≡ leave (fitting (length out) (rewrittenReply w)) out room
               go (rewritten q j) e = rw (lt-leb (length (encode q)) (length out) (omega arith))
 
-          pub got-left : n ≤ length out → (p : ℕ) (out′ : List ℕ) → Put out 0 (within 0 n room₂) p out′ → left 0 n k out′ (zeros room) ≡ rewriteLeft s out room
+          pub got-left : n ≤ length out → (p : ℕ) (out′ : List ℕ) → Put out 0 (within 0 n room₂) p out′ → left 0 n k out′ (zeros room) ≡ rewriteLeft strict s out room
           unfolding rewriteLeft call
-          got-left l p out′ P = rw (le-leb rewriteRoom (length room) h, answer) (go (rewrite query) (result .here) (result .rounds) (sym n-is))
+          got-left l p out′ P = rw (le-leb rewriteRoom (length room) h, answer) (go (rewrite strict query) (result .here) (result .rounds) (sym n-is))
             where
               go : (w : Rewritten) → within 0 n room₂ ≡ encode (resultOf w) → k ≡ countOf w → length (encode (resultOf w)) ≡ n
                   → left 0 n k out′ (zeros room) ≡ leave (fitting (length out) (rewrittenReply w)) out room

@@ -17,21 +17,26 @@ ghost use Rattle.rules.specs.Answers.{rewriteLeft};
 ghost use Rattle.round.specs.Once.{Room};
 ghost use Rattle.rewriter.specs.Rounds.{Settled, left};
 
+// The two ways of rewriting, as `rules/specs/Rewriting` names them.
+pub const ORIGINAL: bool = false;
+
+pub const STRICT: bool = true;
+
 pub struct Rounds {
     pub len: usize,
     pub rounds: usize,
 }
 
 // The query stands from `at` on, and what is left of it ends up at the front. A round lowers the weight, or changes nothing and is the last.
-fn rewrite_all(room: &mut [u8], at: usize) -> Rounds
+fn rewrite_all(room: &mut [u8], at: usize, strict: bool) -> Rounds
     requires { ⌜ Room at (now room) ⌝ }
-    ensures { λ r. ⌜ ((q : Query) → Is (drop at (now (room .entry))) q → Settled (resultOf (rewrite q)) (countOf (rewrite q)) (r .len) (r .rounds) (now (room .exit))) ⌝ }
+    ensures { λ r. ⌜ ((q : Query) → Is (drop at (now (room .entry))) q → Settled (resultOf (rewrite strict q)) (countOf (rewrite strict q)) (r .len) (r .rounds) (now (room .exit))) ⌝ }
 {
     let mut t = at;
     let mut made: usize = 0;
     let mut left = weight(&room[at..]);
     loop {
-        let m = rewrite_once(room, t);
+        let m = rewrite_once(room, t, strict);
         made += 1;
         let w = weight(&room[0..m]);
         if w == left {
@@ -52,9 +57,9 @@ pub struct Rewritten {
     pub rounds: usize,
 }
 
-// Rewrites a stored query: 32 for a short room, then what reading refuses, then 18 where the answer is longer than the output. The room ends all zeros.
-pub fn rewrite(query: &[u8], out: &mut [u8], room: &mut [u8]) -> Rewritten
-    ensures { λ r. ⌜ left (r .refusal) (r .len) (r .rounds) (now (out .exit)) (now (room .exit)) ≡ rewriteLeft (now (query .entry)) (now (out .entry)) (now (room .entry)) ⌝ }
+// Rewrites a stored query, strictly or as the original does: 32 for a short room, then what reading refuses, then 18 where the answer is longer than the output. The room ends all zeros.
+pub fn rewrite(strict: bool, query: &[u8], out: &mut [u8], room: &mut [u8]) -> Rewritten
+    ensures { λ r. ⌜ left (r .refusal) (r .len) (r .rounds) (now (out .exit)) (now (room .exit)) ≡ rewriteLeft strict (now (query .entry)) (now (out .entry)) (now (room .entry)) ⌝ }
 {
     if room.len() < REWRITE_ROOM {
         clear(room);
@@ -75,7 +80,7 @@ pub fn rewrite(query: &[u8], out: &mut [u8], room: &mut [u8]) -> Rewritten
     }
     let at = room.len() - query.len();
     copy(room, at, query);
-    let a = rewrite_all(room, at);
+    let a = rewrite_all(room, at, strict);
     let n = a.len;
     if out.len() < n {
         clear(room);

@@ -42,18 +42,18 @@ answered (Rows n) made rows held room = left 0 n made rows held room
 fits-held : (r : Rewritten) (n : ℕ) → length (encode (resultOf r)) ≤ n → replyFitting n (rewrittenReply r) ≡ got (rewrittenReply r)
 fits-held (rewritten q k) n h = rw (le-leb (length (encode q)) n h)
 
-reply-fits : (s : List ℕ) → Bytes s → (n : ℕ) → heldRoom ≤ n → andThen (rewriteReply s) (replyFitting n) ≡ rewriteReply s
+reply-fits : (strict : Bool) (s : List ℕ) → Bytes s → (n : ℕ) → heldRoom ≤ n → andThen (rewriteReply strict s) (replyFitting n) ≡ rewriteReply strict s
 unfolding rewriteReply
-reply-fits s B n h = go (readForRewriting s) refl
+reply-fits strict s B n h = go (readForRewriting s) refl
   where
     go : (o : Read Query) → readForRewriting s ≡ o
-        → andThen (onRead (λ q. rewrittenReply (rewrite q)) o) (replyFitting n) ≡ onRead (λ q. rewrittenReply (rewrite q)) o
+        → andThen (onRead (λ q. rewrittenReply (rewrite strict q)) o) (replyFitting n) ≡ onRead (λ q. rewrittenReply (rewrite strict q)) o
     go (refused r) e = refl
     go (got q) e =
         let S = read-sound rewriterBytes rewriterDepth s q B e in
         let short : length (encode q) ≤ rewriterBytes = rw (S .1 .form) (S .0) in
-        let k = ap (λ (p : Query). length (encode p)) (result-after (weight q) q) in
-        fits-held (rewrite q) n (omega (arith, length-after q (countOf (rewrite q)) short))
+        let k = ap (λ (p : Query). length (encode p)) (result-after strict (weight q) q) in
+        fits-held (rewrite strict q) n (omega (arith, length-after strict q (countOf (rewrite strict q)) short))
 
 -- ---- the answer
 
@@ -76,31 +76,31 @@ chooses rows held room {k = k} o C f g = rw (C .answer, C .rows-left, f, g) (go 
     go (refused r) = refl
     go (got ns) = fit ns (leb (length ns) (length rows))
 
-module _ (s l rows held room : List ℕ) where
-  pub short-held : length held < heldRoom → left 32 0 0 rows (zeros held) (zeros room) ≡ choiceLeft s l rows held room
+module _ (strict : Bool) (s l rows held room : List ℕ) where
+  pub short-held : length held < heldRoom → left 32 0 0 rows (zeros held) (zeros room) ≡ choiceLeft strict s l rows held room
   unfolding choiceLeft
   short-held h = rw (lt-leb heldRoom (length held) h)
 
   module _ (B : Bytes s) (h : heldRoom ≤ length held) where
     -- what the rewriter reads and writes, 32 included
     replied : Read Reply
-    replied = need (leb rewriteRoom (length room)) shortRoom (rewriteReply s)
+    replied = need (leb rewriteRoom (length room)) shortRoom (rewriteReply strict s)
 
-    rewriter-leaves : rewriteLeft s held room ≡ callLeaves replied held room
+    rewriter-leaves : rewriteLeft strict s held room ≡ callLeaves replied held room
     unfolding rewriteLeft call replied
-    rewriter-leaves = rw (reply-fits s B (length held) h)
+    rewriter-leaves = rw (reply-fits strict s B (length held) h)
 
-    call-leaves : choiceLeft s l rows held room ≡ leave (andThen (andThen replied (chosenBy l)) (fitting (length rows))) rows held room
+    call-leaves : choiceLeft strict s l rows held room ≡ leave (andThen (andThen replied (chosenBy l)) (fitting (length rows))) rows held room
     unfolding choiceLeft replied
     call-leaves = rw (le-leb heldRoom (length held) h) (go (leb rewriteRoom (length room)))
       where
-        go : (b : Bool) → leave (need b shortRoom (chosen s l (length rows))) rows held room
-            ≡ leave (andThen (andThen (need b shortRoom (rewriteReply s)) (chosenBy l)) (fitting (length rows))) rows held room
+        go : (b : Bool) → leave (need b shortRoom (chosen strict s l (length rows))) rows held room
+            ≡ leave (andThen (andThen (need b shortRoom (rewriteReply strict s)) (chosenBy l)) (fitting (length rows))) rows held room
         go true = refl
         go false = refl
 
-    module _ {refusal len made : ℕ} {held′ room′ : List ℕ} (L : rewriterLeft refusal len made held′ room′ ≡ rewriteLeft s held room) where
-      pub refused-query : (refusal ≡ 0 → ⊥) → left refusal 0 0 rows (zeros held) room′ ≡ choiceLeft s l rows held room
+    module _ {refusal len made : ℕ} {held′ room′ : List ℕ} (L : rewriterLeft refusal len made held′ room′ ≡ rewriteLeft strict s held room) where
+      pub refused-query : (refusal ≡ 0 → ⊥) → left refusal 0 0 rows (zeros held) room′ ≡ choiceLeft strict s l rows held room
       refused-query n = go replied (L ∙ rewriter-leaves) ∙ sym call-leaves
         where
           go : (o : Read Reply) → rewriterLeft refusal len made held′ room′ ≡ callLeaves o held room
@@ -142,12 +142,12 @@ module _ (s l rows held room : List ℕ) where
 
         -- the choice of the second call, with the rounds of the first
         pub selects : {rows′ : List ℕ} {r : Selected} → Selects (take (len - 0) (drop 0 held′)) l rows rows′ r
-            → answered r made rows′ (zeros held) room′ ≡ choiceLeft s l rows held room
+            → answered r made rows′ (zeros held) room′ ≡ choiceLeft strict s l rows held room
         selects {rows′} {r} S =
             let W = written in
             let n : len - 0 ≡ len = omega arith in
             let here : take (len - 0) (drop 0 held′) ≡ W .reply .bytes = ap (λ (k : ℕ). take k held′) n ∙ W .here in
-            let same : choiceLeft s l rows held room ≡ leave (andThen (chosenBy l (W .reply)) (fitting (length rows))) rows held room =
+            let same : choiceLeft strict s l rows held room ≡ leave (andThen (chosenBy l (W .reply)) (fitting (length rows))) rows held room =
             call-leaves ∙ ap (λ (x : Read Reply). leave (andThen (andThen x (chosenBy l)) (fitting (length rows))) rows held room) (W .is) in
             chooses rows held room (selected (W .reply .bytes) l) (subst (λ (t : List ℕ). Chooses (selected t l) rows rows′ r) here (record { answer = S .answer; rows-left = S .rows }))
             (W .counted) (W .cleared) ∙ sym same
@@ -160,23 +160,23 @@ rows-are rows held room {count = count} ns e =
 
 -- ---- at every minimum: what is listed by the query as it was rewritten
 
-pub record Rewrote (s l rows : List ℕ) (rounds : ℕ) : Type 0 where
+pub record Rewrote (strict : Bool) (s l rows : List ℕ) (rounds : ℕ) : Type 0 where
   pub reply : Reply
-  pub is-rewritten : rewriteReply s ≡ got reply
+  pub is-rewritten : rewriteReply strict s ≡ got reply
   pub counted : rounds ≡ reply .rounds
   pub exactly : Exactly (reply .bytes) l rows
 
-module _ (s l rows held room : List ℕ) {count rounds : ℕ} {rows′ held′ room′ : List ℕ} where
+module _ (strict : Bool) (s l rows held room : List ℕ) {count rounds : ℕ} {rows′ held′ room′ : List ℕ} where
   not-zero : {A : Type 0} (r : Refusal) → left 0 count rounds rows′ held′ room′ ≡ leave (refused r) rows held room → A
   not-zero r e = absurd (number-some r (sym (ap (λ (x : Left). x .refusal) e)))
 
-  pub rewrote : left 0 count rounds rows′ held′ room′ ≡ choiceLeft s l rows held room → Rewrote s l (take count rows′) rounds
+  pub rewrote : left 0 count rounds rows′ held′ room′ ≡ choiceLeft strict s l rows held room → Rewrote strict s l (take count rows′) rounds
   unfolding choiceLeft
   rewrote E = tests (leb heldRoom (length held)) (leb rewriteRoom (length room)) E
     where
-      fits : (a : Reply) (ns : List ℕ) → rewriteReply s ≡ got a → selected (a .bytes) l ≡ got ns → (b : Bool)
+      fits : (a : Reply) (ns : List ℕ) → rewriteReply strict s ≡ got a → selected (a .bytes) l ≡ got ns → (b : Bool)
           → left 0 count rounds rows′ held′ room′ ≡ leave (need b longAnswer (got (record { rows = ns; rounds = a .rounds }))) rows held room
-          → Rewrote s l (take count rows′) rounds
+          → Rewrote strict s l (take count rows′) rounds
       fits a ns p q false e = not-zero longAnswer e
       fits a ns p q true e = record {
         reply = a;
@@ -185,29 +185,29 @@ module _ (s l rows held room : List ℕ) {count rounds : ℕ} {rows′ held′ r
         exactly = subst (Exactly (a .bytes) l) (rows-are rows held room ns e) (selected-exactly (a .bytes) l ns q);
       }
 
-      lists : (a : Reply) → rewriteReply s ≡ got a → (o : Read (List ℕ)) → selected (a .bytes) l ≡ o
+      lists : (a : Reply) → rewriteReply strict s ≡ got a → (o : Read (List ℕ)) → selected (a .bytes) l ≡ o
           → left 0 count rounds rows′ held′ room′ ≡ leave (andThen (onRead (λ ns. record { rows = ns; rounds = a .rounds }) o) (fitting (length rows))) rows held room
-          → Rewrote s l (take count rows′) rounds
+          → Rewrote strict s l (take count rows′) rounds
       lists a p (refused r) q e = not-zero r e
       lists a p (got ns) q e = fits a ns p q (leb (length ns) (length rows)) e
 
-      reads : (o : Read Reply) → rewriteReply s ≡ o
+      reads : (o : Read Reply) → rewriteReply strict s ≡ o
           → left 0 count rounds rows′ held′ room′ ≡ leave (andThen (andThen o (chosenBy l)) (fitting (length rows))) rows held room
-          → Rewrote s l (take count rows′) rounds
+          → Rewrote strict s l (take count rows′) rounds
       reads (refused r) p e = not-zero r e
       reads (got a) p e = lists a p (selected (a .bytes) l) refl e
 
-      tests : (a b : Bool) → left 0 count rounds rows′ held′ room′ ≡ leave (need a shortRoom (need b shortRoom (chosen s l (length rows)))) rows held room
-          → Rewrote s l (take count rows′) rounds
+      tests : (a b : Bool) → left 0 count rounds rows′ held′ room′ ≡ leave (need a shortRoom (need b shortRoom (chosen strict s l (length rows)))) rows held room
+          → Rewrote strict s l (take count rows′) rounds
       tests false b e = not-zero shortRoom e
       tests true false e = not-zero shortRoom e
-      tests true true e = reads (rewriteReply s) refl e
+      tests true true e = reads (rewriteReply strict s) refl e
 
 -- ---- demand 3 of the answer
 
-module _ (s l rows held room : List ℕ) (B : Bytes s) {refusal count rounds : ℕ} {rows′ held′ room′ : List ℕ}
-    (E : left refusal count rounds rows′ held′ room′ ≡ choiceLeft s l rows held room) where
-  module _ (q : Query) (rs : List (List Entry)) (D : Demand s l q rs) (list : readList l ≡ got rs) where
+module _ (strict : Bool) (s l rows held room : List ℕ) (B : Bytes s) {refusal count rounds : ℕ} {rows′ held′ room′ : List ℕ}
+    (E : left refusal count rounds rows′ held′ room′ ≡ choiceLeft strict s l rows held room) where
+  module _ (q : Query) (rs : List (List Entry)) (D : Demand strict s l q rs) (list : readList l ≡ got rs) where
     choice : Chosen
     choice = record { rows = D .rows; rounds = D .reply .rounds }
 
@@ -262,14 +262,14 @@ module _ (s l rows held room : List ℕ) (B : Bytes s) {refusal count rounds : �
         (le-leb heldRoom (length held)) (le-leb rewriteRoom (length room)) (λ k. le-leb (length (D .rows)) (length rows) (omega (arith, few-rows))) by-tests
 
   -- whatever the answer is, if it is the definition's
-  pub demanded : Demanded s l rows held room refusal count rounds rows′
+  pub demanded : Demanded strict s l rows held room refusal count rounds rows′
   unfolding Demanded
-  demanded q rs read small list = demanded-of q rs (demand s B q read small l rs list) list
+  demanded q rs read small list = demanded-of q rs (demand s B q read strict small l rs list) list
 
 -- the whole contract, from the numbers and rooms that the code has
-pub concluded : (s l rows held room : List ℕ) → Bytes s → {refusal count rounds n m k : ℕ} {rows′ held′ held″ room′ room″ : List ℕ}
-    → refusal ≡ n → count ≡ m → rounds ≡ k → held′ ≡ held″ → room′ ≡ room″ → left n m k rows′ held″ room″ ≡ choiceLeft s l rows held room
-    → (left refusal count rounds rows′ held′ room′ ≡ choiceLeft s l rows held room) × Demanded s l rows held room refusal count rounds rows′
-concluded s l rows held room B {refusal} {count} {rounds} {rows′ = rows′} {held′ = held′} {room′ = room′} e f g h i E =
-    let F : left refusal count rounds rows′ held′ room′ ≡ choiceLeft s l rows held room = rw (e, f, g, h, i) E in
-    (F, demanded s l rows held room B F)
+pub concluded : (strict : Bool) (s l rows held room : List ℕ) → Bytes s → {refusal count rounds n m k : ℕ} {rows′ held′ held″ room′ room″ : List ℕ}
+    → refusal ≡ n → count ≡ m → rounds ≡ k → held′ ≡ held″ → room′ ≡ room″ → left n m k rows′ held″ room″ ≡ choiceLeft strict s l rows held room
+    → (left refusal count rounds rows′ held′ room′ ≡ choiceLeft strict s l rows held room) × Demanded strict s l rows held room refusal count rounds rows′
+concluded strict s l rows held room B {refusal} {count} {rounds} {rows′ = rows′} {held′ = held′} {room′ = room′} e f g h i E =
+    let F : left refusal count rounds rows′ held′ room′ ≡ choiceLeft strict s l rows held room = rw (e, f, g, h, i) E in
+    (F, demanded strict s l rows held room B F)

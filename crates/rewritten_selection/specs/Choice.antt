@@ -3,12 +3,13 @@ use mathlib.Core.Path.{_≡_}
 use mathlib.Core.Logic.{_↔_}
 use Prim.Native.Nat.{ℕ, _≤_}
 use mathlib.Core.List.{List, _++_, List·Memᴰ}
+use mathlib.Core.Bool.{Bool}
 use lib.ListN.{length, take, drop}
 use lib.Dec.{leb}
 use Rattle.rules.specs.Numbers.{number, Read, got, refused, need, onRead, andThen, longAnswer, shortRoom, rewriteRoom}
 use Rattle.rules.specs.Query.{Query}
 use Rattle.rules.specs.Reading.{readForRewriting}
-use Rattle.rules.specs.Rewriting.{weight, largest}
+use Rattle.rules.specs.Rewriting.{weight, largest, Fair}
 use Rattle.rules.specs.Lists.{Entry, readList}
 use Rattle.rules.specs.Answers.{Reply, zeros, rewriteReply, selected}
 use Rattle.rules.specs.Matching.{IsChosen, RisingFrom}
@@ -32,8 +33,8 @@ abbrev pub fitting : ℕ → Chosen → Read Chosen
 fitting n c = need (leb (length (c .rows)) n) longAnswer (got c)
 
 -- 19, 20, 21 of the query, 22, 23 of the list, and 18
-abbrev pub chosen : List ℕ → List ℕ → ℕ → Read Chosen
-chosen s l n = andThen (andThen (rewriteReply s) (chosenBy l)) (fitting n)
+abbrev pub chosen : Bool → List ℕ → List ℕ → ℕ → Read Chosen
+chosen strict s l n = andThen (andThen (rewriteReply strict s) (chosenBy l)) (fitting n)
 
 -- what the call leaves
 pub record Left : Type 0 where
@@ -53,9 +54,9 @@ leave (refused r) rows held room = left (number r) 0 0 rows (zeros held) (zeros 
 leave (got c) rows held room = left 0 (length (c .rows)) (c .rounds) (c .rows ++ drop (length (c .rows)) rows) (zeros held) (zeros room)
 
 -- 32 before all else
-unfoldable pub choiceLeft : List ℕ → List ℕ → List ℕ → List ℕ → List ℕ → Left
-choiceLeft s l rows held room =
-    leave (need (leb heldRoom (length held)) shortRoom (need (leb rewriteRoom (length room)) shortRoom (chosen s l (length rows)))) rows held room
+unfoldable pub choiceLeft : Bool → List ℕ → List ℕ → List ℕ → List ℕ → List ℕ → Left
+choiceLeft strict s l rows held room =
+    leave (need (leb heldRoom (length held)) shortRoom (need (leb rewriteRoom (length room)) shortRoom (chosen strict s l (length rows)))) rows held room
 
 -- ---- demand 3
 
@@ -67,8 +68,8 @@ pub record DemandedOf (q : Query) (rs : List (List Entry)) (rows held room : Lis
   pub in-order : refusal ≡ 0 → RisingFrom 0 (take count rows′)
   pub taken : heldRoom ≤ length held → rewriteRoom ≤ length room → length rs ≤ length rows → refusal ≡ 0
 
--- of every query that the rewriter reads, with no minimum above 1, and every sound list
-unfoldable pub Demanded : List ℕ → List ℕ → List ℕ → List ℕ → List ℕ → ℕ → ℕ → ℕ → List ℕ → Type 0
-Demanded s l rows held room refusal count rounds rows′ =
-    (q : Query) (rs : List (List Entry)) → readForRewriting s ≡ got q → largest q ≤ 1 → readList l ≡ got rs
+-- of every query that the rewriter reads, strict at every minimum and else where none is above 1, and every sound list
+unfoldable pub Demanded : Bool → List ℕ → List ℕ → List ℕ → List ℕ → List ℕ → ℕ → ℕ → ℕ → List ℕ → Type 0
+Demanded strict s l rows held room refusal count rounds rows′ =
+    (q : Query) (rs : List (List Entry)) → readForRewriting s ≡ got q → Fair strict (largest q) → readList l ≡ got rs
     → DemandedOf q rs rows held room refusal count rounds rows′

@@ -27,9 +27,10 @@ fn refuse(n: u8) -> Choice
     }
 }
 
-// Refuses as the two calls do, one after the other: SHORT_ROOM for either room, then what the rewriter refuses in the query, what selection refuses in the list,
+// The rewriting is strict or as the original's. Refuses as the two calls do, one after the other: SHORT_ROOM for either room, then what the rewriter refuses in the query, what selection refuses in the list,
 // and LONG_ANSWER where the rows are too short. A refusal leaves the rows; both rooms end all zeros.
 pub fn rewrite_and_select(
+    strict: bool,
     query: &[u8],
     list: &[u8],
     rows: &mut [u32],
@@ -37,8 +38,8 @@ pub fn rewrite_and_select(
     room: &mut [u8],
 ) -> Choice
     ensures answer { λ r. ⌜ left (r .refusal) (r .count) (r .rounds) (now (rows .exit)) (now (held .exit)) (now (room .exit))
-        ≡ choiceLeft (now (query .entry)) (now (list .entry)) (now (rows .entry)) (now (held .entry)) (now (room .entry)) ⌝ }
-    ensures demand { λ r. ⌜ Demanded (now (query .entry)) (now (list .entry)) (now (rows .entry)) (now (held .entry)) (now (room .entry))
+        ≡ choiceLeft strict (now (query .entry)) (now (list .entry)) (now (rows .entry)) (now (held .entry)) (now (room .entry)) ⌝ }
+    ensures demand { λ r. ⌜ Demanded strict (now (query .entry)) (now (list .entry)) (now (rows .entry)) (now (held .entry)) (now (room .entry))
         (r .refusal) (r .count) (r .rounds) (now (rows .exit)) ⌝ }
 {
     if held.len() < HELD_ROOM {
@@ -46,7 +47,7 @@ pub fn rewrite_and_select(
         clear(room);
         return refuse(SHORT_ROOM);
     }
-    let a = rewrite(query, held, room);
+    let a = rewrite(strict, query, held, room);
     if a.refusal != 0 {
         clear(held);
         return refuse(a.refusal);

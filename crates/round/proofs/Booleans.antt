@@ -3,7 +3,7 @@ use mathlib.Core.Path.{_≡_, refl, sym, ap, _∙_, subst}
 use mathlib.Core.Logic.{_⊎_, inl, inr}
 use Prim.Native.Nat.{ℕ, _+_, _-_, _≤_, _<_}
 use mathlib.Core.List.{List, [], _++_, append-nil}
-use mathlib.Core.Bool.{true, false}
+use mathlib.Core.Bool.{Bool, true, false}
 use native.Mathlib.Omega.{arith}
 use lib.ListN.{length, getD, take, drop, length-append}
 use lib.Seq.{take-take}
@@ -30,11 +30,11 @@ use Rattle.merging.proofs.Placed.{tag-at}
 
 -- ---- the space that merging takes
 
-pub merged-bulks : (m : ℕ) (cs : Clauses) → bulks (mergedClauses m cs) ≤ bulks cs
+pub merged-bulks : (strict : Bool) (m : ℕ) (cs : Clauses) → bulks (mergedClauses strict m cs) ≤ bulks cs
 unfolding bulk
-merged-bulks m cs =
-    let h : bulk (boolean m (mergedClauses m cs)) ≤ bulk (boolean m cs) =
-    subst (λ (x : Query). bulk x ≤ bulk (boolean m cs)) (boolean-merged m cs) (merged-law Bounded (λ m cs ds. BoundedAll cs ds) bounds-law m cs .in-bulk) in
+merged-bulks strict m cs =
+    let h : bulk (boolean m (mergedClauses strict m cs)) ≤ bulk (boolean m cs) =
+    subst (λ (x : Query). bulk x ≤ bulk (boolean m cs)) (boolean-merged strict m cs) (merged-law strict Bounded (λ m cs ds. BoundedAll cs ds) (bounds-law strict) m cs .in-bulk) in
     omega arith
 
 -- what stands at the front of the stretch that is lent
@@ -59,36 +59,36 @@ module _ {end m : ℕ} {room : List ℕ} (L : Live end m room) where
         small = omega (arith, L .small);
       }
 
-  pub merged-small : (8 + length (encodes (mergedClauses m (L .clauses))) < 65536) × (8 + length (encodes (mergedClauses m (L .clauses))) ≤ length room)
-  merged-small =
-      let b = merged-bulks m (L .clauses) in
-      let l = bulks-are (mergedClauses m (L .clauses)) in
+  pub merged-small : (strict : Bool) → (8 + length (encodes (mergedClauses strict m (L .clauses))) < 65536) × (8 + length (encodes (mergedClauses strict m (L .clauses))) ≤ length room)
+  merged-small strict =
+      let b = merged-bulks strict m (L .clauses) in
+      let l = bulks-are (mergedClauses strict m (L .clauses)) in
       omega (arith, L .small, L .fits)
 
 -- ---- which step it is
 
-module _ (m : ℕ) (cs : Clauses) where
-  pub of-negative : onlyMustNot cs ≡ true → ofLive m cs ≡ matchNone
+module _ (strict : Bool) (m : ℕ) (cs : Clauses) where
+  pub of-negative : onlyMustNot cs ≡ true → ofLive strict m cs ≡ matchNone
   unfolding ofLive
   of-negative e = rw e
 
-  pub of-few : onlyMustNot cs ≡ false → shouldCount cs < m → ofLive m cs ≡ matchNone
+  pub of-few : onlyMustNot cs ≡ false → shouldCount cs < m → ofLive strict m cs ≡ matchNone
   unfolding ofLive
   of-few e h = rw (e, lt-ltb (shouldCount cs) m h)
 
-  of-rest : onlyMustNot cs ≡ false → m ≤ shouldCount cs → ofLive m cs ≡ loneOrMerged m cs
+  of-rest : onlyMustNot cs ≡ false → m ≤ shouldCount cs → ofLive strict m cs ≡ loneOrMerged strict m cs
   unfolding ofLive
   of-rest e h = rw (e, le-ltb (shouldCount cs) m h)
 
-  pub of-lone : onlyMustNot cs ≡ false → m ≤ shouldCount cs → m ≤ 1 → (k : Kind) (q : Query) → cs ≡ clause k q none → ofLive m cs ≡ lone k q
+  pub of-lone : onlyMustNot cs ≡ false → m ≤ shouldCount cs → m ≤ 1 → (k : Kind) (q : Query) → cs ≡ clause k q none → ofLive strict m cs ≡ lone k q
   unfolding loneOrMerged
-  of-lone e h l k q s = of-rest e h ∙ ap (loneOrMerged m) s ∙ rw (le-leb m 1 l)
+  of-lone e h l k q s = of-rest e h ∙ ap (loneOrMerged strict m) s ∙ rw (le-leb m 1 l)
 
-  pub of-merged : onlyMustNot cs ≡ false → m ≤ shouldCount cs → (1 < m) ⊎ (isOneClause cs ≡ false) → ofLive m cs ≡ boolean m (mergedClauses m cs)
+  pub of-merged : onlyMustNot cs ≡ false → m ≤ shouldCount cs → (1 < m) ⊎ (isOneClause cs ≡ false) → ofLive strict m cs ≡ boolean m (mergedClauses strict m cs)
   unfolding loneOrMerged
-  of-merged e h d = of-rest e h ∙ go cs d ∙ boolean-merged m cs
+  of-merged e h d = of-rest e h ∙ go cs d ∙ boolean-merged strict m cs
     where
-      go : (cs : Clauses) → (1 < m) ⊎ (isOneClause cs ≡ false) → loneOrMerged m cs ≡ mergedBoolean m cs
+      go : (cs : Clauses) → (1 < m) ⊎ (isOneClause cs ≡ false) → loneOrMerged strict m cs ≡ mergedBoolean strict m cs
       go none d = refl
       go (clause k q none) (inl l) = rw (lt-leb m 1 l)
       go (clause k q none) (inr n) = clash refl n

@@ -53,7 +53,7 @@ within-drop : (room : List ℕ) (a e k : ℕ) → drop k (within a e room) ≡ w
 within-drop room a e k = let z : e - a - k ≡ e - (a + k) = omega arith in drop-take k (e - a) (drop a room) ∙ ap (take (e - a - k)) (drop-drop k a room) ∙ ap (λ (n : ℕ). take n (drop (a + k) room)) z
 
 -- the clauses from t on are left; those before them, without the dropped ones, stand in the first w bytes
-pub record Rewriting (at : ℕ) (room₀ room : List ℕ) (t w : ℕ) : Type 0 where
+pub record Rewriting (strict : Bool) (at : ℕ) (room₀ room : List ℕ) (t w : ℕ) : Type 0 where
   pub all : Rooms at room₀
   pub long : length room ≡ length room₀
   pub low : at ≤ t
@@ -63,11 +63,11 @@ pub record Rewriting (at : ℕ) (room₀ room : List ℕ) (t w : ℕ) : Type 0 w
   pub done : Clauses
   pub place : w ≡ length (encodes done)
   pub there : within 0 w room ≡ encodes done
-  pub dead : isDead (rewriteEach (all .clauses)) ≡ isDead (rewriteEach left)
-  pub whole : join done (live (rewriteEach left)) ≡ live (rewriteEach (all .clauses))
+  pub dead : isDead (rewriteEach strict (all .clauses)) ≡ isDead (rewriteEach strict left)
+  pub whole : join done (live (rewriteEach strict left)) ≡ live (rewriteEach strict (all .clauses))
   pub bulky : bulks done + bulks left ≤ bulks (all .clauses)
 
-pub rewriting-start : {at : ℕ} {room : List ℕ} → Rooms at room → Rewriting at room room at 0
+pub rewriting-start : {strict : Bool} {at : ℕ} {room : List ℕ} → Rooms at room → Rewriting strict at room room at 0
 unfolding encodes bulk
 rewriting-start {at} {room} R = record {
   all = R;
@@ -84,7 +84,7 @@ rewriting-start {at} {room} R = record {
   bulky = omega arith;
 }
 
-module _ {at : ℕ} {room₀ room : List ℕ} {t w : ℕ} (g : Rewriting at room₀ room t w) where
+module _ {strict : Bool} {at : ℕ} {room₀ room : List ℕ} {t w : ℕ} (g : Rewriting strict at room₀ room t w) where
   -- what is laid leaves a byte for each clause that is still to be read
   pub behind : (w + clauseCounts (g .left) ≤ t) × (w + clauseCounts (g .done) ≤ length room) × (bulks (g .left) < 65536) × (bulks (g .done) < 65536)
   behind =
@@ -126,11 +126,11 @@ module _ {at : ℕ} {room₀ room : List ℕ} {t w : ℕ} (g : Rewriting at room
 
       -- its stretch came back as ys
       module _ {n : ℕ} (ys : List ℕ)
-          (T : (q : Query) → Is (drop (t - w) (within (w + 3) e room)) q → Stands 0 (within (w + 3) e room) n (encode (rewriteOnce q)) ys) where
+          (T : (q : Query) → Is (drop (t - w) (within (w + 3) e room)) q → Stands 0 (within (w + 3) e room) n (encode (rewriteOnce strict q)) ys) where
         abbrev room₁ : List ℕ
         room₁ = take (w + 3) room ++ (ys ++ drop (e - (w + 3)) (drop (w + 3) room))
 
-        S₀ : Stands 0 (within (w + 3) e room) n (encode (rewriteOnce (here .query))) ys
+        S₀ : Stands 0 (within (w + 3) e room) n (encode (rewriteOnce strict (here .query))) ys
         S₀ = let R = child-room in T (here .query) (here-is)
           where
             here-is : Is (drop (t - w) (within (w + 3) e room)) (here .query)
@@ -143,7 +143,7 @@ module _ {at : ℕ} {room₀ room : List ℕ} {t w : ℕ} (g : Rewriting at room
         long-ys : length ys ≡ e - (w + 3)
         long-ys = let l = child-low in S₀ .long ∙ within-length room (w + 3) e (l .0) (l .3)
 
-        S : Stands (w + 3) room n (encode (rewriteOnce (here .query))) room₁
+        S : Stands (w + 3) room n (encode (rewriteOnce strict (here .query))) room₁
         S = let l = child-low in stands-lent room ys (w + 3) e (l .0) (l .3) long-ys S₀
 
         above : within e (length room) room₁ ≡ within e (length room) room
@@ -152,15 +152,15 @@ module _ {at : ℕ} {room₀ room : List ℕ} {t w : ℕ} (g : Rewriting at room
             let y = long-ys in
             ap (within e (length room)) (lent room ys (w + 3) e (l .0) (l .3) y) ∙ behind-laid room ys e (length room) (w + 3) (omega arith) (omega arith)
 
-        child-tag : getD room₁ (w + 3) 0 ≡ tagOf (encode (rewriteOnce (here .query)))
-        child-tag = tag-of room₁ (w + 3) n (rewriteOnce (here .query)) (record { valid = valid-once (here .query) (here .is .valid); form = sym (S .there) })
+        child-tag : getD room₁ (w + 3) 0 ≡ tagOf (encode (rewriteOnce strict (here .query)))
+        child-tag = tag-of room₁ (w + 3) n (rewriteOnce strict (here .query)) (record { valid = valid-once strict (here .query) (here .is .valid); form = sym (S .there) })
 
         pub child-fits : (w + 3 < length room₁) × (w + 3 + n ≤ length room₁) × (n < 65536) × (length room₁ ≡ length room) × (w + 3 + n < 65536) × (w + n ≤ t + length (encode (here .query)))
         child-fits =
             let b = behind in
             let s = size in
             let l = child-low in
-            let o = once-bulk (here .query) in
+            let o = once-bulk strict (here .query) in
             let k = bulk-is (here .query) in
             let d = bulks-are (g .done) in
             omega (arith, S .size, S .long, long-ys, S₀ .size, length-take n ys, ap length (S₀ .there), g .place, g .bulky, g .all .small)
@@ -178,27 +178,27 @@ module _ {at : ℕ} {room₀ room : List ℕ} {t w : ℕ} (g : Rewriting at room
           form = here .are .form ∙ ap (λ (i : ℕ). within i (length room) room) (sym (clause-end here e ee)) ∙ sym above;
         }
 
-        unroll-dead : isDead (rewriteEach (g .left)) ≡ ((isNeeded (here .kind) && isNone (rewriteOnce (here .query))) || isDead (rewriteEach (here .others)))
+        unroll-dead : isDead (rewriteEach strict (g .left)) ≡ ((isNeeded (here .kind) && isNone (rewriteOnce strict (here .query))) || isDead (rewriteEach strict (here .others)))
         unfolding isDead rewriteOnce
-        unroll-dead = ap (λ (cs : Clauses). isDead (rewriteEach cs)) (here .split)
+        unroll-dead = ap (λ (cs : Clauses). isDead (rewriteEach strict cs)) (here .split)
 
-        unroll-live : live (rewriteEach (g .left))
-            ≡ cond (isNone (rewriteOnce (here .query))) (live (rewriteEach (here .others))) (clause (here .kind) (rewriteOnce (here .query)) (live (rewriteEach (here .others))))
+        unroll-live : live (rewriteEach strict (g .left))
+            ≡ cond (isNone (rewriteOnce strict (here .query))) (live (rewriteEach strict (here .others))) (clause (here .kind) (rewriteOnce strict (here .query)) (live (rewriteEach strict (here .others))))
         unfolding live rewriteOnce
-        unroll-live = ap (λ (cs : Clauses). live (rewriteEach cs)) (here .split)
+        unroll-live = ap (λ (cs : Clauses). live (rewriteEach strict cs)) (here .split)
 
         -- it is MatchNone
         module _ (h : getD room₁ (w + 3) 0 ≡ 7) (k : ℕ) (ek : k ≡ getD room t 0) (b : Bool) (eb : (j : Kind) → kindTag j ≡ k → b ≡ isNeeded j) where
-          gone : isNone (rewriteOnce (here .query)) ≡ true
-          gone = none-true (rewriteOnce (here .query)) (sym child-tag ∙ h)
+          gone : isNone (rewriteOnce strict (here .query)) ≡ true
+          gone = none-true (rewriteOnce strict (here .query)) (sym child-tag ∙ h)
 
           needs : isNeeded (here .kind) ≡ b
           needs = sym (eb (here .kind) (sym (ek ∙ here .part .tag)))
 
-          pub child-dead : b ≡ true → (cs : Clauses) → Are (drop at room₀) cs → isDead (rewriteEach cs) ≡ true
-          child-dead tb cs a = ap (λ (ds : Clauses). isDead (rewriteEach ds)) (are-same a (g .all .are)) ∙ g .dead ∙ unroll-dead ∙ rw (needs, tb, gone)
+          pub child-dead : b ≡ true → (cs : Clauses) → Are (drop at room₀) cs → isDead (rewriteEach strict cs) ≡ true
+          child-dead tb cs a = ap (λ (ds : Clauses). isDead (rewriteEach strict ds)) (are-same a (g .all .are)) ∙ g .dead ∙ unroll-dead ∙ rw (needs, tb, gone)
 
-          pub child-skip : b ≡ false → Rewriting at room₀ room₁ e w
+          pub child-skip : b ≡ false → Rewriting strict at room₀ room₁ e w
           child-skip fb =
               let l = child-low in
               let s = size in
@@ -220,13 +220,13 @@ module _ {at : ℕ} {room₀ room : List ℕ} {t w : ℕ} (g : Rewriting at room
 
         -- it is kept
         pub child-keep : (getD room₁ (w + 3) 0 ≡ 7 → ⊥) → (k : ℕ) → k ≡ getD room t 0 → {p : ℕ} {room₂ : List ℕ} → Put room₁ w (header k n) p room₂
-            → Rewriting at room₀ room₂ e (w + 3 + n)
+            → Rewriting strict at room₀ room₂ e (w + 3 + n)
         child-keep nh k ek {p} {room₂} P =
-            let q = rewriteOnce (here .query) in
+            let q = rewriteOnce strict (here .query) in
             let l = child-low in
             let s = size in
             let c = child-fits in
-            let o = once-bulk (here .query) in
+            let o = once-bulk strict (here .query) in
             let stays : isNone q ≡ false = none-false q (λ z. nh (child-tag ∙ z)) in
             let T : Stands w room (3 + n) (header k n ++ encode q) room₂ = rw (P .bytes) (stands-before w (header k n) S (omega arith) (omega (arith, S .long))) in
             let bytes : header k n ++ encode q ≡ part (kindTag (here .kind)) (encode q) =
@@ -249,8 +249,8 @@ module _ {at : ℕ} {room₀ room : List ℕ} {t w : ℕ} (g : Rewriting at room
                   sym (joined room₂ 0 w (w + 3 + n) (omega arith) (omega arith))
                   ∙ ap {B = List ℕ} (λ l. l ++ within w (w + 3 + n) room₂) (within-same room₂ room 0 w w (omega arith) (omega arith) (T .kept) ∙ g .there)
                   ∙ ap {B = List ℕ} (λ l. encodes (g .done) ++ l) new ∙ sym (encodes-snoc (g .done) (here .kind) q);
-              dead = g .dead ∙ unroll-dead ∙ rw stays (or-away (isNeeded (here .kind)) (isDead (rewriteEach (here .others))));
-              whole = join-snoc (g .done) (here .kind) q (live (rewriteEach (here .others))) ∙ ap (join (g .done)) (sym (unroll-live ∙ rw stays)) ∙ g .whole;
+              dead = g .dead ∙ unroll-dead ∙ rw stays (or-away (isNeeded (here .kind)) (isDead (rewriteEach strict (here .others))));
+              whole = join-snoc (g .done) (here .kind) q (live (rewriteEach strict (here .others))) ∙ ap (join (g .done)) (sym (unroll-live ∙ rw stays)) ∙ g .whole;
               bulky = omega (arith, g .bulky, snoc-bulk (g .done) (here .kind) q);
             }
           where
@@ -258,13 +258,13 @@ module _ {at : ℕ} {room₀ room : List ℕ} {t w : ℕ} (g : Rewriting at room
             or-away true b = refl
             or-away false b = refl
 
-  pub rewriting-end : length room ≤ t → (cs : Clauses) → Are (drop at room₀) cs → Went w room₀ room cs
+  pub rewriting-end : length room ≤ t → (cs : Clauses) → Are (drop at room₀) cs → Went strict w room₀ room cs
   unfolding live isDead rewriteOnce
   rewriting-end p cs a =
       let n = no-clause-at room t (length room) (g .left) (g .are-left) p in
       let same = are-same (g .all .are) a in
-      let d : g .done ≡ live (rewriteEach cs) =
-      sym (join-none (g .done)) ∙ ap (join (g .done)) (sym (ap (λ (ds : Clauses). live (rewriteEach ds)) n)) ∙ g .whole ∙ ap (λ (ds : Clauses). live (rewriteEach ds)) same in
+      let d : g .done ≡ live (rewriteEach strict cs) =
+      sym (join-none (g .done)) ∙ ap (join (g .done)) (sym (ap (λ (ds : Clauses). live (rewriteEach strict ds)) n)) ∙ g .whole ∙ ap (λ (ds : Clauses). live (rewriteEach strict ds)) same in
       let z : w - 0 ≡ w = omega arith in
       record {
         stands = record {
@@ -273,5 +273,5 @@ module _ {at : ℕ} {room₀ room : List ℕ} {t w : ℕ} (g : Rewriting at room
           size = g .place ∙ ap (λ (ds : Clauses). length (encodes ds)) d;
           there = ap (λ (i : ℕ). take i (drop 0 room)) (sym z) ∙ g .there ∙ ap encodes d;
         };
-        alive = sym (ap (λ (ds : Clauses). isDead (rewriteEach ds)) same) ∙ g .dead ∙ ap (λ (ds : Clauses). isDead (rewriteEach ds)) n;
+        alive = sym (ap (λ (ds : Clauses). isDead (rewriteEach strict ds)) same) ∙ g .dead ∙ ap (λ (ds : Clauses). isDead (rewriteEach strict ds)) n;
       }

@@ -2,7 +2,7 @@
 use mathlib.Core.Path.{_≡_, refl, sym, ap, _∙_, subst}
 use Prim.Native.Nat.{ℕ, _+_, _-_, _≤_, _<_}
 use mathlib.Core.List.{List, _++_}
-use mathlib.Core.Bool.{true, false, cond}
+use mathlib.Core.Bool.{Bool, true, false, cond}
 use native.Mathlib.Omega.{arith}
 use lib.ListN.{length, getD, take, drop, length-drop}
 use lib.Seq.{drop-drop}
@@ -33,21 +33,21 @@ use Rattle.round.proofs.Finishing.{boost-form, score-form, moved}
 
 -- ---- sizes
 
-pub once-bulk : (q : Query) → (length (encode (rewriteOnce q)) ≤ bulk q) × (bulk (rewriteOnce q) ≤ bulk q) × (3 ≤ bulk q)
-once-bulk q =
-    let b = once-law Bounded (λ m cs ds. BoundedAll cs ds) bounds-law q .in-bulk in
-    omega (arith, b, bulk-is (rewriteOnce q), measured q)
+pub once-bulk : (strict : Bool) (q : Query) → (length (encode (rewriteOnce strict q)) ≤ bulk q) × (bulk (rewriteOnce strict q) ≤ bulk q) × (3 ≤ bulk q)
+once-bulk strict q =
+    let b = once-law strict Bounded (λ m cs ds. BoundedAll cs ds) (bounds-law strict) q .in-bulk in
+    omega (arith, b, bulk-is (rewriteOnce strict q), measured q)
 
-each-bulk : (cs : Clauses) → bulks (rewriteEach cs) ≤ bulks cs
-each-bulk cs = each-law Bounded (λ m cs ds. BoundedAll cs ds) bounds-law cs 0 .in-bulk
+each-bulk : (strict : Bool) (cs : Clauses) → bulks (rewriteEach strict cs) ≤ bulks cs
+each-bulk strict cs = each-law strict Bounded (λ m cs ds. BoundedAll cs ds) (bounds-law strict) cs 0 .in-bulk
 
-live-bulk : (cs : Clauses) → isDead (rewriteEach cs) ≡ false → bulks (live (rewriteEach cs)) ≤ bulks cs
-live-bulk cs h =
-    let l = live-law Bounded (λ m cs ds. BoundedAll cs ds) bounds-law 0 (rewriteEach cs) h .in-bulk in
-    omega (arith, each-bulk cs)
+live-bulk : (strict : Bool) (cs : Clauses) → isDead (rewriteEach strict cs) ≡ false → bulks (live (rewriteEach strict cs)) ≤ bulks cs
+live-bulk strict cs h =
+    let l = live-law strict Bounded (λ m cs ds. BoundedAll cs ds) (bounds-law strict) 0 (rewriteEach strict cs) h .in-bulk in
+    omega (arith, each-bulk strict cs)
 
-live-valid : (cs : Clauses) → isDead (rewriteEach cs) ≡ false → Valids cs → Valids (live (rewriteEach cs))
-live-valid cs h v = live-law Lightens LightensAll weight-law 0 (rewriteEach cs) h (each-law Lightens LightensAll weight-law cs 0 v .0) .0
+live-valid : (strict : Bool) (cs : Clauses) → isDead (rewriteEach strict cs) ≡ false → Valids cs → Valids (live (rewriteEach strict cs))
+live-valid strict cs h v = live-law strict Lightens LightensAll (weight-law strict) 0 (rewriteEach strict cs) h (each-law strict Lightens LightensAll (weight-law strict) cs 0 v .0) .0
 
 -- ---- forms, by tag
 
@@ -63,16 +63,16 @@ boolean-form q h = go (at-tag (encode q) _ 3 q h refl refl)
     go : {b : List ℕ} {q : Query} → View 3 b q → (m : ℕ) × (cs : Clauses) × (q ≡ boolean m cs)
     go (v-boolean {m} {cs}) = (m, cs, refl)
 
-plain-form : (q : Query) → (tagOf (encode q) ≡ 2 → ⊥) → (tagOf (encode q) ≡ 3 → ⊥) → (tagOf (encode q) ≡ 4 → ⊥) → (tagOf (encode q) ≡ 5 → ⊥) → rewriteOnce q ≡ q
+plain-form : (strict : Bool) (q : Query) → (tagOf (encode q) ≡ 2 → ⊥) → (tagOf (encode q) ≡ 3 → ⊥) → (tagOf (encode q) ≡ 4 → ⊥) → (tagOf (encode q) ≡ 5 → ⊥) → rewriteOnce strict q ≡ q
 unfolding encode rewriteOnce
-plain-form (term f t) a b c d = refl
-plain-form (phrase f ws) a b c d = absurd (a refl)
-plain-form (boolean m cs) a b c d = absurd (b refl)
-plain-form (boost x q) a b c d = absurd (c refl)
-plain-form (constantScore q) a b c d = absurd (d refl)
-plain-form matchAll a b c d = refl
-plain-form matchNone a b c d = refl
-plain-form (range n f l u) a b c d = refl
+plain-form strict (term f t) a b c d = refl
+plain-form strict (phrase f ws) a b c d = absurd (a refl)
+plain-form strict (boolean m cs) a b c d = absurd (b refl)
+plain-form strict (boost x q) a b c d = absurd (c refl)
+plain-form strict (constantScore q) a b c d = absurd (d refl)
+plain-form strict matchAll a b c d = refl
+plain-form strict matchNone a b c d = refl
+plain-form strict (range n f l u) a b c d = refl
 
 -- ---- a stretch that was lent
 
@@ -134,9 +134,9 @@ module _ {at : ℕ} {room : List ℕ} (R : Room at room) where
   tag-here = tag-at room (encode (R .query)) at (sym (R .is .form))
 
   -- what is shown of it is shown of each query that has these bytes
-  pub for-all : {r : ℕ} {room′ : List ℕ} → Stands 0 room r (encode (rewriteOnce (R .query))) room′
-      → (q : Query) → Is (drop at room) q → Stands 0 room r (encode (rewriteOnce q)) room′
-  for-all {r} {room′} S q i = subst (λ (x : Query). Stands 0 room r (encode (rewriteOnce x)) room′) (is-same (R .is) i) S
+  pub for-all : (strict : Bool) {r : ℕ} {room′ : List ℕ} → Stands 0 room r (encode (rewriteOnce strict (R .query))) room′
+      → (q : Query) → Is (drop at room) q → Stands 0 room r (encode (rewriteOnce strict q)) room′
+  for-all strict {r} {room′} S q i = subst (λ (x : Query). Stands 0 room r (encode (rewriteOnce strict x)) room′) (is-same (R .is) i) S
 
   -- as a query of the form that its tag shows
   as-form : {q : Query} → R .query ≡ q → Is (drop at room) q
@@ -156,28 +156,28 @@ module _ {at : ℕ} {room : List ℕ} (R : Room at room) where
     inner-room = record { query = N .inner; is = inner-lent; fits = omega (arith, R .fits, N .count); small = omega (arith, R .small, N .size) }
 
     -- the stretch from k on came back as ys
-    module _ {n : ℕ} {ys : List ℕ} (T : (q : Query) → Is (drop at (within k (length room) room)) q → Stands 0 (within k (length room) room) n (encode (rewriteOnce q)) ys) where
-      inner-stands : Stands k room n (encode (rewriteOnce (N .inner))) (returned k room ys)
+    module _ (strict : Bool) {n : ℕ} {ys : List ℕ} (T : (q : Query) → Is (drop at (within k (length room) room)) q → Stands 0 (within k (length room) room) n (encode (rewriteOnce strict q)) ys) where
+      inner-stands : Stands k room n (encode (rewriteOnce strict (N .inner))) (returned k room ys)
       inner-stands = let l = N .low in returned-stands room ys k (omega arith) (T (N .inner) inner-lent)
 
-      inner-is : Is (take n (drop k (returned k room ys))) (rewriteOnce (N .inner))
-      inner-is = record { valid = valid-once (N .inner) (N .here .valid); form = sym (inner-stands .there) }
+      inner-is : Is (take n (drop k (returned k room ys))) (rewriteOnce strict (N .inner))
+      inner-is = record { valid = valid-once strict (N .inner) (N .here .valid); form = sym (inner-stands .there) }
 
       inner-inside : Inner k n (returned k room ys)
       inner-inside =
-          let b = once-bulk (N .inner) in
+          let b = once-bulk strict (N .inner) in
           record {
-            query = rewriteOnce (N .inner);
+            query = rewriteOnce strict (N .inner);
             is = inner-is;
             fits = omega (arith, inner-stands .size, inner-stands .long, R .fits, N .size, N .count, inside, bulk-is (R .query));
             small = omega (arith, inner-stands .size, R .small, N .size);
           }
 
       -- the last step makes f of it
-      inner-done : (f : Query → Query) → rewriteOnce (R .query) ≡ f (rewriteOnce (N .inner)) → {r : ℕ} {room₂ : List ℕ}
+      inner-done : (f : Query → Query) → rewriteOnce strict (R .query) ≡ f (rewriteOnce strict (N .inner)) → {r : ℕ} {room₂ : List ℕ}
           → ((q : Query) → Is (take n (drop k (returned k room ys))) q → Stands 0 (returned k room ys) r (encode (f q)) room₂)
-          → (q : Query) → Is (drop at room) q → Stands 0 room r (encode (rewriteOnce q)) room₂
-      inner-done f e U = for-all (rw e (stands-over inner-stands (U (rewriteOnce (N .inner)) inner-is) (omega arith)))
+          → (q : Query) → Is (drop at room) q → Stands 0 room r (encode (rewriteOnce strict q)) room₂
+      inner-done f e U = for-all strict (rw e (stands-over inner-stands (U (rewriteOnce strict (N .inner)) inner-is) (omega arith)))
 
   -- ---- a phrase
 
@@ -193,12 +193,12 @@ module _ {at : ℕ} {room : List ℕ} (R : Room at room) where
           small = omega (arith, inside, R .small);
         }
 
-    pub phrase-done : {r : ℕ} {room′ : List ℕ} → ((f : List ℕ) (ws : List Word) → Is (drop at room) (phrase f ws) → Stands 0 room r (encode (phrased f ws)) room′)
-        → (q : Query) → Is (drop at room) q → Stands 0 room r (encode (rewriteOnce q)) room′
+    pub phrase-done : (strict : Bool) {r : ℕ} {room′ : List ℕ} → ((f : List ℕ) (ws : List Word) → Is (drop at room) (phrase f ws) → Stands 0 room r (encode (phrased f ws)) room′)
+        → (q : Query) → Is (drop at room) q → Stands 0 room r (encode (rewriteOnce strict q)) room′
     unfolding rewriteOnce
-    phrase-done {r} {room′} S =
+    phrase-done strict {r} {room′} S =
         let F = phrase-form (R .query) (sym tag-here ∙ h) in
-        for-all (subst (λ (q : Query). Stands 0 room r (encode (rewriteOnce q)) room′) (sym (F .2)) (S (F .0) (F .1) (as-form (F .2))))
+        for-all strict (subst (λ (q : Query). Stands 0 room r (encode (rewriteOnce strict q)) room′) (sym (F .2)) (S (F .0) (F .1) (as-form (F .2))))
 
   -- ---- a boost
 
@@ -231,18 +231,18 @@ module _ {at : ℕ} {room : List ℕ} (R : Room at room) where
     boost-room = inner-room (B .nested)
 
     -- the stretch from 7 on came back as ys
-    module _ {n : ℕ} {ys : List ℕ} (T : (q : Query) → Is (drop at (within 7 (length room) room)) q → Stands 0 (within 7 (length room) room) n (encode (rewriteOnce q)) ys) where
+    module _ (strict : Bool) {n : ℕ} {ys : List ℕ} (T : (q : Query) → Is (drop at (within 7 (length room) room)) q → Stands 0 (within 7 (length room) room) n (encode (rewriteOnce strict q)) ys) where
       pub boost-inside : Inner 7 n (returned 7 room ys)
-      boost-inside = inner-inside (B .nested) T
+      boost-inside = inner-inside (B .nested) strict T
 
       pub boost-done : (b : ℕ) → b ≡ ofBig (take 4 (within (at + 3) (length room) room)) → {r : ℕ} {room₂ : List ℕ}
           → ((q : Query) → Is (take n (drop 7 (returned 7 room ys))) q → Stands 0 (returned 7 room ys) r (encode (cond (isOne (widened b)) q (boosted b q))) room₂)
-          → (q : Query) → Is (drop at room) q → Stands 0 room r (encode (rewriteOnce q)) room₂
+          → (q : Query) → Is (drop at room) q → Stands 0 room r (encode (rewriteOnce strict q)) room₂
       unfolding rewriteOnce
       boost-done b eb =
-          let p = rewriteOnce (B .nested .inner) in
-          inner-done (B .nested) T (λ q. cond (isOne (widened b)) q (boosted b q))
-          (ap rewriteOnce (B .is) ∙ ap (λ (x : ℕ). cond (isOne (widened x)) p (boosted x p)) (sym (eb ∙ read-at 4 3 ∙ B .read)))
+          let p = rewriteOnce strict (B .nested .inner) in
+          inner-done (B .nested) strict T (λ q. cond (isOne (widened b)) q (boosted b q))
+          (ap (rewriteOnce strict) (B .is) ∙ ap (λ (x : ℕ). cond (isOne (widened x)) p (boosted x p)) (sym (eb ∙ read-at 4 3 ∙ B .read)))
 
   -- ---- a constant score
 
@@ -273,15 +273,15 @@ module _ {at : ℕ} {room : List ℕ} (R : Room at room) where
     score-room = inner-room (C .nested)
 
     -- the stretch from 3 on came back as ys
-    module _ {n : ℕ} {ys : List ℕ} (T : (q : Query) → Is (drop at (within 3 (length room) room)) q → Stands 0 (within 3 (length room) room) n (encode (rewriteOnce q)) ys) where
+    module _ (strict : Bool) {n : ℕ} {ys : List ℕ} (T : (q : Query) → Is (drop at (within 3 (length room) room)) q → Stands 0 (within 3 (length room) room) n (encode (rewriteOnce strict q)) ys) where
       pub score-inside : Inner 3 n (returned 3 room ys)
-      score-inside = inner-inside (C .nested) T
+      score-inside = inner-inside (C .nested) strict T
 
       pub score-done : {r : ℕ} {room₂ : List ℕ}
           → ((q : Query) → Is (take n (drop 3 (returned 3 room ys))) q → Stands 0 (returned 3 room ys) r (encode (scored q)) room₂)
-          → (q : Query) → Is (drop at room) q → Stands 0 room r (encode (rewriteOnce q)) room₂
+          → (q : Query) → Is (drop at room) q → Stands 0 room r (encode (rewriteOnce strict q)) room₂
       unfolding rewriteOnce
-      score-done = inner-done (C .nested) T scored (ap rewriteOnce (C .is))
+      score-done = inner-done (C .nested) strict T scored (ap (rewriteOnce strict) (C .is))
 
   -- ---- a Boolean
 
@@ -327,34 +327,34 @@ module _ {at : ℕ} {room : List ℕ} (R : Room at room) where
       pub boolean-long : length (returned 8 room ys) ≡ length room
       boolean-long = let l = D .low in returned-long room ys 8 (omega arith) long
 
-      pub boolean-dead : ((cs : Clauses) → Are (drop at (within 8 (length room) room)) cs → isDead (rewriteEach cs) ≡ true) → {r : ℕ} {room₂ : List ℕ}
-          → Stands 0 (returned 8 room ys) r (encode matchNone) room₂ → (q : Query) → Is (drop at room) q → Stands 0 room r (encode (rewriteOnce q)) room₂
+      pub boolean-dead : (strict : Bool) → ((cs : Clauses) → Are (drop at (within 8 (length room) room)) cs → isDead (rewriteEach strict cs) ≡ true) → {r : ℕ} {room₂ : List ℕ}
+          → Stands 0 (returned 8 room ys) r (encode matchNone) room₂ → (q : Query) → Is (drop at room) q → Stands 0 room r (encode (rewriteOnce strict q)) room₂
       unfolding rewriteOnce rewriteBoolean
-      boolean-dead E {r} {room₂} T =
+      boolean-dead strict E {r} {room₂} T =
           let U : Stands 0 room r (encode matchNone) room₂ = record { long = T .long ∙ boolean-long; kept = refl; size = T .size; there = T .there } in
-          for-all (subst (λ (q : Query). Stands 0 room r (encode (rewriteOnce q)) room₂) (sym (D .is)) (rw (E (D .clauses) boolean-lent) U))
+          for-all strict (subst (λ (q : Query). Stands 0 room r (encode (rewriteOnce strict q)) room₂) (sym (D .is)) (rw (E (D .clauses) boolean-lent) U))
 
-    module _ {w : ℕ} {ys : List ℕ} (T : (cs : Clauses) → Are (drop at (within 8 (length room) room)) cs → Went w (within 8 (length room) room) ys cs)
+    module _ (strict : Bool) {w : ℕ} {ys : List ℕ} (T : (cs : Clauses) → Are (drop at (within 8 (length room) room)) cs → Went strict w (within 8 (length room) room) ys cs)
         (m : ℕ) (em : (m ≡ ofBig (take 2 (within (at + 6) (length room) room))) × (m < 65536)) where
-      S₈ : Stands 8 room w (encodes (live (rewriteEach (D .clauses)))) (returned 8 room ys)
+      S₈ : Stands 8 room w (encodes (live (rewriteEach strict (D .clauses)))) (returned 8 room ys)
       S₈ = let l = D .low in returned-stands room ys 8 (omega arith) (T (D .clauses) boolean-lent .stands)
 
-      alive-are : Are (within 8 (8 + w) (returned 8 room ys)) (live (rewriteEach (D .clauses)))
+      alive-are : Are (within 8 (8 + w) (returned 8 room ys)) (live (rewriteEach strict (D .clauses)))
       alive-are =
           let z : 8 + w - 8 ≡ w = omega arith in
           record {
-            valid = live-valid (D .clauses) (T (D .clauses) boolean-lent .alive) (D .are .valid);
+            valid = live-valid strict (D .clauses) (T (D .clauses) boolean-lent .alive) (D .are .valid);
             form = sym (ap (λ (n : ℕ). take n (drop 8 (returned 8 room ys))) z ∙ S₈ .there);
           }
 
       pub boolean-live : Live (8 + w) m (returned 8 room ys)
       boolean-live =
-          let b = live-bulk (D .clauses) (T (D .clauses) boolean-lent .alive) in
-          let n = bulks-are (live (rewriteEach (D .clauses))) in
+          let b = live-bulk strict (D .clauses) (T (D .clauses) boolean-lent .alive) in
+          let n = bulks-are (live (rewriteEach strict (D .clauses))) in
           let i = inside in
           let q = bulk-is (R .query) in
           record {
-            clauses = live (rewriteEach (D .clauses));
+            clauses = live (rewriteEach strict (D .clauses));
             are = alive-are;
             low = omega arith;
             high = omega (arith, S₈ .size, S₈ .long, R .fits, D .size, D .count);
@@ -364,20 +364,20 @@ module _ {at : ℕ} {room : List ℕ} (R : Room at room) where
           }
 
       pub boolean-done : {r : ℕ} {room₂ : List ℕ}
-          → ((cs : Clauses) → Are (within 8 (8 + w) (returned 8 room ys)) cs → Stands 0 (returned 8 room ys) r (encode (ofLive m cs)) room₂)
-          → (q : Query) → Is (drop at room) q → Stands 0 room r (encode (rewriteOnce q)) room₂
+          → ((cs : Clauses) → Are (within 8 (8 + w) (returned 8 room ys)) cs → Stands 0 (returned 8 room ys) r (encode (ofLive strict m cs)) room₂)
+          → (q : Query) → Is (drop at room) q → Stands 0 room r (encode (rewriteOnce strict q)) room₂
       unfolding rewriteOnce rewriteBoolean
       boolean-done {r} {room₂} U =
           let e = em .0 ∙ read-at 2 6 ∙ D .read in
-          let X = stands-over S₈ (U (live (rewriteEach (D .clauses))) alive-are) (omega arith) in
-          for-all (subst (λ (q : Query). Stands 0 room r (encode (rewriteOnce q)) room₂) (sym (D .is))
-          (rw (T (D .clauses) boolean-lent .alive) (subst (λ (x : ℕ). Stands 0 room r (encode (ofLive x (live (rewriteEach (D .clauses))))) room₂) e X)))
+          let X = stands-over S₈ (U (live (rewriteEach strict (D .clauses))) alive-are) (omega arith) in
+          for-all strict (subst (λ (q : Query). Stands 0 room r (encode (rewriteOnce strict q)) room₂) (sym (D .is))
+          (rw (T (D .clauses) boolean-lent .alive) (subst (λ (x : ℕ). Stands 0 room r (encode (ofLive strict x (live (rewriteEach strict (D .clauses))))) room₂) e X)))
 
   -- ---- all others
 
-  pub plain-done : (getD room at 0 ≡ 2 → ⊥) → (getD room at 0 ≡ 3 → ⊥) → (getD room at 0 ≡ 4 → ⊥) → (getD room at 0 ≡ 5 → ⊥) → {p : ℕ} {room′ : List ℕ}
-      → Put room 0 (take (length room - at) (drop at room)) p room′ → (q : Query) → Is (drop at room) q → Stands 0 room (length room - at) (encode (rewriteOnce q)) room′
-  plain-done a b c d P =
+  pub plain-done : (strict : Bool) → (getD room at 0 ≡ 2 → ⊥) → (getD room at 0 ≡ 3 → ⊥) → (getD room at 0 ≡ 4 → ⊥) → (getD room at 0 ≡ 5 → ⊥) → {p : ℕ} {room′ : List ℕ}
+      → Put room 0 (take (length room - at) (drop at room)) p room′ → (q : Query) → Is (drop at room) q → Stands 0 room (length room - at) (encode (rewriteOnce strict q)) room′
+  plain-done strict a b c d P =
       let t = tag-here in
-      let e = plain-form (R .query) (λ z. a (t ∙ z)) (λ z. b (t ∙ z)) (λ z. c (t ∙ z)) (λ z. d (t ∙ z)) in
-      for-all (rw e (moved at (length room - at) P (cut-from at room ∙ sym (R .is .form)) (omega (arith, inside)) (omega (arith, inside))))
+      let e = plain-form strict (R .query) (λ z. a (t ∙ z)) (λ z. b (t ∙ z)) (λ z. c (t ∙ z)) (λ z. d (t ∙ z)) in
+      for-all strict (rw e (moved at (length room - at) P (cut-from at room ∙ sym (R .is .form)) (omega (arith, inside)) (omega (arith, inside))))

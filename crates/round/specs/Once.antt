@@ -2,7 +2,7 @@
 use mathlib.Core.Path.{_≡_}
 use Prim.Native.Nat.{ℕ, _≤_, _<_}
 use mathlib.Core.List.{List}
-use mathlib.Core.Bool.{true, false}
+use mathlib.Core.Bool.{Bool, true, false}
 use lib.ListN.{length, drop}
 use Rattle.rules.specs.Query.{Query, Clauses}
 use Rattle.rules.specs.Stored.{encodes}
@@ -28,10 +28,10 @@ pub record Rooms (at : ℕ) (room : List ℕ) : Type 0 where
   pub small : bulks clauses < 65536
 
 -- the clauses after their own rounds: those that live stand at the front, and none ends the Boolean
-pub record Went (w : ℕ) (room room′ : List ℕ) (cs : Clauses) : Type 0 where
-  pub stands : Stands 0 room w (encodes (live (rewriteEach cs))) room′
-  pub alive : isDead (rewriteEach cs) ≡ false
+pub record Went (strict : Bool) (w : ℕ) (room room′ : List ℕ) (cs : Clauses) : Type 0 where
+  pub stands : Stands 0 room w (encodes (live (rewriteEach strict cs))) room′
+  pub alive : isDead (rewriteEach strict cs) ≡ false
 
-abbrev pub Rewritten : List ℕ → Kept → List ℕ → Clauses → Type 0
-Rewritten room Dead room′ cs = isDead (rewriteEach cs) ≡ true
-Rewritten room (Upto w) room′ cs = Went w room room′ cs
+abbrev pub Rewritten : Bool → List ℕ → Kept → List ℕ → Clauses → Type 0
+Rewritten strict room Dead room′ cs = isDead (rewriteEach strict cs) ≡ true
+Rewritten strict room (Upto w) room′ cs = Went strict w room room′ cs

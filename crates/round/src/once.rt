@@ -37,16 +37,16 @@ enum Kept {
 }
 
 // The clauses from `at` on, each after its own round, without those that are MatchNone.
-fn rewrite_clauses(room: &mut [u8], at: usize) -> Kept
+fn rewrite_clauses(room: &mut [u8], at: usize, strict: bool) -> Kept
     requires { ⌜ Rooms at (now room) ⌝ }
-    ensures { λ r. ⌜ ((cs : Clauses) → Are (drop at (now (room .entry))) cs → Rewritten (now (room .entry)) r (now (room .exit)) cs) ⌝ }
+    ensures { λ r. ⌜ ((cs : Clauses) → Are (drop at (now (room .entry))) cs → Rewritten strict (now (room .entry)) r (now (room .exit)) cs) ⌝ }
 {
     let mut t = at;
     let mut w = 0;
     while t < room.len() {
         let k = room[t];
         let e = end_of(room, t);
-        let n = rewrite_once(&mut room[w + HEADER..e], t - w);
+        let n = rewrite_once(&mut room[w + HEADER..e], t - w, strict);
         if room[w + HEADER] == MATCH_NONE_TAG {
             if is_needed(k) {
                 return Kept::Dead;
@@ -61,28 +61,28 @@ fn rewrite_clauses(room: &mut [u8], at: usize) -> Kept
 }
 
 // The query from `at` on.
-pub fn rewrite_once(room: &mut [u8], at: usize) -> usize
+pub fn rewrite_once(room: &mut [u8], at: usize, strict: bool) -> usize
     requires { ⌜ Room at (now room) ⌝ }
-    ensures { λ r. ⌜ ((q : Query) → Is (drop at (now (room .entry))) q → Stands 0 (now (room .entry)) r (encode (rewriteOnce q)) (now (room .exit))) ⌝ }
+    ensures { λ r. ⌜ ((q : Query) → Is (drop at (now (room .entry))) q → Stands 0 (now (room .entry)) r (encode (rewriteOnce strict q)) (now (room .exit))) ⌝ }
 {
     let tag = room[at];
     match tag {
         PHRASE_TAG => phrase_over(room, at),
         BOOLEAN_TAG => {
             let least = big2(&room[at + LEAST..]);
-            let r = rewrite_clauses(&mut room[BOOLEAN_FRONT..], at);
+            let r = rewrite_clauses(&mut room[BOOLEAN_FRONT..], at, strict);
             match r {
                 Kept::Dead => put_none(room),
-                Kept::Upto(w) => rewrite_boolean(room, BOOLEAN_FRONT + w, least),
+                Kept::Upto(w) => rewrite_boolean(room, BOOLEAN_FRONT + w, least, strict),
             }
         }
         BOOST_TAG => {
             let b = big4(&room[at + HEADER..]);
-            let n = rewrite_once(&mut room[BOOST_FRONT..], at);
+            let n = rewrite_once(&mut room[BOOST_FRONT..], at, strict);
             finish_boost(room, n, b)
         }
         CONSTANT_SCORE_TAG => {
-            let n = rewrite_once(&mut room[HEADER..], at);
+            let n = rewrite_once(&mut room[HEADER..], at, strict);
             score_over(room, n)
         }
         _ => {

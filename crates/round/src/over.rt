@@ -168,20 +168,20 @@ fn put_lone(room: &mut [u8], end: usize) -> usize
     n
 }
 
-fn put_merged_boolean(room: &mut [u8], end: usize, least: usize) -> usize
+fn put_merged_boolean(room: &mut [u8], end: usize, least: usize, strict: bool) -> usize
     requires { ⌜ Live end least (now room) ⌝ }
-    ensures { λ r. ⌜ ((cs : Clauses) → Are (within 8 end (now (room .entry))) cs → Stands 0 (now (room .entry)) r (encode (boolean least (mergedClauses least cs))) (now (room .exit))) ⌝ }
+    ensures { λ r. ⌜ ((cs : Clauses) → Are (within 8 end (now (room .entry))) cs → Stands 0 (now (room .entry)) r (encode (boolean least (mergedClauses strict least cs))) (now (room .exit))) ⌝ }
 {
-    let n = merge_clauses(&mut room[BOOLEAN_FRONT..], end - BOOLEAN_FRONT, least);
+    let n = merge_clauses(&mut room[BOOLEAN_FRONT..], end - BOOLEAN_FRONT, least, strict);
     put_minimum(room, HEADER, least);
     put_header(room, 0, BOOLEAN_TAG, MINIMUM + n);
     BOOLEAN_FRONT + n
 }
 
 // A Boolean, of clauses after their own round, from 8 up to the end.
-pub fn rewrite_boolean(room: &mut [u8], end: usize, least: usize) -> usize
+pub fn rewrite_boolean(room: &mut [u8], end: usize, least: usize, strict: bool) -> usize
     requires { ⌜ Live end least (now room) ⌝ }
-    ensures { λ r. ⌜ ((cs : Clauses) → Are (within 8 end (now (room .entry))) cs → Stands 0 (now (room .entry)) r (encode (ofLive least cs)) (now (room .exit))) ⌝ }
+    ensures { λ r. ⌜ ((cs : Clauses) → Are (within 8 end (now (room .entry))) cs → Stands 0 (now (room .entry)) r (encode (ofLive strict least cs)) (now (room .exit))) ⌝ }
 {
     if only_must_not(&room[BOOLEAN_FRONT..end]) {
         return put_none(room);
@@ -190,10 +190,10 @@ pub fn rewrite_boolean(room: &mut [u8], end: usize, least: usize) -> usize
         return put_none(room);
     }
     if least > 1 {
-        return put_merged_boolean(room, end, least);
+        return put_merged_boolean(room, end, least, strict);
     }
     if is_single(&room[BOOLEAN_FRONT..end]) {
         return put_lone(room, end);
     }
-    put_merged_boolean(room, end, least)
+    put_merged_boolean(room, end, least, strict)
 }

@@ -9,6 +9,7 @@ pub mod Weights
 pub mod Merging
 pub mod Tidiness
 pub mod Truth
+pub mod Ways
 pub mod Eating
 pub mod Worked
 pub mod Spans

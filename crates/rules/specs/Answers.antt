@@ -1,6 +1,7 @@
 -- Each public call's whole answer: number, length, count, rounds, and what the output and the room hold afterwards. Section 'Refusal numbers'.
 use Prim.Native.Nat.{ℕ}
 use mathlib.Core.List.{List, [], _∷_, _++_}
+use mathlib.Core.Bool.{Bool}
 use lib.ListN.{length, drop, replicate}
 use lib.Dec.{leb}
 use Rattle.rules.specs.Numbers.{number, Read, got, refused, need, onRead, andThen, longAnswer, shortRoom, parseRoom, rewriteRoom, selectRoom}
@@ -69,16 +70,16 @@ parseReply o a f es text = onRead storedReply (andThen (readSetup o a f es) (λ 
 unfoldable pub parseLeft : ℕ → ℕ → List ℕ → List ℕ → List ℕ → List ℕ → List ℕ → Left
 parseLeft o a f es text output room = call parseRoom (parseReply o a f es text) output room
 
--- ---- rewriting
+-- ---- rewriting, in either way
 
 abbrev pub rewrittenReply : Rewritten → Reply
 rewrittenReply (rewritten q n) = record { bytes = encode q; count = 0; rounds = n }
 
-unfoldable pub rewriteReply : List ℕ → Read Reply
-rewriteReply s = onRead (λ q. rewrittenReply (rewrite q)) (readForRewriting s)
+unfoldable pub rewriteReply : Bool → List ℕ → Read Reply
+rewriteReply strict s = onRead (λ q. rewrittenReply (rewrite strict q)) (readForRewriting s)
 
-unfoldable pub rewriteLeft : List ℕ → List ℕ → List ℕ → Left
-rewriteLeft s output room = call rewriteRoom (rewriteReply s) output room
+unfoldable pub rewriteLeft : Bool → List ℕ → List ℕ → List ℕ → Left
+rewriteLeft strict s output room = call rewriteRoom (rewriteReply strict s) output room
 
 -- ---- selection: the query (19, 20, 21), the list (22, 23)
 

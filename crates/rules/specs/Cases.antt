@@ -10,7 +10,7 @@ use Rattle.rules.specs.Query.{should, filter, Query, term, boolean, boos
 use Rattle.rules.specs.Stored.{encode}
 use Rattle.rules.specs.Setup.{readSetup}
 use Rattle.rules.specs.Parsing.{parse}
-use Rattle.rules.specs.Rewriting.{Rewritten, rewritten, rewrite}
+use Rattle.rules.specs.Rewriting.{Rewritten, rewritten, original, strictly, rewrite}
 use Rattle.rules.specs.Lists.{Entry, place}
 use Rattle.rules.specs.Matching.{matches}
 
@@ -33,8 +33,8 @@ pub data Case : Type 0 where
   -- a text, under an operator and an analyzer, is stored as these bytes, or has this refusal number
   stores : ℕ → ℕ → String → List ℕ → Case
   refuses : ℕ → ℕ → String → ℕ → Case
-  -- a query becomes another in so many rounds
-  becomes : Query → Query → ℕ → Case
+  -- a query becomes another in so many rounds, as in the Rust or strict
+  becomes : Bool → Query → Query → ℕ → Case
   -- a record matches a query, or does not
   isTrue : List Entry → Query → Bool → Case
 
@@ -60,7 +60,7 @@ isSame false false = true
 unfoldable pub holds : Case → Bool
 holds (stores o a s b) = isStored (parsed o a s) b
 holds (refuses o a s n) = isRefused (parsed o a s) n
-holds (becomes p q n) = isRewritten (rewrite p) q n
+holds (becomes strict p q n) = isRewritten (rewrite strict p) q n
 holds (isTrue es q b) = isSame (matches es q) b
 
 -- ---- the table
@@ -107,9 +107,11 @@ table =
     ∷ refuses orOperator simpleAnalyzer "a^2^3" 11
     ∷ refuses orOperator simpleAnalyzer "()^x" 13
     -- one Filter a: Boost 0.0 of ConstantScore a, 2 rounds
-    ∷ becomes lonelyFilter (boost 0 (constantScore termA)) 2
+    ∷ becomes original lonelyFilter (boost 0 (constantScore termA)) 2
     -- minimum 2, Should a twice: MatchNone, 3 rounds, though it matched a record with a
-    ∷ becomes twiceShould matchNone 3
+    ∷ becomes original twiceShould matchNone 3
     ∷ isTrue (place (ascii "f") 0 (ascii "a") ∷ []) twiceShould true
     ∷ isTrue (place (ascii "f") 0 (ascii "a") ∷ []) matchNone false
+    -- strict, it stays as it is, in 1 round
+    ∷ becomes strictly twiceShould twiceShould 1
     ∷ []

@@ -12,8 +12,8 @@ abbrev pub held : ℕ → Kind → Query → Query
 held m k q = cond (summable m k) (base q) q
 
 -- a clause of kind k that is compared by h takes up one of kind j and query p
-abbrev pub eats : ℕ → Kind → Query → Kind → Query → Bool
-eats m k h j p = standsFor k j && equal h (held m j p)
+abbrev pub eats : Bool → ℕ → Kind → Query → Kind → Query → Bool
+eats strict m k h j p = standsFor strict m k j && equal h (held m j p)
 
 -- the sum that a clause starts with
 abbrev pub ownSum : ℕ → Kind → Query → Float
@@ -24,15 +24,15 @@ abbrev pub fed : ℕ → Kind → Query → Float → Float
 fed m j p s = cond (summable m j) (plus s (boostOf p)) s
 
 -- the sum from s on, once it has gone over cs
-unfoldable pub sumEaten : ℕ → Kind → Query → Float → Clauses → Float
-sumEaten m k h s none = s
-sumEaten m k h s (clause j p cs) = sumEaten m k h (cond (eats m k h j p) (fed m j p s) s) cs
+unfoldable pub sumEaten : Bool → ℕ → Kind → Query → Float → Clauses → Float
+sumEaten strict m k h s none = s
+sumEaten strict m k h s (clause j p cs) = sumEaten strict m k h (cond (eats strict m k h j p) (fed m j p s) s) cs
 
 -- what it leaves of cs, in order
-unfoldable pub stayed : ℕ → Kind → Query → Clauses → Clauses
-stayed m k h none = none
-stayed m k h (clause j p cs) = cond (eats m k h j p) (stayed m k h cs) (clause j p (stayed m k h cs))
+unfoldable pub stayed : Bool → ℕ → Kind → Query → Clauses → Clauses
+stayed strict m k h none = none
+stayed strict m k h (clause j p cs) = cond (eats strict m k h j p) (stayed strict m k h cs) (clause j p (stayed strict m k h cs))
 
 -- the clauses that merging gives
-unfoldable pub mergedClauses : ℕ → Clauses → Clauses
-mergedClauses m cs = clausesOf (mergeOnto m empty cs)
+unfoldable pub mergedClauses : Bool → ℕ → Clauses → Clauses
+mergedClauses strict m cs = clausesOf (mergeOnto strict m empty cs)

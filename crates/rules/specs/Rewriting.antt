@@ -1,5 +1,5 @@
 -- Weight, one round of rewriting, all rounds and their count. Section 'One round of rewriting'.
-use Prim.Native.Nat.{ℕ, zero, suc, _+_, max}
+use Prim.Native.Nat.{ℕ, zero, suc, _+_, _≤_, max}
 use mathlib.Core.List.{List, [], _∷_}
 use mathlib.Core.Bool.{Bool, true, false, not, _&&_, _||_, cond}
 use lib.ListN.{length}
@@ -112,6 +112,19 @@ phrased f [] = matchNone
 phrased f (word p t ∷ []) = term f t
 phrased f (v ∷ w ∷ ws) = phrase f (v ∷ w ∷ ws)
 
+-- ---- two ways of rewriting, alike but for Should clauses under a minimum above 1: those that repeat are dropped, as in the Rust; or, strict, all are kept
+
+abbrev pub original : Bool
+original = false
+
+abbrev pub strictly : Bool
+strictly = true
+
+-- where a rewriting keeps what a query is true of: strict, always; else where no minimum is above 1. n is the largest one
+abbrev pub Fair : Bool → ℕ → Type 0
+Fair true n = Unit {0}
+Fair false n = n ≤ 1
+
 -- ---- kinds
 
 abbrev pub isNeeded : Kind → Bool
@@ -145,24 +158,25 @@ summable m should = leb m 1
 summable m mustNot = false
 summable m filter = false
 
--- an equal clause of kind j, kept before, stands for one of kind k: of its own kind, and a Must for a Filter
-abbrev pub standsFor : Kind → Kind → Bool
-standsFor must must = true
-standsFor must should = false
-standsFor must mustNot = false
-standsFor must filter = true
-standsFor should must = false
-standsFor should should = true
-standsFor should mustNot = false
-standsFor should filter = false
-standsFor mustNot must = false
-standsFor mustNot should = false
-standsFor mustNot mustNot = true
-standsFor mustNot filter = false
-standsFor filter must = false
-standsFor filter should = false
-standsFor filter mustNot = false
-standsFor filter filter = true
+-- an equal clause of kind j, kept before, stands for one of kind k: of its own kind, and a Must for a Filter. Strict, a Should stands for no other while
+-- the minimum m is above 1
+abbrev pub standsFor : Bool → ℕ → Kind → Kind → Bool
+standsFor strict m must must = true
+standsFor strict m must should = false
+standsFor strict m must mustNot = false
+standsFor strict m must filter = true
+standsFor strict m should must = false
+standsFor strict m should should = not strict || leb m 1
+standsFor strict m should mustNot = false
+standsFor strict m should filter = false
+standsFor strict m mustNot must = false
+standsFor strict m mustNot should = false
+standsFor strict m mustNot mustNot = true
+standsFor strict m mustNot filter = false
+standsFor strict m filter must = false
+standsFor strict m filter should = false
+standsFor strict m filter mustNot = false
+standsFor strict m filter filter = true
 
 -- ---- the merging of clauses
 
@@ -193,20 +207,20 @@ pub data Merged : Type 0 where
   merged : Kind → Query → Float → Merged → Merged
 
 -- q, of kind k: an equal one takes it up and changes its sum by f, or it is kept with the sum s
-unfoldable pub put : (Float → Float) → Float → Kind → Query → Merged → Merged
-put f s k q empty = merged k q s empty
-put f s k q (merged j p t ms) =
-    let further = merged j p t (put f s k q ms) in
-    cond (standsFor j k && equal p q) (merged j p (f t) ms) further
+unfoldable pub put : Bool → ℕ → (Float → Float) → Float → Kind → Query → Merged → Merged
+put strict m f s k q empty = merged k q s empty
+put strict m f s k q (merged j p t ms) =
+    let further = merged j p t (put strict m f s k q ms) in
+    cond (standsFor strict m j k && equal p q) (merged j p (f t) ms) further
 
 -- a summable clause without its boost, and another as it is
-unfoldable pub addMerged : ℕ → Kind → Query → Merged → Merged
-addMerged m k q ms =
-    cond (summable m k) (put (λ t. plus t (boostOf q)) (boostOf q) k (base q) ms) (put (λ t. t) one k q ms)
+unfoldable pub addMerged : Bool → ℕ → Kind → Query → Merged → Merged
+addMerged strict m k q ms =
+    cond (summable m k) (put strict m (λ t. plus t (boostOf q)) (boostOf q) k (base q) ms) (put strict m (λ t. t) one k q ms)
 
-unfoldable pub mergeOnto : ℕ → Merged → Clauses → Merged
-mergeOnto m ms none = ms
-mergeOnto m ms (clause k q cs) = mergeOnto m (addMerged m k q ms) cs
+unfoldable pub mergeOnto : Bool → ℕ → Merged → Clauses → Merged
+mergeOnto strict m ms none = ms
+mergeOnto strict m ms (clause k q cs) = mergeOnto strict m (addMerged strict m k q ms) cs
 
 -- the sum is rounded once, and put back where it is not 1
 abbrev pub reboosted : Kind → Query → Float → Query
@@ -216,8 +230,8 @@ unfoldable pub clausesOf : Merged → Clauses
 clausesOf empty = none
 clausesOf (merged k q s ms) = clause k (reboosted k q s) (clausesOf ms)
 
-unfoldable pub mergedBoolean : ℕ → Clauses → Query
-mergedBoolean m cs = boolean m (clausesOf (mergeOnto m empty cs))
+unfoldable pub mergedBoolean : Bool → ℕ → Clauses → Query
+mergedBoolean strict m cs = boolean m (clausesOf (mergeOnto strict m empty cs))
 
 -- ---- a Boolean, of clauses after their own round: the steps of `rewrite_boolean`, the last one first
 
@@ -228,10 +242,10 @@ lone should q = q
 lone mustNot q = matchNone
 lone filter q = boost 0 (constantScore q)
 
-unfoldable pub loneOrMerged : ℕ → Clauses → Query
-loneOrMerged m none = mergedBoolean m none
-loneOrMerged m (clause k q none) = cond (leb m 1) (lone k q) (mergedBoolean m (clause k q none))
-loneOrMerged m (clause k q (clause j p cs)) = mergedBoolean m (clause k q (clause j p cs))
+unfoldable pub loneOrMerged : Bool → ℕ → Clauses → Query
+loneOrMerged strict m none = mergedBoolean strict m none
+loneOrMerged strict m (clause k q none) = cond (leb m 1) (lone k q) (mergedBoolean strict m (clause k q none))
+loneOrMerged strict m (clause k q (clause j p cs)) = mergedBoolean strict m (clause k q (clause j p cs))
 
 unfoldable pub shouldCount : Clauses → ℕ
 shouldCount none = 0
@@ -241,8 +255,8 @@ unfoldable pub onlyMustNot : Clauses → Bool
 onlyMustNot none = true
 onlyMustNot (clause k q cs) = isMustNot k && onlyMustNot cs
 
-unfoldable pub ofLive : ℕ → Clauses → Query
-ofLive m cs = cond (onlyMustNot cs) matchNone (cond (ltb (shouldCount cs) m) matchNone (loneOrMerged m cs))
+unfoldable pub ofLive : Bool → ℕ → Clauses → Query
+ofLive strict m cs = cond (onlyMustNot cs) matchNone (cond (ltb (shouldCount cs) m) matchNone (loneOrMerged strict m cs))
 
 -- a Must or a Filter that is MatchNone
 unfoldable pub isDead : Clauses → Bool
@@ -254,25 +268,25 @@ unfoldable pub live : Clauses → Clauses
 live none = none
 live (clause k q cs) = cond (isNone q) (live cs) (clause k q (live cs))
 
-unfoldable pub rewriteBoolean : ℕ → Clauses → Query
-rewriteBoolean m cs = cond (isDead cs) matchNone (ofLive m (live cs))
+unfoldable pub rewriteBoolean : Bool → ℕ → Clauses → Query
+rewriteBoolean strict m cs = cond (isDead cs) matchNone (ofLive strict m (live cs))
 
 -- ---- one round, children first
 
 unfoldable mutual
-  pub rewriteOnce : Query → Query
-  rewriteOnce (term f t) = term f t
-  rewriteOnce (phrase f ws) = phrased f ws
-  rewriteOnce (boolean m cs) = rewriteBoolean m (rewriteEach cs)
-  rewriteOnce (boost b q) = cond (isOne (widened b)) (rewriteOnce q) (boosted b (rewriteOnce q))
-  rewriteOnce (constantScore q) = scored (rewriteOnce q)
-  rewriteOnce matchAll = matchAll
-  rewriteOnce matchNone = matchNone
-  rewriteOnce (range n f l u) = range n f l u
+  pub rewriteOnce : Bool → Query → Query
+  rewriteOnce strict (term f t) = term f t
+  rewriteOnce strict (phrase f ws) = phrased f ws
+  rewriteOnce strict (boolean m cs) = rewriteBoolean strict m (rewriteEach strict cs)
+  rewriteOnce strict (boost b q) = cond (isOne (widened b)) (rewriteOnce strict q) (boosted b (rewriteOnce strict q))
+  rewriteOnce strict (constantScore q) = scored (rewriteOnce strict q)
+  rewriteOnce strict matchAll = matchAll
+  rewriteOnce strict matchNone = matchNone
+  rewriteOnce strict (range n f l u) = range n f l u
 
-  pub rewriteEach : Clauses → Clauses
-  rewriteEach none = none
-  rewriteEach (clause k q cs) = clause k (rewriteOnce q) (rewriteEach cs)
+  pub rewriteEach : Bool → Clauses → Clauses
+  rewriteEach strict none = none
+  rewriteEach strict (clause k q cs) = clause k (rewriteOnce strict q) (rewriteEach strict cs)
 
 -- ---- all rounds: until one changes nothing, the last unchanged one counted
 
@@ -290,13 +304,13 @@ abbrev pub oneRoundMore : Rewritten → Rewritten
 oneRoundMore (rewritten q n) = rewritten q (suc n)
 
 -- at most k rounds
-unfoldable pub rounds : ℕ → Query → Rewritten
-rounds zero q = rewritten q 0
-rounds (suc k) q =
-    let r = rewriteOnce q in
-    let further = oneRoundMore (rounds k r) in
+unfoldable pub rounds : Bool → ℕ → Query → Rewritten
+rounds strict zero q = rewritten q 0
+rounds strict (suc k) q =
+    let r = rewriteOnce strict q in
+    let further = oneRoundMore (rounds strict k r) in
     cond (equal r q) (rewritten r 1) further
 
 -- each round that changes the query lowers its weight, so that this many are enough
-abbrev pub rewrite : Query → Rewritten
-rewrite q = rounds (weight q) q
+abbrev pub rewrite : Bool → Query → Rewritten
+rewrite strict q = rounds strict (weight q) q

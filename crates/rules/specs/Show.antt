@@ -12,7 +12,7 @@ use Rattle.rules.specs.Reading.{readForRewriting}
 use Rattle.rules.specs.Analysis.{between, front, after}
 use Rattle.rules.specs.Setup.{Setup, readSetup}
 use Rattle.rules.specs.Parsing.{parse}
-use Rattle.rules.specs.Rewriting.{Rewritten, rewritten, rewrite}
+use Rattle.rules.specs.Rewriting.{Rewritten, rewritten, original, rewrite}
 
 -- ---- numbers and bytes
 
@@ -121,7 +121,7 @@ showRewritten q (rewritten p n) =
     ascii "written\n" ++ show 0 noKind q ++ ascii "rewritten " ++ decimal n ++ ascii "\n" ++ show 0 noKind p
 
 unfoldable pub showParsed : Query → Read (List ℕ)
-showParsed q = onRead (λ p. showRewritten p (rewrite p)) (readForRewriting (encode q))
+showParsed q = onRead (λ p. showRewritten p (rewrite original p)) (readForRewriting (encode q))
 
 abbrev pub orRefusal : Read (List ℕ) → List ℕ
 orRefusal (got s) = s

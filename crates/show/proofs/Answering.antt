@@ -15,7 +15,7 @@ use Rattle.rules.specs.Query.{Query}
 use Rattle.rules.specs.Stored.{encode, Valid}
 use Rattle.rules.specs.Reading.{readForRewriting}
 use Rattle.rules.specs.Checked.{Is}
-use Rattle.rules.specs.Rewriting.{Rewritten, rewritten, weight, rewrite, resultOf, countOf}
+use Rattle.rules.specs.Rewriting.{Rewritten, rewritten, weight, original, rewrite, resultOf, countOf}
 use Rattle.rules.specs.Show.{decimal, noKind, show, showRewritten, showParsed, orRefusal, showSetup, firstLine, secondLine, showText}
 use Rattle.rules.specs.Parsing.{parse}
 use Rattle.rules.specs.Answers.{Left, Reply, zeros, leave, fitting, call, storedReply, rewrittenReply, rewriteReply, rewriteLeft}
@@ -176,11 +176,11 @@ unparsed s first room h {e} {r} lf (inr (q, eX, l, ee)) er =
 -- ---- what rewriting answered
 
 module _ (s : List ℕ) {q : Query} (eX : writtenIn s ≡ got q) (w second room : List ℕ) (e : w ≡ encode q) (hr : rewriteRoom ≤ length room) (hs : selectionBytes ≤ length second) where
-  text-is : showText s ≡ orRefusal (onRead (λ p. showRewritten p (rewrite p)) (readForRewriting w))
+  text-is : showText s ≡ orRefusal (onRead (λ p. showRewritten p (rewrite original p)) (readForRewriting w))
   unfolding showParsed
   text-is = written-text s ∙ rw (eX, e)
 
-  module _ {r len k n : ℕ} {first second′ room′ : List ℕ} (E : left r len k second′ room′ ≡ rewriteLeft w second room)
+  module _ {r len k n : ℕ} {first second′ room′ : List ℕ} (E : left r len k second′ room′ ≡ rewriteLeft original w second room)
       (ew : take n first ≡ w) (hn : n ≤ length first) (hf : length first ≤ 0xffff) where
     refused-left : {x : Refusal} → readForRewriting w ≡ refused x → Makes s r n first len second′ k
     unfolding rewriteLeft rewriteReply call refusalText
@@ -191,7 +191,7 @@ module _ (s : List ℕ) {q : Query} (eX : writtenIn s ≡ got q) (w second room 
         let c : k ≡ 0 = ap (λ (l : Left). l .answer .rounds) F in
         makes-refused (λ z. number-some x (sym a ∙ z)) (ap refusalText a ∙ sym (text-is ∙ rw f)) first second′ n len k hn (omega arith) (omega arith) (omega arith) (omega arith)
 
-    made-left : (x : Rewritten) (p : Query) → Is w p → readForRewriting w ≡ got p → rewrite p ≡ x → Valid (resultOf x) → length (encode (resultOf x)) ≤ 0xffff
+    made-left : (x : Rewritten) (p : Query) → Is w p → readForRewriting w ≡ got p → rewrite original p ≡ x → Valid (resultOf x) → length (encode (resultOf x)) ≤ 0xffff
         → countOf x ≤ 0xffff → Makes s r n first len second′ k
     unfolding rewriteLeft rewriteReply call answerText
     made-left (rewritten p′ m) p i f g v lv lm =
@@ -226,7 +226,7 @@ module _ (s : List ℕ) {q : Query} (eX : writtenIn s ≡ got q) (w second room 
             let R = read-sound rewriterBytes rewriterDepth w p B f in
             let l : length (encode p) ≤ rewriterBytes = omega (arith, R .0, ap length (R .1 .form)) in
             let v = R .1 .valid in
-            made-left (rewrite p) p (record { valid = v; form = R .1 .form }) f refl (valid-rewrite p v) (within-bytes p (weight p) l) (omega (arith, few-rounds p v, weight-length p))
+            made-left (rewrite original p) p (record { valid = v; form = R .1 .form }) f refl (valid-rewrite original p v) (within-bytes original p (weight p) l) (omega (arith, few-rounds original p v, weight-length p))
 
 -- ---- how far a text can reach
 
@@ -308,9 +308,9 @@ pub short-left : (s out room room′ : List ℕ) → length room < rewriteRoom �
 unfolding showLeft call
 short-left s out room room′ h z = rw (lt-leb rewriteRoom (length room) h, z)
 
-pub rewrite-room : (w out room : List ℕ) {r len k : ℕ} {out′ room′ : List ℕ} → left r len k out′ room′ ≡ rewriteLeft w out room → room′ ≡ zeros room
+pub rewrite-room : (w out room : List ℕ) {r len k : ℕ} {out′ room′ : List ℕ} → left r len k out′ room′ ≡ rewriteLeft original w out room → room′ ≡ zeros room
 unfolding rewriteLeft call
-rewrite-room w out room E = ap (λ (l : Left). l .room) E ∙ leave-room (need (leb rewriteRoom (length room)) shortRoom (andThen (rewriteReply w) (fitting (length out)))) out room
+rewrite-room w out room E = ap (λ (l : Left). l .room) E ∙ leave-room (need (leb rewriteRoom (length room)) shortRoom (andThen (rewriteReply original w) (fitting (length out)))) out room
 
 -- what was made, however code cuts its stretches
 module _ {s : List ℕ} {r w : ℕ} {first : List ℕ} {v : ℕ} {second : List ℕ} {n : ℕ} (M : Makes s r w first v second n) where

@@ -11,7 +11,7 @@ use Rattle.rules.specs.Stored.{encode}
 use Rattle.rules.specs.Reading.{readForRewriting}
 use Rattle.rules.specs.Setup.{Setup}
 use Rattle.rules.specs.Parsing.{parse}
-use Rattle.rules.specs.Rewriting.{Rewritten, rewritten, rewrite}
+use Rattle.rules.specs.Rewriting.{Rewritten, rewritten, original, rewrite}
 use Rattle.rules.specs.Show.{showRewritten, showParsed, showSetup, firstLine, secondLine, orRefusal, showText}
 use Rattle.rules.specs.Answers.{Left}
 use Rattle.rules.proofs.Answers.{Telling, call-telling, ofAnswer, refusal-told, same-answer}
@@ -28,8 +28,8 @@ parsed-some : (q : Query) → 0 < length (orRefusal (showParsed q))
 unfolding showParsed ascii
 parsed-some q = by (readForRewriting (encode q))
   where
-    by : (r : Read Query) → 0 < length (orRefusal (onRead (λ (p : Query). showRewritten p (rewrite p)) r))
-    by (got p) = rewritten-some p (rewrite p)
+    by : (r : Read Query) → 0 < length (orRefusal (onRead (λ (p : Query). showRewritten p (rewrite original p)) r))
+    by (got p) = rewritten-some p (rewrite original p)
     by (refused x) = omega arith
 
 text-some : (s : List ℕ) → 0 < length (showText s)

@@ -7,6 +7,7 @@ use names::LONG_ANSWER;
 use names::LONG_QUERY;
 use names::NO_TAG;
 use parser::parse::Parsed;
+use rewriter::rounds::ORIGINAL;
 use rewriter::rounds::rewrite;
 ghost use mathlib.Core.Path.{_≡_};
 ghost use Prim.Native.Nat.{_≤_};
@@ -53,7 +54,7 @@ pub fn make(input: &[u8], first: &mut [u8], second: &mut [u8], room: &mut [u8]) 
     match parse_lines(input, first, room) {
         Parsed::Refused(e) => refused(e),
         Parsed::Bytes(n) => {
-            let a = rewrite(&first[0..n], second, room);
+            let a = rewrite(ORIGINAL, &first[0..n], second, room);
             Made {
                 refusal: a.refusal,
                 written: n,

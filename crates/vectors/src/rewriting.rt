@@ -8,7 +8,7 @@ const QUERY_ROOM: usize = 40000;
 fn becomes(query: &[u8], made: usize, hex: &[u8]) -> bool {
     let mut out = [0u8; QUERY_ROOM];
     let mut room = [0u8; names::REWRITE_ROOM];
-    let w = rounds::rewrite(query, &mut out, &mut room);
+    let w = rounds::rewrite(rounds::ORIGINAL, query, &mut out, &mut room);
     if w.refusal != 0 {
         return false;
     }

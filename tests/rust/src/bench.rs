@@ -1,6 +1,6 @@
-//! Times the three calls beside Rust in one run, and prints how many times as fast they are: parsing and
-//! rewriting beside the original, selection beside reading the same bytes into trees and matching them.
-//! Nothing is asserted.
+//! Times the calls beside Rust in one run, and prints how many times as fast they are: parsing and
+//! rewriting beside the original, selection beside reading the same bytes into trees and matching them;
+//! then the strict rewriting beside the other one. Nothing is asserted.
 //! The archive's calls write stored bytes and clear their room; the original makes trees.
 //!
 //!     bench
@@ -24,15 +24,13 @@ const ROW: Duration = Duration::from_secs(4);
 
 fn main() {
     println!(
-        "room: parse {}, rewrite {}, select {} bytes",
+        "room: parse {}, rewrite {}, rewrite_strict {}, select {} bytes",
         grouped(calls::parse_room()),
         grouped(calls::rewrite_room()),
+        grouped(calls::rewrite_strict_room()),
         grouped(calls::select_room()),
     );
-    println!(
-        "{:<8} {:<50} {:>14} {:>14} {:>7}",
-        "call", "on", "archive, ns", "Rust, ns", "faster"
-    );
+    heading("archive, ns", "Rust, ns");
     let setup = inputs::setup();
     for (name, text) in inputs::texts() {
         parse(&name, &setup, text.as_bytes());
@@ -57,6 +55,21 @@ fn main() {
     for (name, query, list) in inputs::worst_selections() {
         select(&name, &query, &list);
     }
+    heading("strict, ns", "rewrite, ns");
+    for (name, text) in inputs::typical() {
+        let query = original::answers::parse(&setup, text.as_bytes()).expect("a selector");
+        strict(&name, &query);
+    }
+    for (name, query) in inputs::larger_minimums() {
+        strict(&name, &query);
+    }
+}
+
+fn heading(one: &str, other: &str) {
+    println!(
+        "{:<8} {:<50} {one:>14} {other:>14} {:>7}",
+        "call", "on", "faster"
+    );
 }
 
 fn parse(name: &str, setup: &Setup, text: &[u8]) {
@@ -87,6 +100,22 @@ fn rewrite(name: &str, query: &[u8]) -> (f64, f64) {
         || calls::rewrite(query, &mut out, &mut room),
         || tree.rewrite(),
     )
+}
+
+/// The strict rewriting beside the other one, each with its own output and room.
+fn strict(name: &str, query: &[u8]) {
+    let mut out = [vec![0; 65_535], vec![0; 65_535]];
+    let mut room = [
+        vec![0; calls::rewrite_strict_room()],
+        vec![0; calls::rewrite_room()],
+    ];
+    let ([out, other_out], [room, other_room]) = (&mut out, &mut room);
+    let query = black_box(query);
+    row(
+        ("strict", name),
+        || calls::rewrite_strict(query, out, room),
+        || calls::rewrite(query, other_out, other_room),
+    );
 }
 
 fn select(name: &str, query: &[u8], list: &[u8]) {

@@ -14,10 +14,13 @@ use original::random::Random as Numbers;
 use original::{random_query, random_text, stored, words};
 use plain::damage::damaged;
 use plain::faults::{self, Fields};
-use plain::queries::{self, Kind, Query as Tree, REWRITER};
+use plain::queries::{self, REWRITER};
 use plain::random::Random;
-use plain::random_queries;
+use plain::shapes;
 use tally::{Tally, generator, hold};
+
+/// The minimums of wide Booleans.
+const MINIMA: [u16; 4] = [0, 0, 1, 2];
 
 fn main() {
     let (count, seed) = tally::arguments();
@@ -170,18 +173,18 @@ fn rewrite(r: &mut Random, desk: &mut Desk) -> Option<Result<(Vec<u8>, u32), u32
 fn query(r: &mut Random) -> Vec<u8> {
     let mut numbers = Numbers::new(r.bits());
     if r.one_in(20) {
-        return deep(r);
+        return shapes::deep(r);
     }
     if r.one_in(20) {
-        return chain(r);
+        return shapes::chain(r);
     }
     if r.one_in(50) {
         let clauses = if r.one_in(50) { 2_500 } else { 60 };
-        return wide(r, clauses);
+        return shapes::wide(r, clauses, &MINIMA);
     }
     if r.one_in(50) {
         let bytes = if r.one_in(50) { REWRITER.0 } else { 60 + r.below(500) };
-        return pile(r, bytes);
+        return shapes::pile(r, bytes, &MINIMA);
     }
     if r.one_in(4) {
         let setup = random_text::setup(&mut numbers);
@@ -197,75 +200,4 @@ fn query(r: &mut Random) -> Vec<u8> {
         random_query::query(&mut numbers, deepest)
     };
     stored::encode(&made)
-}
-
-/// About as deep as the rewriter takes.
-fn deep(r: &mut Random) -> Vec<u8> {
-    let inner = random_queries::query(r, 3);
-    let records = r.pick(&[5, 20, 60, 61, 62, 63, 64]);
-    queries::stored(&random_queries::deepened(r, inner, records))
-}
-
-/// Many rounds: a level's clauses are equal only when the level inside has been merged.
-fn chain(r: &mut Random) -> Vec<u8> {
-    let word = || Tree::Term(b"f".to_vec(), b"a".to_vec());
-    let mut query = word();
-    for _ in 0..r.below(66) {
-        let kind = r.pick(&[Kind::Must, Kind::Should, Kind::Should]);
-        let beside = if r.one_in(40) {
-            random_queries::query(r, 2)
-        } else {
-            word()
-        };
-        query = Tree::Boolean(r.pick(&[0, 1]), vec![(kind, query), (kind, beside)]);
-    }
-    queries::stored(&query)
-}
-
-/// A Boolean of up to so many small clauses; with many, about as long as the rewriter takes.
-fn wide(r: &mut Random, clauses: usize) -> Vec<u8> {
-    let count = clauses - r.below(clauses / 3);
-    let mut inner = Vec::new();
-    for i in 0..count {
-        let few = random_queries::query(r, 2);
-        let name = b"abcdefghijklmnopqrstuvwxyz"[i % 26];
-        let term = Tree::Term(b"f".to_vec(), vec![name]);
-        let clause = if r.one_in(4) { few } else { term };
-        inner.push((
-            r.pick(&[Kind::Must, Kind::Should, Kind::Should, Kind::MustNot]),
-            clause,
-        ));
-    }
-    let minimum = r.pick(&[0, 0, 1, 2]);
-    queries::stored(&Tree::Boolean(minimum, inner))
-}
-
-/// MatchAll beside MatchAll, in one kind or in several, filled to the byte: two of them take 12 bytes, and one with the sum
-/// of their boosts takes 13. Some stand in Booleans of their own, beside a word, so that the whole grows by a byte for each.
-fn pile(r: &mut Random, bytes: usize) -> Vec<u8> {
-    let all = [Kind::Must, Kind::Should, Kind::MustNot, Kind::Filter];
-    let one = r.pick(&all);
-    let kind = |r: &mut Random| if r.one_in(8) { r.pick(&all) } else { one };
-    let pairs = r.one_in(3);
-    let mut clauses = Vec::new();
-    let mut left = bytes - 8;
-    while left > 60 {
-        let clause = if pairs {
-            let word = Tree::Term(Vec::new(), vec![b'a' + u8::try_from(left % 26).expect("a letter")]);
-            let inside = vec![
-                (Kind::Should, Tree::MatchAll),
-                (Kind::Should, Tree::MatchAll),
-                (Kind::Must, word),
-            ];
-            Tree::Boolean(0, inside)
-        } else {
-            Tree::MatchAll
-        };
-        let clause = (kind(r), clause);
-        left -= 3 + queries::stored(&clause.1).len();
-        clauses.push(clause);
-    }
-    let rest = Tree::Term(Vec::new(), vec![b'a'; left - 12]);
-    clauses.push((kind(r), rest));
-    queries::stored(&Tree::Boolean(r.pick(&[0, 0, 1, 2]), clauses))
 }

@@ -42,7 +42,25 @@ impl Desk {
     /// The refusal number.
     pub fn rewrite(&mut self, query: &[u8], out: usize) -> Result<(Vec<u8>, u32), u32> {
         let room = calls::rewrite_room();
-        let (answer, bytes) = self.call(out, room, |o, r| calls::rewrite(query, o, r))?;
+        self.rewritten(out, room, |o, r| calls::rewrite(query, o, r))
+    }
+
+    /// The same, by the strict call.
+    ///
+    /// # Errors
+    /// The refusal number.
+    pub fn rewrite_strict(&mut self, query: &[u8], out: usize) -> Result<(Vec<u8>, u32), u32> {
+        let room = calls::rewrite_strict_room();
+        self.rewritten(out, room, |o, r| calls::rewrite_strict(query, o, r))
+    }
+
+    fn rewritten(
+        &mut self,
+        out: usize,
+        room: usize,
+        call: impl Fn(&mut [u8], &mut [u8]) -> Answer,
+    ) -> Result<(Vec<u8>, u32), u32> {
+        let (answer, bytes) = self.call(out, room, call)?;
         assert_eq!(answer.count, 0, "{answer:?}");
         Ok((bytes, answer.rounds))
     }

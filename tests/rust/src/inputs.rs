@@ -94,6 +94,15 @@ pub fn worst_queries() -> Vec<(String, Vec<u8>)> {
         .to_vec()
 }
 
+/// Under a minimum above 1, clauses of which none repeats: both rewritings keep all.
+pub fn larger_minimums() -> Vec<(String, Vec<u8>)> {
+    let of = |count| stored(&Query::Boolean(2, different(count)));
+    vec![
+        ("minimum 2, five terms".to_string(), of(5)),
+        ("minimum 2, 2,100 clauses that differ".to_string(), of(2_100)),
+    ]
+}
+
 fn place(field: &[u8], position: u32, text: &[u8]) -> Entry {
     Entry::Place(field.to_vec(), position, text.to_vec())
 }

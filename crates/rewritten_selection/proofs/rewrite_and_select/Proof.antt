@@ -30,7 +30,7 @@ returns : tie.Need-returns
 returns c =
     let args = c .before .before .before .before .before .before .before .before .before .before .before .before .before .before .before .args in
     let refuse = c .refuse in
-    choosing.concluded (now (args .query)) (now (args .list)) (now (args .rows)) (now (args .held)) (now (args .room)) (λ i. omega (arith, c .before .before .before .before .before .before .before .before .before .before .before .before .before .before .shared-slice-known .given i)) (refuse .ensures .0) (refuse .ensures .1) (refuse .ensures .2) (c .before .before .before .before .before .before .before .clear .ensures) (c .before .before .before .clear2 .ensures) (choosing.short-held (now (args .query)) (now (args .list)) (now (args .rows)) (now (args .held)) (now (args .room)) (c .before .before .before .before .before .before .before .before .before .if1 .taken))
+    choosing.concluded (args .strict) (now (args .query)) (now (args .list)) (now (args .rows)) (now (args .held)) (now (args .room)) (λ i. omega (arith, c .before .before .before .before .before .before .before .before .before .before .before .before .before .before .shared-slice-known .given i)) (refuse .ensures .0) (refuse .ensures .1) (refuse .ensures .2) (c .before .before .before .before .before .before .before .clear .ensures) (c .before .before .before .clear2 .ensures) (choosing.short-held (args .strict) (now (args .query)) (now (args .list)) (now (args .rows)) (now (args .held)) (now (args .room)) (c .before .before .before .before .before .before .before .before .before .if1 .taken))
 
 rewrite-requires : tie.Need-rewrite-requires
 rewrite-requires c κs = search needs
@@ -53,7 +53,7 @@ returns-2 c =
     let shared-slice-known = c .before .before .before .before .before .before .before .before .before .before .before .before .before .before .before .before .before .before .before .shared-slice-known in
     let rewrite = c .before .before .before .before .before .before .before .before .before .before .before .rewrite in
     let refuse2 = c .refuse2 in
-    choosing.concluded (now (args .query)) (now (args .list)) (now (args .rows)) (now (args .held)) (now (args .room)) (λ i. omega (arith, shared-slice-known .given i)) (refuse2 .ensures .0) (refuse2 .ensures .1) (refuse2 .ensures .2) (c .before .before .before .clear3 .ensures ∙ ap (λ (n : ℕ). replicate n 0) (rewrite .kept .1 .0)) refl (choosing.refused-query (now (args .query)) (now (args .list)) (now (args .rows)) (now (args .held)) (now (args .room)) (λ i. omega (arith, shared-slice-known .given i)) (c .before .before .before .before .before .before .before .before .before .before .before .before .before .before .if1 .left) (rewrite .ensures) (c .before .before .before .before .before .if2 .taken))
+    choosing.concluded (args .strict) (now (args .query)) (now (args .list)) (now (args .rows)) (now (args .held)) (now (args .room)) (λ i. omega (arith, shared-slice-known .given i)) (refuse2 .ensures .0) (refuse2 .ensures .1) (refuse2 .ensures .2) (c .before .before .before .clear3 .ensures ∙ ap (λ (n : ℕ). replicate n 0) (rewrite .kept .1 .1 .0)) refl (choosing.refused-query (args .strict) (now (args .query)) (now (args .list)) (now (args .rows)) (now (args .held)) (now (args .room)) (λ i. omega (arith, shared-slice-known .given i)) (c .before .before .before .before .before .before .before .before .before .before .before .before .before .before .if1 .left) (rewrite .ensures) (c .before .before .before .before .before .if2 .taken))
 
 sub-select : tie.Need-sub-select
 sub-select c = search needs
@@ -64,7 +64,7 @@ part-select-start c = search needs
 part-select-end : tie.Need-part-select-end
 part-select-end c =
     let args = c .before .before .before .before .before .before .before .before .before .before .before .before .before .before .before .before .args in
-    choosing.held-long (now (args .query)) (now (args .list)) (now (args .rows)) (now (args .held)) (now (args .room)) (λ i. omega (arith, c .before .before .before .before .before .before .before .before .before .before .before .before .before .before .before .shared-slice-known .given i)) (c .before .before .before .before .before .before .before .before .before .before .if1 .left) (c .before .before .before .before .before .before .before .rewrite .ensures) (c .before .if2 .left)
+    choosing.held-long (args .strict) (now (args .query)) (now (args .list)) (now (args .rows)) (now (args .held)) (now (args .room)) (λ i. omega (arith, c .before .before .before .before .before .before .before .before .before .before .before .before .before .before .before .shared-slice-known .given i)) (c .before .before .before .before .before .before .before .before .before .before .if1 .left) (c .before .before .before .before .before .before .before .rewrite .ensures) (c .before .if2 .left)
 
 select-requires : tie.Need-select-requires
 select-requires c κs = search needs
@@ -98,11 +98,11 @@ returns-3 c =
     let select = c .before .before .before .before .before .before .before .before .before .before .select in
     let refuse3 = c .refuse3 in
     choosing.concluded
-    (now (args .query)) (now (args .list)) (now (args .rows)) (now (args .held)) (now (args .room)) (λ i. omega (arith, shared-slice-known .given i)) (refuse3 .ensures .0) (refuse3 .ensures .1) (refuse3 .ensures .2)
-    (c .before .before .before .before .before .before .clear4 .ensures ∙ ap (λ (n : ℕ). replicate n 0) (rewrite .kept .1 .0)) refl
-    (ap (λ (r : Selected). choosing.answered r (rewrite .result .rounds) (select .last .1 .1 .0) (zeros (now (args .held))) (rewrite .last .1 .1 .0)) (sym (c .before .before .c .given .1))
+    (args .strict) (now (args .query)) (now (args .list)) (now (args .rows)) (now (args .held)) (now (args .room)) (λ i. omega (arith, shared-slice-known .given i)) (refuse3 .ensures .0) (refuse3 .ensures .1) (refuse3 .ensures .2)
+    (c .before .before .before .before .before .before .clear4 .ensures ∙ ap (λ (n : ℕ). replicate n 0) (rewrite .kept .1 .1 .0)) refl
+    (ap (λ (r : Selected). choosing.answered r (rewrite .result .rounds) (select .last .1 .1 .0) (zeros (now (args .held))) (rewrite .last .1 .1 .1 .0)) (sym (c .before .before .c .given .1))
     ∙ choosing.selects
-    (now (args .query)) (now (args .list)) (now (args .rows)) (now (args .held)) (now (args .room)) (λ i. omega (arith, shared-slice-known .given i))
+    (args .strict) (now (args .query)) (now (args .list)) (now (args .rows)) (now (args .held)) (now (args .room)) (λ i. omega (arith, shared-slice-known .given i))
     (c .before .before .before .before .before .before .before .before .before .before .before .before .before .before .before .before .before .before .before .before .before .before .before .if1 .left) (rewrite .ensures)
     (c .before .before .before .before .before .before .before .before .before .before .before .before .before .before .if2 .left) (select .ensures))
 
@@ -121,7 +121,7 @@ returns-4 c =
     let shared-slice-known = c .before .before .before .before .before .before .before .before .before .before .before .before .before .before .before .before .before .before .before .before .before .before .before .before .before .before .before .shared-slice-known in
     let rewrite = c .before .before .before .before .before .before .before .before .before .before .before .before .before .before .before .before .before .before .before .rewrite in
     let select = c .before .before .before .before .before .before .before .before .before .select in
-    choosing.concluded (now (args .query)) (now (args .list)) (now (args .rows)) (now (args .held)) (now (args .room)) (λ i. omega (arith, shared-slice-known .given i)) refl refl refl (c .before .before .before .before .before .clear4 .ensures ∙ ap (λ (n : ℕ). replicate n 0) (rewrite .kept .1 .0)) refl (ap (λ (r : Selected). choosing.answered r (rewrite .result .rounds) (select .last .1 .1 .0) (zeros (now (args .held))) (rewrite .last .1 .1 .0)) (sym (c .before .c2 .given .1)) ∙ choosing.selects (now (args .query)) (now (args .list)) (now (args .rows)) (now (args .held)) (now (args .room)) (λ i. omega (arith, shared-slice-known .given i)) (c .before .before .before .before .before .before .before .before .before .before .before .before .before .before .before .before .before .before .before .before .before .before .if1 .left) (rewrite .ensures) (c .before .before .before .before .before .before .before .before .before .before .before .before .before .if2 .left) (select .ensures))
+    choosing.concluded (args .strict) (now (args .query)) (now (args .list)) (now (args .rows)) (now (args .held)) (now (args .room)) (λ i. omega (arith, shared-slice-known .given i)) refl refl refl (c .before .before .before .before .before .clear4 .ensures ∙ ap (λ (n : ℕ). replicate n 0) (rewrite .kept .1 .1 .0)) refl (ap (λ (r : Selected). choosing.answered r (rewrite .result .rounds) (select .last .1 .1 .0) (zeros (now (args .held))) (rewrite .last .1 .1 .1 .0)) (sym (c .before .c2 .given .1)) ∙ choosing.selects (args .strict) (now (args .query)) (now (args .list)) (now (args .rows)) (now (args .held)) (now (args .room)) (λ i. omega (arith, shared-slice-known .given i)) (c .before .before .before .before .before .before .before .before .before .before .before .before .before .before .before .before .before .before .before .before .before .before .if1 .left) (rewrite .ensures) (c .before .before .before .before .before .before .before .before .before .before .before .before .before .if2 .left) (select .ensures))
 
 pub rewrite-and-select-spec : {M : Type 1} → statement M
 rewrite-and-select-spec =

@@ -3,13 +3,14 @@ use mathlib.Core.Path.{_≡_, refl, ap, _∙_}
 use mathlib.Core.Logic.{_↔_}
 use Prim.Native.Nat.{ℕ, _≤_}
 use mathlib.Core.List.{List, List·Memᴰ}
+use mathlib.Core.Bool.{Bool}
 use lib.ListN.{length}
 use Rattle.rules.specs.Numbers.{rewriterBytes, rewriterDepth, selectionBytes, selectionDepth, got, onRead}
 use Rattle.rules.specs.Bytes.{Bytes}
 use Rattle.rules.specs.Query.{Query, depth}
 use Rattle.rules.specs.Stored.{encode, Valid}
 use Rattle.rules.specs.Reading.{readForRewriting, readForSelection}
-use Rattle.rules.specs.Rewriting.{weight, largest, Rewritten, rewritten, rewrite, resultOf, countOf}
+use Rattle.rules.specs.Rewriting.{weight, largest, Fair, Rewritten, rewritten, rewrite, resultOf, countOf}
 use Rattle.rules.specs.Lists.{Entry, readList}
 use Rattle.rules.specs.Matching.{chosen, IsChosen, RisingFrom}
 use Rattle.rules.specs.Answers.{Reply, rewriteReply, rewrittenReply, selected}
@@ -22,9 +23,9 @@ use Rattle.rules.proofs.rewriting.Truth.{matches-rewrite}
 
 -- What is asked for of a stored query s that the rewriter reads as q, and a list l that is read as rs: s is rewritten in at most as many rounds as q weighs,
 -- and what is written for it selects every record that q is true of, and no other, each once, rising.
-pub record Demand (s l : List ℕ) (q : Query) (rs : List (List Entry)) : Type 0 where
+pub record Demand (strict : Bool) (s l : List ℕ) (q : Query) (rs : List (List Entry)) : Type 0 where
   pub reply : Reply
-  pub is-rewritten : rewriteReply s ≡ got reply
+  pub is-rewritten : rewriteReply strict s ≡ got reply
   pub few : reply .rounds ≤ weight q
   pub rows : List ℕ
   pub is-selected : selected (reply .bytes) l ≡ got rows
@@ -48,33 +49,34 @@ module _ (s : List ℕ) (B : Bytes s) (q : Query) (read : readForRewriting s ≡
   was-valid : Valid q
   was-valid = read-sound rewriterBytes rewriterDepth s q B read .1 .valid
 
-  -- what it becomes is accepted by selection, as it was meant
-  pub accepted : readForSelection (encode (resultOf (rewrite q))) ≡ got (resultOf (rewrite q))
-  accepted =
-      read-encode selectionBytes selectionDepth (resultOf (rewrite q)) (valid-rewrite q was-valid)
-      (within-depth q (weight q) was-flat) (within-bytes q (weight q) was-short)
+  module _ (strict : Bool) where
+    -- what it becomes is accepted by selection, as it was meant
+    pub accepted : readForSelection (encode (resultOf (rewrite strict q))) ≡ got (resultOf (rewrite strict q))
+    accepted =
+        read-encode selectionBytes selectionDepth (resultOf (rewrite strict q)) (valid-rewrite strict q was-valid)
+        (within-depth strict q (weight q) was-flat) (within-bytes strict q (weight q) was-short)
 
-  pub rounds-bounded : countOf (rewrite q) ≤ weight q
-  rounds-bounded = few-rounds q was-valid
+    pub rounds-bounded : countOf (rewrite strict q) ≤ weight q
+    rounds-bounded = few-rounds strict q was-valid
 
-  -- and lists what the query as written is true of
-  pub same-choice : largest q ≤ 1 → (l : List ℕ) (rs : List (List Entry)) → readList l ≡ got rs
-      → selected (encode (resultOf (rewrite q))) l ≡ got (chosen q rs)
-  same-choice h l rs e =
-      selected-is (encode (resultOf (rewrite q))) l (resultOf (rewrite q)) rs accepted e
-      ∙ ap got (chosen-alike (resultOf (rewrite q)) q (λ es. matches-rewrite es q h) 0 rs)
+    -- and lists what the query as written is true of
+    pub same-choice : Fair strict (largest q) → (l : List ℕ) (rs : List (List Entry)) → readList l ≡ got rs
+        → selected (encode (resultOf (rewrite strict q))) l ≡ got (chosen q rs)
+    same-choice h l rs e =
+        selected-is (encode (resultOf (rewrite strict q))) l (resultOf (rewrite strict q)) rs accepted e
+        ∙ ap got (chosen-alike (resultOf (rewrite strict q)) q (λ es. matches-rewrite es strict q h) 0 rs)
 
-  pub reply-is : rewriteReply s ≡ got (rewrittenReply (rewrite q))
-  unfolding rewriteReply
-  reply-is = ap (onRead (λ (p : Query). rewrittenReply (rewrite p))) read
+    pub reply-is : rewriteReply strict s ≡ got (rewrittenReply (rewrite strict q))
+    unfolding rewriteReply
+    reply-is = ap (onRead (λ (p : Query). rewrittenReply (rewrite strict p))) read
 
-  pub demand : largest q ≤ 1 → (l : List ℕ) (rs : List (List Entry)) → readList l ≡ got rs → Demand s l q rs
-  demand h l rs e = record {
-    reply = rewrittenReply (rewrite q);
-    is-rewritten = reply-is;
-    few = rw (reply-rounds (rewrite q)) rounds-bounded;
-    rows = chosen q rs;
-    is-selected = rw (reply-bytes (rewrite q)) (same-choice h l rs e);
-    these = exact q rs;
-    in-order = rising q rs;
-  }
+    pub demand : Fair strict (largest q) → (l : List ℕ) (rs : List (List Entry)) → readList l ≡ got rs → Demand strict s l q rs
+    demand h l rs e = record {
+      reply = rewrittenReply (rewrite strict q);
+      is-rewritten = reply-is;
+      few = rw (reply-rounds (rewrite strict q)) rounds-bounded;
+      rows = chosen q rs;
+      is-selected = rw (reply-bytes (rewrite strict q)) (same-choice h l rs e);
+      these = exact q rs;
+      in-order = rising q rs;
+    }

@@ -2,6 +2,7 @@
 use mathlib.Core.Path.{_≡_, refl}
 use Prim.Native.Nat.{ℕ, _+_, _/_, _≤_, max}
 use mathlib.Core.List.{[]}
+use mathlib.Core.Bool.{Bool}
 use native.Mathlib.Omega.{arith}
 use lib.ListN.{length}
 use Rattle.rules.specs.Numbers.{rewriterBytes, rewriterDepth, selectionBytes, selectionDepth}
@@ -51,9 +52,9 @@ lone-bounded m should q = omega (arith, unboosted-reach q)
 lone-bounded m mustNot q = omega arith
 lone-bounded m filter q = omega (arith, unboosted-reach q)
 
-pub bounds-law : Law Bounded (λ m cs ds. BoundedAll cs ds)
+pub bounds-law : (strict : Bool) → Law strict Bounded (λ m cs ds. BoundedAll cs ds)
 unfolding bulk reach largest encodeWords
-bounds-law = record {
+bounds-law strict = record {
   stays = λ q. omega arith;
   goes = λ p q r h g. omega arith;
   stay = λ m cs. omega arith;
@@ -79,18 +80,18 @@ bounds-law = record {
 
 -- ---- one round
 
-module _ (q : Query) where
-  once-bounded : Bounded q (rewriteOnce q)
-  once-bounded = once-law Bounded (λ m cs ds. BoundedAll cs ds) bounds-law q
+module _ (strict : Bool) (q : Query) where
+  once-bounded : Bounded q (rewriteOnce strict q)
+  once-bounded = once-law strict Bounded (λ m cs ds. BoundedAll cs ds) (bounds-law strict) q
 
   -- the length and the number of clauses together never rise
-  pub length-once : length (encode (rewriteOnce q)) + clauseCount (rewriteOnce q) ≤ length (encode q) + clauseCount q
-  length-once = omega (arith, bulk-is q, bulk-is (rewriteOnce q), once-bounded)
+  pub length-once : length (encode (rewriteOnce strict q)) + clauseCount (rewriteOnce strict q) ≤ length (encode q) + clauseCount q
+  length-once = omega (arith, bulk-is q, bulk-is (rewriteOnce strict q), once-bounded)
 
-  pub reach-once : reach (rewriteOnce q) ≤ reach q
+  pub reach-once : reach (rewriteOnce strict q) ≤ reach q
   reach-once = once-bounded .in-reach
 
-  pub largest-once : largest (rewriteOnce q) ≤ largest q
+  pub largest-once : largest (rewriteOnce strict q) ≤ largest q
   largest-once = once-bounded .in-largest
 
 -- ---- every round
@@ -105,27 +106,27 @@ length-bounded p q h l = omega (arith, bulk-is p, bulk-is q, measured p)
 depth-bounded : (p q : Query) → Bounded p q → depth p ≤ rewriterDepth → depth q ≤ selectionDepth
 depth-bounded p q h l = omega (arith, measured p, measured q)
 
-module _ (q : Query) where
+module _ (strict : Bool) (q : Query) where
   module _ (n : ℕ) where
-    after-bounded : Bounded q (afterRounds n q)
-    after-bounded = after-law Bounded (λ m cs ds. BoundedAll cs ds) bounds-law q n
+    after-bounded : Bounded q (afterRounds strict n q)
+    after-bounded = after-law strict Bounded (λ m cs ds. BoundedAll cs ds) (bounds-law strict) q n
 
-    pub length-after : length (encode q) ≤ rewriterBytes → length (encode (afterRounds n q)) ≤ roundBytes
-    length-after l = length-bounded q (afterRounds n q) after-bounded l
+    pub length-after : length (encode q) ≤ rewriterBytes → length (encode (afterRounds strict n q)) ≤ roundBytes
+    length-after l = length-bounded q (afterRounds strict n q) after-bounded l
 
-    pub depth-after : depth q ≤ rewriterDepth → depth (afterRounds n q) ≤ selectionDepth
-    depth-after l = depth-bounded q (afterRounds n q) after-bounded l
+    pub depth-after : depth q ≤ rewriterDepth → depth (afterRounds strict n q) ≤ selectionDepth
+    depth-after l = depth-bounded q (afterRounds strict n q) after-bounded l
 
-    pub largest-after : largest (afterRounds n q) ≤ largest q
+    pub largest-after : largest (afterRounds strict n q) ≤ largest q
     largest-after = after-bounded .in-largest
 
   -- so every result lies within selection's limits
   module _ (k : ℕ) where
-    result-bounded : Bounded q (resultOf (rounds k q))
-    result-bounded = rounds-law Bounded (λ m cs ds. BoundedAll cs ds) bounds-law q k
+    result-bounded : Bounded q (resultOf (rounds strict k q))
+    result-bounded = rounds-law strict Bounded (λ m cs ds. BoundedAll cs ds) (bounds-law strict) q k
 
-    pub within-bytes : length (encode q) ≤ rewriterBytes → length (encode (resultOf (rounds k q))) ≤ selectionBytes
-    within-bytes l = omega (arith, length-bounded q (resultOf (rounds k q)) result-bounded l)
+    pub within-bytes : length (encode q) ≤ rewriterBytes → length (encode (resultOf (rounds strict k q))) ≤ selectionBytes
+    within-bytes l = omega (arith, length-bounded q (resultOf (rounds strict k q)) result-bounded l)
 
-    pub within-depth : depth q ≤ rewriterDepth → depth (resultOf (rounds k q)) ≤ selectionDepth
-    within-depth l = depth-bounded q (resultOf (rounds k q)) result-bounded l
+    pub within-depth : depth q ≤ rewriterDepth → depth (resultOf (rounds strict k q)) ≤ selectionDepth
+    within-depth l = depth-bounded q (resultOf (rounds strict k q)) result-bounded l

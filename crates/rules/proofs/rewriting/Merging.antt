@@ -13,8 +13,8 @@ use Rattle.rules.proofs.rewriting.Kinds.{stands-self}
 
 -- ---- a clause is added
 
-module _ (m : ℕ) (k : Kind) (q : Query) where
-  pub add-empty : addMerged m k q empty ≡ merged k (held m k q) (cond (summable m k) (boostOf q) one) empty
+module _ (strict : Bool) (m : ℕ) (k : Kind) (q : Query) where
+  pub add-empty : addMerged strict m k q empty ≡ merged k (held m k q) (cond (summable m k) (boostOf q) one) empty
   unfolding addMerged put
   add-empty = go (summable m k)
     where
@@ -23,24 +23,24 @@ module _ (m : ℕ) (k : Kind) (q : Query) where
       go false = refl
 
   module _ (j : Kind) (h : Query) (t : Float) (ms : Merged) where
-    pub add-merged : addMerged m k q (merged j h t ms) ≡ cond (eats m j h k q) (merged j h (fed m k q t) ms) (merged j h t (addMerged m k q ms))
+    pub add-merged : addMerged strict m k q (merged j h t ms) ≡ cond (eats strict m j h k q) (merged j h (fed m k q t) ms) (merged j h t (addMerged strict m k q ms))
     unfolding addMerged put
-    add-merged = go (summable m k) (put (λ s. plus s (boostOf q)) (boostOf q) k (base q) ms) (put (λ s. s) one k q ms)
+    add-merged = go (summable m k) (put strict m (λ s. plus s (boostOf q)) (boostOf q) k (base q) ms) (put strict m (λ s. s) one k q ms)
       where
         go : (b : Bool) (x y : Merged)
-            → cond b (cond (standsFor j k && equal h (base q)) (merged j h (plus t (boostOf q)) ms) (merged j h t x))
-            (cond (standsFor j k && equal h q) (merged j h t ms) (merged j h t y))
-            ≡ cond (standsFor j k && equal h (cond b (base q) q)) (merged j h (cond b (plus t (boostOf q)) t) ms) (merged j h t (cond b x y))
+            → cond b (cond (standsFor strict m j k && equal h (base q)) (merged j h (plus t (boostOf q)) ms) (merged j h t x))
+            (cond (standsFor strict m j k && equal h q) (merged j h t ms) (merged j h t y))
+            ≡ cond (standsFor strict m j k && equal h (cond b (base q) q)) (merged j h (cond b (plus t (boostOf q)) t) ms) (merged j h t (cond b x y))
         go true x y = refl
         go false x y = refl
 
     -- by what is added: it is taken up here, or goes on
-    pub add-by : (P : Merged → Type 0) → (eats m j h k q ≡ true → P (merged j h (fed m k q t) ms))
-        → (eats m j h k q ≡ false → P (merged j h t (addMerged m k q ms))) → P (addMerged m k q (merged j h t ms))
-    add-by P yes-taken not-taken = rw add-merged (go (eats m j h k q) yes-taken not-taken)
+    pub add-by : (P : Merged → Type 0) → (eats strict m j h k q ≡ true → P (merged j h (fed m k q t) ms))
+        → (eats strict m j h k q ≡ false → P (merged j h t (addMerged strict m k q ms))) → P (addMerged strict m k q (merged j h t ms))
+    add-by P yes-taken not-taken = rw add-merged (go (eats strict m j h k q) yes-taken not-taken)
       where
-        go : (b : Bool) → (b ≡ true → P (merged j h (fed m k q t) ms)) → (b ≡ false → P (merged j h t (addMerged m k q ms)))
-            → P (cond b (merged j h (fed m k q t) ms) (merged j h t (addMerged m k q ms)))
+        go : (b : Bool) → (b ≡ true → P (merged j h (fed m k q t) ms)) → (b ≡ false → P (merged j h t (addMerged strict m k q ms)))
+            → P (cond b (merged j h (fed m k q t) ms) (merged j h t (addMerged strict m k q ms)))
         go true f g = f refl
         go false f g = g refl
 
@@ -54,23 +54,23 @@ unfoldable pub AllOther : ℕ → Merged → Type 0
 AllOther m empty = Unit {0}
 AllOther m (merged k q t ms) = (summable m k ≡ true → Other k q ms) × AllOther m ms
 
-module _ (m : ℕ) (k : Kind) (q : Query) where
-  other-add : (j : Kind) (p : Query) → eats m j p k q ≡ false → (ms : Merged) → Other j p ms → Other j p (addMerged m k q ms)
+module _ (strict : Bool) (m : ℕ) (k : Kind) (q : Query) where
+  other-add : (j : Kind) (p : Query) → summable m j ≡ true → eats strict m j p k q ≡ false → (ms : Merged) → Other j p ms → Other j p (addMerged strict m k q ms)
   unfolding Other
-  other-add j p n empty h = rw add-empty (apart, tt)
+  other-add j p s n empty h = rw add-empty (apart, tt)
     where
       apart : j ≡ k → p ≡ held m k q → ⊥
-      apart ej ep = let c : standsFor j k ≡ true = rw ej (stands-self k) in clash (both c (equal-refl p (held m k q) ep)) n
-  other-add j p n (merged i o t ms) h =
-      add-by m k q i o t ms (Other j p) (λ e. (h .0, h .1)) (λ e. (h .0, other-add j p n ms (h .1)))
+      apart ej ep = let c : standsFor strict m j k ≡ true = rw (← ej) (stands-self strict m j s) in clash (both c (equal-refl p (held m k q) ep)) n
+  other-add j p s n (merged i o t ms) h =
+      add-by strict m k q i o t ms (Other j p) (λ e. (h .0, h .1)) (λ e. (h .0, other-add j p s n ms (h .1)))
 
-  pub all-other-add : (ms : Merged) → AllOther m ms → AllOther m (addMerged m k q ms)
+  pub all-other-add : (ms : Merged) → AllOther m ms → AllOther m (addMerged strict m k q ms)
   unfolding AllOther Other
   all-other-add empty h = rw add-empty ((λ s. tt), tt)
   all-other-add (merged j p t ms) h =
-      add-by m k q j p t ms (AllOther m) (λ e. (h .0, h .1)) (λ e. ((λ s. other-add j p e ms (h .0 s)), all-other-add ms (h .1)))
+      add-by strict m k q j p t ms (AllOther m) (λ e. (h .0, h .1)) (λ e. ((λ s. other-add j p s e ms (h .0 s)), all-other-add ms (h .1)))
 
-pub all-other-merge : (m : ℕ) (cs : Clauses) (ms : Merged) → AllOther m ms → AllOther m (mergeOnto m ms cs)
+pub all-other-merge : (strict : Bool) (m : ℕ) (cs : Clauses) (ms : Merged) → AllOther m ms → AllOther m (mergeOnto strict m ms cs)
 unfolding mergeOnto
-all-other-merge m none ms h = h
-all-other-merge m (clause k q cs) ms h = all-other-merge m cs (addMerged m k q ms) (all-other-add m k q ms h)
+all-other-merge strict m none ms h = h
+all-other-merge strict m (clause k q cs) ms h = all-other-merge strict m cs (addMerged strict m k q ms) (all-other-add strict m k q ms h)

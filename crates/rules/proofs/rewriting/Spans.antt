@@ -38,22 +38,22 @@ call-small n m k r out room small = by (leb n (length room)) r small
     by true (refused x) h = (omega arith, omega arith)
     by true (got a) h = fitted (leb (length (a .bytes)) (length out)) a (h a refl)
 
-module _ (s : List ℕ) (B : Bytes s) where
-  reply-small : (a : Reply) → rewriteReply s ≡ got a → Small selectionBytes rewriterBytes a
+module _ (strict : Bool) (s : List ℕ) (B : Bytes s) where
+  reply-small : (a : Reply) → rewriteReply strict s ≡ got a → Small selectionBytes rewriterBytes a
   unfolding rewriteReply
   reply-small a e = by (readForRewriting s) refl e
     where
-      made : (q : Query) → readForRewriting s ≡ got q → Small selectionBytes rewriterBytes (rewrittenReply (rewrite q))
+      made : (q : Query) → readForRewriting s ≡ got q → Small selectionBytes rewriterBytes (rewrittenReply (rewrite strict q))
       made q read = (
-        rw (reply-bytes (rewrite q)) (within-bytes q (weight q) (was-short s B q read)),
-        rw (reply-rounds (rewrite q)) (omega (arith, rounds-bounded s B q read, weight-length q, was-short s B q read)),
+        rw (reply-bytes (rewrite strict q)) (within-bytes strict q (weight q) (was-short s B q read)),
+        rw (reply-rounds (rewrite strict q)) (omega (arith, rounds-bounded s B q read strict, weight-length q, was-short s B q read)),
       )
 
-      by : (o : Read Query) → readForRewriting s ≡ o → onRead (λ (q : Query). rewrittenReply (rewrite q)) o ≡ got a → Small selectionBytes rewriterBytes a
+      by : (o : Read Query) → readForRewriting s ≡ o → onRead (λ (q : Query). rewrittenReply (rewrite strict q)) o ≡ got a → Small selectionBytes rewriterBytes a
       by (refused x) read e = no-got e
-      by (got q) read e = let same : rewrittenReply (rewrite q) ≡ a = cc in subst (Small selectionBytes rewriterBytes) same (made q read)
+      by (got q) read e = let same : rewrittenReply (rewrite strict q) ≡ a = cc in subst (Small selectionBytes rewriterBytes) same (made q read)
 
   -- the answer of a rewriting has at most 65,535 bytes, made in at most 32,768 rounds
-  pub rewrite-small : (out room : List ℕ) → (rewriteLeft s out room .answer .written ≤ selectionBytes) × (rewriteLeft s out room .answer .rounds ≤ rewriterBytes)
+  pub rewrite-small : (out room : List ℕ) → (rewriteLeft strict s out room .answer .written ≤ selectionBytes) × (rewriteLeft strict s out room .answer .rounds ≤ rewriterBytes)
   unfolding rewriteLeft
-  rewrite-small out room = call-small rewriteRoom selectionBytes rewriterBytes (rewriteReply s) out room reply-small
+  rewrite-small out room = call-small rewriteRoom selectionBytes rewriterBytes (rewriteReply strict s) out room reply-small

@@ -1,4 +1,4 @@
--- Where no minimum is above 1, a round keeps what a query is true of. Sections 'One round of rewriting' and 'Matching and selection'.
+-- A round keeps what a query is true of: strict, at every minimum; else where none is above 1. Sections 'One round of rewriting' and 'Matching and selection'.
 use mathlib.Core.Path.{_≡_, refl, sym, _∙_}
 use Prim.Native.Nat.{ℕ, _+_, _≤_, _<_, max, min}
 use mathlib.Core.List.{List}
@@ -9,7 +9,7 @@ use lib.Ieee.{Float}
 use borrow.Author.Tests.{leb-true, le-leb, lt-leb}
 use Rattle.rules.specs.Query.{Kind, must, should, mustNot, filter, Query, term, phrase, boolean, boost, constantScore, matchAll, matchNone, range, Clauses, none, clause}
 use Rattle.rules.specs.Floats.{narrowed, isOne}
-use Rattle.rules.specs.Rewriting.{weight, largest, largests, isNone, isNeeded, isMustNot, scores, standsFor, base, reboosted, lone, shouldCount, onlyMustNot, isDead, rewriteOnce, rounds, rewrite, resultOf}
+use Rattle.rules.specs.Rewriting.{weight, largest, Fair, largests, isNone, isNeeded, isMustNot, scores, standsFor, base, reboosted, lone, shouldCount, onlyMustNot, isDead, rewriteOnce, rounds, rewrite, resultOf}
 use Rattle.rules.specs.Lists.{Entry}
 use Rattle.rules.specs.Matching.{bit, allows, countsFor, anyNeeded, enough, matches, allAllow, shouldsTrue}
 use Rattle.rules.proofs.Bools.{clash, alike, and-false, and-same, and-swap, or-same, or-swap}
@@ -32,19 +32,25 @@ enough-capped : (m a b : ℕ) (x y : Bool) → y ≡ x → capped m b ≡ capped
 enough-capped m a b x y e h = cc (leb-alike m a b (λ k. omega arith) (λ k. omega arith), leb-alike 1 a b (λ k. omega arith) (λ k. omega arith))
 
 -- a second clause that is as true is not seen; of a Should, where the minimum is at most 1
-double-capped : (m : ℕ) (j k : Kind) (x : Bool) (n : ℕ) → m ≤ 1 → standsFor j k ≡ true
+double-capped : (strict : Bool) (m : ℕ) (j k : Kind) (x : Bool) (n : ℕ) → Fair strict m → standsFor strict m j k ≡ true
     → capped m (countsFor j x + n) ≡ capped m (countsFor j x + (countsFor k x + n))
-double-capped m j must x n l c = omega arith
-double-capped m j mustNot x n l c = omega arith
-double-capped m j filter x n l c = omega arith
-double-capped m must should x n l c = clash c refl
-double-capped m should should x n l c = omega arith
-double-capped m mustNot should x n l c = clash c refl
-double-capped m filter should x n l c = clash c refl
+double-capped strict m j must x n l c = omega arith
+double-capped strict m j mustNot x n l c = omega arith
+double-capped strict m j filter x n l c = omega arith
+double-capped strict m must should x n l c = clash c refl
+double-capped true m should should x n l c = let h = leb-true m 1 c in omega arith
+double-capped false m should should x n l c = omega arith
+double-capped strict m mustNot should x n l c = clash c refl
+double-capped strict m filter should x n l c = clash c refl
 
 bit-one : (b : Bool) → bit b ≤ 1
 bit-one true = omega arith
 bit-one false = omega arith
+
+-- what is below a fair minimum is fair
+fair-below : (strict : Bool) (m n : ℕ) → m ≤ n → Fair strict n → Fair strict m
+fair-below true m n l f = tt
+fair-below false m n l f = omega arith
 
 -- ---- a record
 
@@ -102,13 +108,13 @@ module _ (es : List Entry) where
   join-shoulds k q (clause j p xs) cs = omega (arith, join-shoulds k q xs cs)
 
   -- x and y say what q says, and a clause of q behind x says nothing new
-  agree-double : (m : ℕ) (j k : Kind) (x y q : Query) (xs cs : Clauses) → m ≤ 1 → standsFor j k ≡ true
+  agree-double : (strict : Bool) (m : ℕ) (j k : Kind) (x y q : Query) (xs cs : Clauses) → Fair strict m → standsFor strict m j k ≡ true
       → matches es x ≡ matches es q → matches es y ≡ matches es q → Agree m (clause j x (join xs (clause k q cs))) (clause j y (join xs cs))
   unfolding matches anyNeeded
-  agree-double m j k x y q xs cs l c ex ey = record {
-    ok = rw (ex, ey, join-allow k q xs cs, ← stands-allows (matches es q) j k c) (sym (and-same (allows j (matches es q)) (allAllow es (join xs cs))));
-    any = rw (join-needed k q xs cs, ← stands-needed j k c) (sym (or-same (isNeeded j) (anyNeeded (join xs cs))));
-    num = rw (ex, ey, join-shoulds k q xs cs) (double-capped m j k (matches es q) (shouldsTrue es (join xs cs)) l c);
+  agree-double strict m j k x y q xs cs l c ex ey = record {
+    ok = rw (ex, ey, join-allow k q xs cs, ← stands-allows strict m (matches es q) j k c) (sym (and-same (allows j (matches es q)) (allAllow es (join xs cs))));
+    any = rw (join-needed k q xs cs, ← stands-needed strict m j k c) (sym (or-same (isNeeded j) (anyNeeded (join xs cs))));
+    num = rw (ex, ey, join-shoulds k q xs cs) (double-capped strict m j k (matches es q) (shouldsTrue es (join xs cs)) l c);
   }
 
   skip-agree : (m : ℕ) (k : Kind) (cs : Clauses) → isNeeded k ≡ false → Agree m (clause k matchNone cs) cs
@@ -185,62 +191,60 @@ module _ (es : List Entry) where
 
   -- ---- the law
 
-  -- no Should clause is dropped while the minimum is above 1: here, as no minimum is
-  abbrev Fair : ℕ → Type 0
-  Fair n = n ≤ 1
+  module _ (strict : Bool) where
+    abbrev Keeps : Query → Query → Type 0
+    Keeps p q = Bounded p q × (Fair strict (largest p) → matches es q ≡ matches es p)
 
-  abbrev Keeps : Query → Query → Type 0
-  Keeps p q = Bounded p q × (Fair (largest p) → matches es q ≡ matches es p)
+    abbrev KeepsAll : ℕ → Clauses → Clauses → Type 0
+    KeepsAll m cs ds = BoundedAll cs ds × (Fair strict m → Fair strict (largests cs) → Agree m cs ds)
 
-  abbrev KeepsAll : ℕ → Clauses → Clauses → Type 0
-  KeepsAll m cs ds = BoundedAll cs ds × (Fair m → Fair (largests cs) → Agree m cs ds)
+    truth-law : Law strict Keeps KeepsAll
+    unfolding matches largest
+    truth-law =
+        let Z = bounds-law strict in
+        record {
+          stays = λ q. (Z .stays q, λ f. refl);
+          goes = λ p q r h g. (Z .goes p q r (h .0) (g .0), λ f. g .1 (fair-below strict (largest q) (largest p) (h .0 .in-largest) f) ∙ h .1 f);
+          stay = λ m cs. (Z .stay m cs, λ f g. record { ok = refl; any = refl; num = refl });
+          go = λ m cs ds bs h g. (Z .go m cs ds bs (h .0) (g .0), λ f e. agree-go m cs ds bs (h .1 f e) (g .1 f (fair-below strict (largests ds) (largests cs) (h .0 .in-largest) e)));
+          in-boost = λ b p q h. (Z .in-boost b p q (h .0), h .1);
+          in-constant = λ p q h. (Z .in-constant p q (h .0), h .1);
+          in-boolean = λ m cs ds h. (Z .in-boolean m cs ds (h .0), λ f. agree-boolean m cs ds (h .1 (fair-below strict m (max m (largests cs)) (omega arith) f) (fair-below strict (largests cs) (max m (largests cs)) (omega arith) f)));
+          in-clause = λ m k p q cs ds h g. (
+            Z .in-clause m k p q cs ds (h .0) (g .0),
+            λ f e. agree-clause m k p q cs ds (h .1 (fair-below strict (largest p) (max (largest p) (largests cs)) (omega arith) e))
+                (g .1 f (fair-below strict (largests cs) (max (largest p) (largests cs)) (omega arith) e)),
+          );
+          off-boost = λ b q. (Z .off-boost b q, λ f. refl);
+          off-constant = λ q. (Z .off-constant q, λ f. refl);
+          two-boosts = λ b c q. (Z .two-boosts b c q, λ f. refl);
+          no-words = λ g. (Z .no-words g, λ f. sym (no-phrase es g));
+          one-word = λ g t p. (Z .one-word g t p, λ f. sym (one-phrase es g t p));
+          dead-none = λ m cs h. (Z .dead-none m cs h, λ f. none-dead m cs h);
+          negative-none = λ m cs h. (Z .negative-none m cs h, λ f. none-negative m cs h);
+          few-none = λ m cs h. (Z .few-none m cs h, λ f. none-few m cs h);
+          alone = λ m k q l c n. (Z .alone m k q l c n, λ f. alone-matches m k q l c n);
+          skip = λ m k cs h. (Z .skip m k cs h, λ f e. skip-agree m k cs h);
+          round = λ b q. (Z .round b q, λ f. refl);
+          double = λ m j k q s xs cs e c. (
+            Z .double m j k q s xs cs e c,
+            λ f g. agree-double strict m j k (base q) (boost (narrowed s) (base q)) q xs cs f c (base-matches q) (base-matches q),
+          );
+          again = λ m j k q t xs cs e c. (
+            Z .again m j k q t xs cs e c,
+            λ f g. agree-double strict m j k (reboosted j q t) (reboosted j q t) q xs cs f c (reboosted-matches j q t) (reboosted-matches j q t),
+          );
+        }
 
-  truth-law : Law Keeps KeepsAll
-  unfolding matches largest
-  truth-law =
-      let Z = bounds-law in
-      record {
-        stays = λ q. (Z .stays q, λ f. refl);
-        goes = λ p q r h g. (Z .goes p q r (h .0) (g .0), λ f. g .1 (omega (arith, h .0)) ∙ h .1 f);
-        stay = λ m cs. (Z .stay m cs, λ f g. record { ok = refl; any = refl; num = refl });
-        go = λ m cs ds bs h g. (Z .go m cs ds bs (h .0) (g .0), λ f e. agree-go m cs ds bs (h .1 f e) (g .1 f (omega (arith, h .0))));
-        in-boost = λ b p q h. (Z .in-boost b p q (h .0), h .1);
-        in-constant = λ p q h. (Z .in-constant p q (h .0), h .1);
-        in-boolean = λ m cs ds h. (Z .in-boolean m cs ds (h .0), λ f. agree-boolean m cs ds (h .1 (omega arith) (omega arith)));
-        in-clause = λ m k p q cs ds h g. (
-          Z .in-clause m k p q cs ds (h .0) (g .0),
-          λ f e. agree-clause m k p q cs ds (h .1 (omega arith)) (g .1 f (omega arith)),
-        );
-        off-boost = λ b q. (Z .off-boost b q, λ f. refl);
-        off-constant = λ q. (Z .off-constant q, λ f. refl);
-        two-boosts = λ b c q. (Z .two-boosts b c q, λ f. refl);
-        no-words = λ g. (Z .no-words g, λ f. sym (no-phrase es g));
-        one-word = λ g t p. (Z .one-word g t p, λ f. sym (one-phrase es g t p));
-        dead-none = λ m cs h. (Z .dead-none m cs h, λ f. none-dead m cs h);
-        negative-none = λ m cs h. (Z .negative-none m cs h, λ f. none-negative m cs h);
-        few-none = λ m cs h. (Z .few-none m cs h, λ f. none-few m cs h);
-        alone = λ m k q l c n. (Z .alone m k q l c n, λ f. alone-matches m k q l c n);
-        skip = λ m k cs h. (Z .skip m k cs h, λ f e. skip-agree m k cs h);
-        round = λ b q. (Z .round b q, λ f. refl);
-        double = λ m j k q s xs cs e c. (
-          Z .double m j k q s xs cs e c,
-          λ f g. agree-double m j k (base q) (boost (narrowed s) (base q)) q xs cs f c (base-matches q) (base-matches q),
-        );
-        again = λ m j k q t xs cs e c. (
-          Z .again m j k q t xs cs e c,
-          λ f g. agree-double m j k (reboosted j q t) (reboosted j q t) q xs cs f c (reboosted-matches j q t) (reboosted-matches j q t),
-        );
-      }
+    module _ (q : Query) (h : Fair strict (largest q)) where
+      pub matches-once : matches es (rewriteOnce strict q) ≡ matches es q
+      matches-once = once-law strict Keeps KeepsAll truth-law q .1 h
 
-  module _ (q : Query) (h : largest q ≤ 1) where
-    pub matches-once : matches es (rewriteOnce q) ≡ matches es q
-    matches-once = once-law Keeps KeepsAll truth-law q .1 h
+      pub matches-after : (n : ℕ) → matches es (afterRounds strict n q) ≡ matches es q
+      matches-after n = after-law strict Keeps KeepsAll truth-law q n .1 h
 
-    pub matches-after : (n : ℕ) → matches es (afterRounds n q) ≡ matches es q
-    matches-after n = after-law Keeps KeepsAll truth-law q n .1 h
+      pub matches-rounds : (k : ℕ) → matches es (resultOf (rounds strict k q)) ≡ matches es q
+      matches-rounds k = rounds-law strict Keeps KeepsAll truth-law q k .1 h
 
-    pub matches-rounds : (k : ℕ) → matches es (resultOf (rounds k q)) ≡ matches es q
-    matches-rounds k = rounds-law Keeps KeepsAll truth-law q k .1 h
-
-    pub matches-rewrite : matches es (resultOf (rewrite q)) ≡ matches es q
-    matches-rewrite = matches-rounds (weight q)
+      pub matches-rewrite : matches es (resultOf (rewrite strict q)) ≡ matches es q
+      matches-rewrite = matches-rounds (weight q)

@@ -41,7 +41,7 @@ none-is (range n f l u) h = clash h refl
 -- ---- what has to be shown of a law
 
 -- R of queries, and S of the clauses of a Boolean with a given minimum, are kept by every step of a round
-pub record Law (R : Query → Query → Type 0) (S : ℕ → Clauses → Clauses → Type 0) : Type 0 where
+pub record Law (strict : Bool) (R : Query → Query → Type 0) (S : ℕ → Clauses → Clauses → Type 0) : Type 0 where
   pub stays : (q : Query) → R q q
   pub goes : (p q r : Query) → R p q → R q r → R p r
   pub stay : (m : ℕ) (cs : Clauses) → S m cs cs
@@ -66,14 +66,14 @@ pub record Law (R : Query → Query → Type 0) (S : ℕ → Clauses → Clauses
   -- its clauses: one that is MatchNone, a boost that is rounded, a second one that is summed, a second one that is dropped
   pub skip : (m : ℕ) (k : Kind) (cs : Clauses) → isNeeded k ≡ false → S m (clause k matchNone cs) cs
   pub round : (b : ℕ) (q : Query) → R (boost b q) (boost (narrowed (widened b)) q)
-  pub double : (m : ℕ) (j k : Kind) (q : Query) (s : Float) (xs cs : Clauses) → summable m k ≡ true → standsFor j k ≡ true
+  pub double : (m : ℕ) (j k : Kind) (q : Query) (s : Float) (xs cs : Clauses) → summable m k ≡ true → standsFor strict m j k ≡ true
       → S m (clause j (base q) (join xs (clause k q cs))) (clause j (boost (narrowed s) (base q)) (join xs cs))
-  pub again : (m : ℕ) (j k : Kind) (q : Query) (t : Float) (xs cs : Clauses) → summable m k ≡ false → standsFor j k ≡ true
+  pub again : (m : ℕ) (j k : Kind) (q : Query) (t : Float) (xs cs : Clauses) → summable m k ≡ false → standsFor strict m j k ≡ true
       → S m (clause j (reboosted j q t) (join xs (clause k q cs))) (clause j (reboosted j q t) (join xs cs))
 
 -- ---- the walk
 
-module _ (R : Query → Query → Type 0) (S : ℕ → Clauses → Clauses → Type 0) (L : Law R S) where
+module _ (strict : Bool) (R : Query → Query → Type 0) (S : ℕ → Clauses → Clauses → Type 0) (L : Law strict R S) where
   module _ (m : ℕ) where
     by : (k : Kind) (p q : Query) (cs : Clauses) → R p q → S m (clause k p cs) (clause k q cs)
     by k p q cs h = L .in-clause m k p q cs cs h (L .stay m cs)
@@ -93,7 +93,7 @@ module _ (R : Query → Query → Type 0) (S : ℕ → Clauses → Clauses → T
     rebase k matchNone cs = rw one-one (L .stay m _)
     rebase k (range n f l u) cs = rw one-one (L .stay m _)
 
-    twice : (j k : Kind) (q : Query) (t u : Float) (xs cs : Clauses) → summable m k ≡ true → standsFor j k ≡ true
+    twice : (j k : Kind) (q : Query) (t u : Float) (xs cs : Clauses) → summable m k ≡ true → standsFor strict m j k ≡ true
         → S m (clause j (reboosted j (base q) t) (join xs (clause k q cs))) (clause j (reboosted j (base q) u) (join xs cs))
     twice j k q t u xs cs e c = L .go m _ _ _ (off (not (isOne t) && scores j)) (on (not (isOne u) && scores j))
       where
@@ -109,39 +109,39 @@ module _ (R : Query → Query → Type 0) (S : ℕ → Clauses → Clauses → T
 
     put-law : (f : Float → Float) (s : Float) (k : Kind) (p q : Query)
         → ((cs : Clauses) → S m (clause k q cs) (clause k (reboosted k p s) cs))
-        → ((j : Kind) (t : Float) (xs cs : Clauses) → standsFor j k ≡ true
+        → ((j : Kind) (t : Float) (xs cs : Clauses) → standsFor strict m j k ≡ true
         → S m (clause j (reboosted j p t) (join xs (clause k q cs))) (clause j (reboosted j p (f t)) (join xs cs)))
-        → (cs : Clauses) (ms : Merged) → S m (join (clausesOf ms) (clause k q cs)) (join (clausesOf (put f s k p ms)) cs)
+        → (cs : Clauses) (ms : Merged) → S m (join (clausesOf ms) (clause k q cs)) (join (clausesOf (put strict m f s k p ms)) cs)
     unfolding clausesOf put
     put-law f s k p q fresh dup cs empty = fresh cs
-    put-law f s k p q fresh dup cs (merged j o t ms) = pass (standsFor j k && equal o p) refl (put-law f s k p q fresh dup cs ms)
+    put-law f s k p q fresh dup cs (merged j o t ms) = pass (standsFor strict m j k && equal o p) refl (put-law f s k p q fresh dup cs ms)
       where
-        pass : (b : Bool) → (standsFor j k && equal o p) ≡ b
-            → S m (join (clausesOf ms) (clause k q cs)) (join (clausesOf (put f s k p ms)) cs)
+        pass : (b : Bool) → (standsFor strict m j k && equal o p) ≡ b
+            → S m (join (clausesOf ms) (clause k q cs)) (join (clausesOf (put strict m f s k p ms)) cs)
             → S m (clause j (reboosted j o t) (join (clausesOf ms) (clause k q cs)))
-            (join (clausesOf (cond b (merged j o (f t) ms) (merged j o t (put f s k p ms)))) cs)
-        pass true e h = rw (equal-eq o p (and-r (standsFor j k) (equal o p) e)) (dup j t (clausesOf ms) cs (and-l (standsFor j k) (equal o p) e))
+            (join (clausesOf (cond b (merged j o (f t) ms) (merged j o t (put strict m f s k p ms)))) cs)
+        pass true e h = rw (equal-eq o p (and-r (standsFor strict m j k) (equal o p) e)) (dup j t (clausesOf ms) cs (and-l (standsFor strict m j k) (equal o p) e))
         pass false e h = L .in-clause m j (reboosted j o t) (reboosted j o t) _ _ (L .stays (reboosted j o t)) h
 
-    add-law : (k : Kind) (q : Query) (cs : Clauses) (ms : Merged) → S m (join (clausesOf ms) (clause k q cs)) (join (clausesOf (addMerged m k q ms)) cs)
+    add-law : (k : Kind) (q : Query) (cs : Clauses) (ms : Merged) → S m (join (clausesOf ms) (clause k q cs)) (join (clausesOf (addMerged strict m k q ms)) cs)
     unfolding addMerged
     add-law k q cs ms = pass (summable m k) refl
       where
         pass : (b : Bool) → summable m k ≡ b
             → S m (join (clausesOf ms) (clause k q cs))
-            (join (clausesOf (cond b (put (λ t. plus t (boostOf q)) (boostOf q) k (base q) ms) (put (λ t. t) one k q ms))) cs)
+            (join (clausesOf (cond b (put strict m (λ t. plus t (boostOf q)) (boostOf q) k (base q) ms) (put strict m (λ t. t) one k q ms))) cs)
         pass true e =
             put-law (λ t. plus t (boostOf q)) (boostOf q) k (base q) q (λ ds. rebase k q ds)
             (λ j t xs ds c. twice j k q t (plus t (boostOf q)) xs ds e c) cs ms
         pass false e =
             put-law (λ t. t) one k q q (λ ds. rw one-one (L .stay m (clause k q ds))) (λ j t xs ds c. L .again m j k q t xs ds e c) cs ms
 
-    pub merge-law : (cs : Clauses) (ms : Merged) → S m (join (clausesOf ms) cs) (clausesOf (mergeOnto m ms cs))
+    pub merge-law : (cs : Clauses) (ms : Merged) → S m (join (clausesOf ms) cs) (clausesOf (mergeOnto strict m ms cs))
     unfolding mergeOnto
     merge-law none ms = rw (join-none (clausesOf ms)) (L .stay m (clausesOf ms))
-    merge-law (clause k q cs) ms = L .go m _ _ _ (add-law k q cs ms) (merge-law cs (addMerged m k q ms))
+    merge-law (clause k q cs) ms = L .go m _ _ _ (add-law k q cs ms) (merge-law cs (addMerged strict m k q ms))
 
-    pub merged-law : (cs : Clauses) → R (boolean m cs) (mergedBoolean m cs)
+    pub merged-law : (cs : Clauses) → R (boolean m cs) (mergedBoolean strict m cs)
     unfolding mergedBoolean clausesOf
     merged-law cs = L .in-boolean m cs _ (merge-law cs empty)
 
@@ -159,37 +159,37 @@ module _ (R : Query → Query → Type 0) (S : ℕ → Clauses → Clauses → T
         pass true e t =
             rw (none-is q e) (L .go m _ cs _ (L .skip m k cs (unneeded (isNeeded k) e (or-no-l (isNeeded k && isNone q) (isDead cs) h))) t)
 
-    pub lone-law : (cs : Clauses) → onlyMustNot cs ≡ false → m ≤ shouldCount cs → R (boolean m cs) (loneOrMerged m cs)
+    pub lone-law : (cs : Clauses) → onlyMustNot cs ≡ false → m ≤ shouldCount cs → R (boolean m cs) (loneOrMerged strict m cs)
     unfolding loneOrMerged onlyMustNot
     lone-law none n c = merged-law none
     lone-law (clause k q none) n c = pass (leb m 1) refl
       where
-        pass : (b : Bool) → leb m 1 ≡ b → R (boolean m (clause k q none)) (cond b (lone k q) (mergedBoolean m (clause k q none)))
+        pass : (b : Bool) → leb m 1 ≡ b → R (boolean m (clause k q none)) (cond b (lone k q) (mergedBoolean strict m (clause k q none)))
         pass true e = L .alone m k q (leb-true m 1 e) c (sym (and-true (isMustNot k)) ∙ n)
         pass false e = merged-law (clause k q none)
     lone-law (clause k q (clause j p cs)) n c = merged-law (clause k q (clause j p cs))
 
-    enough-law : (cs : Clauses) → onlyMustNot cs ≡ false → R (boolean m cs) (cond (ltb (shouldCount cs) m) matchNone (loneOrMerged m cs))
+    enough-law : (cs : Clauses) → onlyMustNot cs ≡ false → R (boolean m cs) (cond (ltb (shouldCount cs) m) matchNone (loneOrMerged strict m cs))
     enough-law cs n = pass (ltb (shouldCount cs) m) refl
       where
-        pass : (b : Bool) → ltb (shouldCount cs) m ≡ b → R (boolean m cs) (cond b matchNone (loneOrMerged m cs))
+        pass : (b : Bool) → ltb (shouldCount cs) m ≡ b → R (boolean m cs) (cond b matchNone (loneOrMerged strict m cs))
         pass true e = L .few-none m cs (ltb-true (shouldCount cs) m e)
         pass false e = lone-law cs n (ltb-false (shouldCount cs) m e)
 
-    pub of-live-law : (cs : Clauses) → R (boolean m cs) (ofLive m cs)
+    pub of-live-law : (cs : Clauses) → R (boolean m cs) (ofLive strict m cs)
     unfolding ofLive
     of-live-law cs = pass (onlyMustNot cs) refl
       where
         pass : (b : Bool) → onlyMustNot cs ≡ b
-            → R (boolean m cs) (cond b matchNone (cond (ltb (shouldCount cs) m) matchNone (loneOrMerged m cs)))
+            → R (boolean m cs) (cond b matchNone (cond (ltb (shouldCount cs) m) matchNone (loneOrMerged strict m cs)))
         pass true e = L .negative-none m cs e
         pass false e = enough-law cs e
 
-    pub boolean-law : (cs : Clauses) → R (boolean m cs) (rewriteBoolean m cs)
+    pub boolean-law : (cs : Clauses) → R (boolean m cs) (rewriteBoolean strict m cs)
     unfolding rewriteBoolean
     boolean-law cs = pass (isDead cs) refl
       where
-        pass : (b : Bool) → isDead cs ≡ b → R (boolean m cs) (cond b matchNone (ofLive m (live cs)))
+        pass : (b : Bool) → isDead cs ≡ b → R (boolean m cs) (cond b matchNone (ofLive strict m (live cs)))
         pass true e = L .dead-none m cs e
         pass false e = L .goes _ _ _ (L .in-boolean m cs (live cs) (live-law cs e)) (of-live-law (live cs))
 
@@ -228,16 +228,16 @@ module _ (R : Query → Query → Type 0) (S : ℕ → Clauses → Clauses → T
   mutual
     unfolding rewriteOnce
 
-    pub once-law : (q : Query) → R q (rewriteOnce q)
+    pub once-law : (q : Query) → R q (rewriteOnce strict q)
     once-law (term f t) = L .stays _
     once-law (phrase f ws) = phrased-law f ws
-    once-law (boolean m cs) = L .goes _ _ _ (L .in-boolean m _ _ (each-law cs m)) (boolean-law m (rewriteEach cs))
-    once-law (boost b q) = boost-law (isOne (widened b)) b q (rewriteOnce q) (once-law q)
-    once-law (constantScore q) = L .goes _ _ _ (L .in-constant _ _ (once-law q)) (scored-law (rewriteOnce q))
+    once-law (boolean m cs) = L .goes _ _ _ (L .in-boolean m _ _ (each-law cs m)) (boolean-law m (rewriteEach strict cs))
+    once-law (boost b q) = boost-law (isOne (widened b)) b q (rewriteOnce strict q) (once-law q)
+    once-law (constantScore q) = L .goes _ _ _ (L .in-constant _ _ (once-law q)) (scored-law (rewriteOnce strict q))
     once-law matchAll = L .stays _
     once-law matchNone = L .stays _
     once-law (range n f l u) = L .stays _
 
-    pub each-law : (cs : Clauses) (m : ℕ) → S m cs (rewriteEach cs)
+    pub each-law : (cs : Clauses) (m : ℕ) → S m cs (rewriteEach strict cs)
     each-law none m = L .stay m none
     each-law (clause k q cs) m = L .in-clause m k _ _ _ _ (once-law q) (each-law cs m)

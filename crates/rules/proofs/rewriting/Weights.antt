@@ -72,9 +72,9 @@ Lightens p q = Valid p → Valid q × Step weight p q
 abbrev pub LightensAll : ℕ → Clauses → Clauses → Type 0
 LightensAll m cs ds = Valids cs → Valids ds × Step weights cs ds
 
-pub weight-law : Law Lightens LightensAll
+pub weight-law : (strict : Bool) → Law strict Lightens LightensAll
 unfolding Valid ValidWords weight
-weight-law = record {
+weight-law strict = record {
   stays = λ q v. (v, inl refl);
   goes = λ p q r h k v. (k (h v .0) .0, step-go weight p q r (h v .1) (k (h v .0) .1));
   stay = λ m cs v. (v, inl refl);
@@ -104,80 +104,81 @@ weight-law = record {
   again = λ m j k q t xs cs e c v. ((v .0, join-valid k q xs cs (v .1)), inr (omega (arith, join-weight k q xs cs)));
 }
 
--- ---- one round
+module _ (strict : Bool) where
+  -- ---- one round
 
-pub valid-once : (q : Query) → Valid q → Valid (rewriteOnce q)
-valid-once q v = once-law Lightens LightensAll weight-law q v .0
+  pub valid-once : (q : Query) → Valid q → Valid (rewriteOnce strict q)
+  valid-once q v = once-law strict Lightens LightensAll (weight-law strict) q v .0
 
--- at every minimum
-pub once-lighter : (q : Query) → Valid q → (rewriteOnce q ≡ q) ⊎ (weight (rewriteOnce q) < weight q)
-once-lighter q v = once-law Lightens LightensAll weight-law q v .1
+  -- at every minimum
+  pub once-lighter : (q : Query) → Valid q → (rewriteOnce strict q ≡ q) ⊎ (weight (rewriteOnce strict q) < weight q)
+  once-lighter q v = once-law strict Lightens LightensAll (weight-law strict) q v .1
 
-pub changed-lighter : (q : Query) → Valid q → equal (rewriteOnce q) q ≡ false → weight (rewriteOnce q) < weight q
-changed-lighter q v e = pass (once-lighter q v)
-  where
-    pass : (rewriteOnce q ≡ q) ⊎ (weight (rewriteOnce q) < weight q) → weight (rewriteOnce q) < weight q
-    pass (inl s) = clash (equal-refl (rewriteOnce q) q s) e
-    pass (inr l) = l
+  pub changed-lighter : (q : Query) → Valid q → equal (rewriteOnce strict q) q ≡ false → weight (rewriteOnce strict q) < weight q
+  changed-lighter q v e = pass (once-lighter q v)
+    where
+      pass : (rewriteOnce strict q ≡ q) ⊎ (weight (rewriteOnce strict q) < weight q) → weight (rewriteOnce strict q) < weight q
+      pass (inl s) = clash (equal-refl (rewriteOnce strict q) q s) e
+      pass (inr l) = l
 
--- ---- all rounds
+  -- ---- all rounds
 
-pub valid-after : (n : ℕ) (q : Query) → Valid q → Valid (afterRounds n q)
-valid-after = kept-after Valid valid-once
+  pub valid-after : (n : ℕ) (q : Query) → Valid q → Valid (afterRounds strict n q)
+  valid-after = kept-after strict Valid valid-once
 
-pub valid-rounds : (k : ℕ) (q : Query) → Valid q → Valid (resultOf (rounds k q))
-valid-rounds = kept-rounds Valid valid-once
+  pub valid-rounds : (k : ℕ) (q : Query) → Valid q → Valid (resultOf (rounds strict k q))
+  valid-rounds = kept-rounds strict Valid valid-once
 
--- the whole rewriting: until a round changes nothing, that round counted too
-pub data Made : Query → Rewritten → Type 0 where
-  last : {q : Query} → rewriteOnce q ≡ q → Made q (rewritten (rewriteOnce q) 1)
-  more : {q : Query} {r : Rewritten} → (rewriteOnce q ≡ q → ⊥) → Made (rewriteOnce q) r → Made q (oneRoundMore r)
+  -- the whole rewriting: until a round changes nothing, that round counted too
+  pub data Made : Query → Rewritten → Type 0 where
+    last : {q : Query} → rewriteOnce strict q ≡ q → Made q (rewritten (rewriteOnce strict q) 1)
+    more : {q : Query} {r : Rewritten} → (rewriteOnce strict q ≡ q → ⊥) → Made (rewriteOnce strict q) r → Made q (oneRoundMore r)
 
-pub made-fixed : {q : Query} {r : Rewritten} → Made q r → rewriteOnce (resultOf r) ≡ resultOf r
-made-fixed (last e) = ap rewriteOnce e
-made-fixed (more {r = r} n m) = rw (result-more r) (made-fixed m)
+  pub made-fixed : {q : Query} {r : Rewritten} → Made q r → rewriteOnce strict (resultOf r) ≡ resultOf r
+  made-fixed (last e) = ap (rewriteOnce strict) e
+  made-fixed (more {r = r} n m) = rw (result-more r) (made-fixed m)
 
-made-few : {q : Query} {r : Rewritten} → Made q r → Valid q → countOf r ≤ weight q
-made-few {q} (last e) v = one-weight q
-made-few {q} (more {r = r} n m) v = rw (count-more r) (pass (once-lighter q v) (made-few m (valid-once q v)))
-  where
-    pass : (rewriteOnce q ≡ q) ⊎ (weight (rewriteOnce q) < weight q) → countOf r ≤ weight (rewriteOnce q) → suc (countOf r) ≤ weight q
-    pass (inl e) h = absurd (n e)
-    pass (inr l) h = omega arith
+  made-few : {q : Query} {r : Rewritten} → Made q r → Valid q → countOf r ≤ weight q
+  made-few {q} (last e) v = one-weight q
+  made-few {q} (more {r = r} n m) v = rw (count-more r) (pass (once-lighter q v) (made-few m (valid-once q v)))
+    where
+      pass : (rewriteOnce strict q ≡ q) ⊎ (weight (rewriteOnce strict q) < weight q) → countOf r ≤ weight (rewriteOnce strict q) → suc (countOf r) ≤ weight q
+      pass (inl e) h = absurd (n e)
+      pass (inr l) h = omega arith
 
--- there is one answer and one count
-pub made-one : {q : Query} {r s : Rewritten} → Made q r → Made q s → r ≡ s
-made-one (last e) (last f) = refl
-made-one (last e) (more n m) = absurd (n e)
-made-one (more n m) (last e) = absurd (n e)
-made-one (more n m) (more n′ m′) = ap oneRoundMore (made-one m m′)
+  -- there is one answer and one count
+  pub made-one : {q : Query} {r s : Rewritten} → Made q r → Made q s → r ≡ s
+  made-one (last e) (last f) = refl
+  made-one (last e) (more n m) = absurd (n e)
+  made-one (more n m) (last e) = absurd (n e)
+  made-one (more n m) (more n′ m′) = ap oneRoundMore (made-one m m′)
 
-pub made : (k : ℕ) (q : Query) → Valid q → weight q ≤ k → Made q (rounds k q)
-unfolding rounds
-made zero q v l = absurd (omega (arith, one-weight q))
-made (suc k) q v l = pass (equal (rewriteOnce q) q) refl (λ h. made k (rewriteOnce q) (valid-once q v) h)
-  where
-    pass : (b : Bool) → equal (rewriteOnce q) q ≡ b → (weight (rewriteOnce q) ≤ k → Made (rewriteOnce q) (rounds k (rewriteOnce q)))
-        → Made q (cond b (rewritten (rewriteOnce q) 1) (oneRoundMore (rounds k (rewriteOnce q))))
-    pass true e h = last (equal-eq (rewriteOnce q) q e)
-    pass false e h =
-        let l₂ = changed-lighter q v e in
-        more (λ s. clash (equal-refl (rewriteOnce q) q s) e) (h (omega arith))
+  pub made : (k : ℕ) (q : Query) → Valid q → weight q ≤ k → Made q (rounds strict k q)
+  unfolding rounds
+  made zero q v l = absurd (omega (arith, one-weight q))
+  made (suc k) q v l = pass (equal (rewriteOnce strict q) q) refl (λ h. made k (rewriteOnce strict q) (valid-once q v) h)
+    where
+      pass : (b : Bool) → equal (rewriteOnce strict q) q ≡ b → (weight (rewriteOnce strict q) ≤ k → Made (rewriteOnce strict q) (rounds strict k (rewriteOnce strict q)))
+          → Made q (cond b (rewritten (rewriteOnce strict q) 1) (oneRoundMore (rounds strict k (rewriteOnce strict q))))
+      pass true e h = last (equal-eq (rewriteOnce strict q) q e)
+      pass false e h =
+          let l₂ = changed-lighter q v e in
+          more (λ s. clash (equal-refl (rewriteOnce strict q) q s) e) (h (omega arith))
 
-module _ (q : Query) (v : Valid q) where
-  -- more fuel than the weight gives the same answer and the same count
-  pub any-fuel : (k : ℕ) → weight q ≤ k → rounds k q ≡ rewrite q
-  any-fuel k l = made-one (made k q v l) (made (weight q) q v (omega arith))
+  module _ (q : Query) (v : Valid q) where
+    -- more fuel than the weight gives the same answer and the same count
+    pub any-fuel : (k : ℕ) → weight q ≤ k → rounds strict k q ≡ rewrite strict q
+    any-fuel k l = made-one (made k q v l) (made (weight q) q v (omega arith))
 
-  -- the only answer of rounds made until one changes nothing
-  pub rewrite-is : (r : Rewritten) → Made q r → rewrite q ≡ r
-  rewrite-is r m = made-one (made (weight q) q v (omega arith)) m
+    -- the only answer of rounds made until one changes nothing
+    pub rewrite-is : (r : Rewritten) → Made q r → rewrite strict q ≡ r
+    rewrite-is r m = made-one (made (weight q) q v (omega arith)) m
 
-  pub few-rounds : countOf (rewrite q) ≤ weight q
-  few-rounds = made-few (made (weight q) q v (omega arith)) v
+    pub few-rounds : countOf (rewrite strict q) ≤ weight q
+    few-rounds = made-few (made (weight q) q v (omega arith)) v
 
-  pub fixed : rewriteOnce (resultOf (rewrite q)) ≡ resultOf (rewrite q)
-  fixed = made-fixed (made (weight q) q v (omega arith))
+    pub fixed : rewriteOnce strict (resultOf (rewrite strict q)) ≡ resultOf (rewrite strict q)
+    fixed = made-fixed (made (weight q) q v (omega arith))
 
-  pub valid-rewrite : Valid (resultOf (rewrite q))
-  valid-rewrite = valid-rounds (weight q) q v
+    pub valid-rewrite : Valid (resultOf (rewrite strict q))
+    valid-rewrite = valid-rounds (weight q) q v

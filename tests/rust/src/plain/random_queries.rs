@@ -41,6 +41,8 @@ const BOOSTS: [u32; 9] = [
     0x7FC0_0000, // NaN
 ];
 const MINIMA: [u16; 12] = [0, 0, 0, 0, 1, 1, 1, 2, 2, 3, 4, u16::MAX];
+/// Of Booleans whose clauses repeat.
+pub const LARGER_MINIMA: [u16; 10] = [0, 1, 2, 2, 2, 3, 3, 4, 4, u16::MAX];
 
 /// A query of at most this depth.
 pub fn query(r: &mut Random, deepest: usize) -> Query {
@@ -81,6 +83,31 @@ fn boolean(r: &mut Random, deepest: usize) -> Query {
         clauses.push((kind, inner));
     }
     Query::Boolean(minimum, clauses)
+}
+
+/// A Boolean whose clauses repeat: most are Should clauses, made of a few queries, with boosts and MatchNone among them.
+pub fn repeating(r: &mut Random, deepest: usize) -> Query {
+    let mut few = Vec::new();
+    for _ in 0..r.pick(&[1, 1, 2, 2, 3, 5]) {
+        few.push(if deepest > 2 && r.one_in(3) {
+            repeating(r, deepest.div_ceil(2))
+        } else {
+            query(r, deepest - 1)
+        });
+    }
+    let mut clauses = Vec::new();
+    for _ in 0..r.pick(&[1, 2, 2, 3, 4, 5, 6, 9]) {
+        let inner = few[r.below(few.len())].clone();
+        let inner = match r.below(10) {
+            0 => Query::MatchNone,
+            1 => Query::Boost(r.pick(&BOOSTS), Box::new(inner)),
+            _ => inner,
+        };
+        let any = r.pick(&KINDS);
+        let kind = r.pick(&[Kind::Should, Kind::Should, Kind::Should, any]);
+        clauses.push((kind, inner));
+    }
+    Query::Boolean(r.pick(&LARGER_MINIMA), clauses)
 }
 
 fn leaf(r: &mut Random) -> Query {

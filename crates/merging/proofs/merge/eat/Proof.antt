@@ -9,10 +9,10 @@ use Rattle.merging.proofs.merge.eat.Statement.{statement}
 use Rattle.merging.proofs.merge.eat.Tie as tie
 
 abbrev Inv-loop : tie.InvT-loop
-Inv-loop room₀ at end least b k sum₀ from₀ u₀ room sum from u = eating.Eating least b k at end sum₀ room₀ room sum from u
+Inv-loop room₀ at end least strict b k sum₀ from₀ u₀ room sum from u = eating.Eating strict least b k at end sum₀ room₀ room sum from u
 
 abbrev μ-loop : tie.MeasureT-loop
-μ-loop room₀ at end least b k sum₀ from₀ u₀ room sum from u = end - u
+μ-loop room₀ at end least strict b k sum₀ from₀ u₀ room sum from u = end - u
 
 loop-holds : tie.Need-loop-holds Inv-loop μ-loop
 loop-holds c = eating.eating-start _ (c .before .pre)

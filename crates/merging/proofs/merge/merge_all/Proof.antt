@@ -9,13 +9,13 @@ use Rattle.merging.proofs.merge.merge_all.Statement.{statement}
 use Rattle.merging.proofs.merge.merge_all.Tie as tie
 
 abbrev Inv-loop : tie.InvT-loop
-Inv-loop room₀ end least table t₀ w₀ last₀ room t w last = merging.Merging end least table room₀ room t w last
+Inv-loop room₀ end least strict table t₀ w₀ last₀ room t w last = merging.Merging strict end least table room₀ room t w last
 
 abbrev μ-loop : tie.MeasureT-loop
-μ-loop room₀ end least table t₀ w₀ last₀ room t w last = last - t
+μ-loop room₀ end least strict table t₀ w₀ last₀ room t w last = last - t
 
 loop-holds : tie.Need-loop-holds Inv-loop μ-loop
-loop-holds c = merging.merging-start _ _ (c .before .before .pre .0) (c .before .before .pre .1)
+loop-holds c = merging.merging-start _ _ _ (c .before .before .pre .0) (c .before .before .pre .1)
 
 end-of-requires : tie.Need-end-of-requires Inv-loop μ-loop
 end-of-requires c κs = (let l = merging.inside (c .before .before .loop .inv) in omega arith, merging.here (c .before .before .loop .inv) (c .before .loop-test .taken) .part .whole)

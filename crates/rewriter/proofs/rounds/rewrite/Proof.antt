@@ -13,7 +13,7 @@ same-length : tie.Need-same-length
 same-length c = search needs
 
 returns : tie.Need-returns
-returns c = rw (c .before .before .clear .ensures) (settling.short-room (now (c .before .before .before .before .before .before .before .before .args .query)) (now (c .before .before .before .before .before .before .before .before .args .out)) (now (c .before .before .before .before .before .before .before .before .args .room)) (c .before .before .before .before .if1 .taken))
+returns c = rw (c .before .before .clear .ensures) (settling.short-room (c .before .before .before .before .before .before .before .before .args .strict) (now (c .before .before .before .before .before .before .before .before .args .query)) (now (c .before .before .before .before .before .before .before .before .args .out)) (now (c .before .before .before .before .before .before .before .before .args .room)) (c .before .before .before .before .if1 .taken))
 
 for-rewriting-requires : tie.Need-for-rewriting-requires
 for-rewriting-requires c κs = search needs
@@ -25,16 +25,16 @@ same-length-2 : tie.Need-same-length-2
 same-length-2 c = search needs
 
 returns-2 : tie.Need-returns-2
-returns-2 c = rw (c .before .before .clear2 .ensures) (settling.refused-left (now (c .before .before .before .before .before .before .before .before .before .before .args .query)) (now (c .before .before .before .before .before .before .before .before .before .before .args .out)) (now (c .before .before .before .before .before .before .before .before .before .before .args .room)) (c .before .before .before .before .before .before .if1 .left) _ (c .before .before .before .before .before .for-rewriting .ensures) (c .before .before .before .before .if2 .taken))
+returns-2 c = rw (c .before .before .clear2 .ensures) (settling.refused-left (c .before .before .before .before .before .before .before .before .before .before .args .strict) (now (c .before .before .before .before .before .before .before .before .before .before .args .query)) (now (c .before .before .before .before .before .before .before .before .before .before .args .out)) (now (c .before .before .before .before .before .before .before .before .before .before .args .room)) (c .before .before .before .before .before .before .if1 .left) _ (c .before .before .before .before .before .for-rewriting .ensures) (c .before .before .before .before .if2 .taken))
 
 sub-at : tie.Need-sub-at
-sub-at c = settling.room-for (now (c .before .before .before .before .before .before .args .query)) (now (c .before .before .before .before .before .before .args .out)) (now (c .before .before .before .before .before .before .args .room)) (c .before .before .if1 .left) (λ i. omega (arith, c .before .before .before .before .before .shared-slice-known .given i)) _ (c .before .for-rewriting .ensures) (c .if2 .left) .0
+sub-at c = settling.room-for (c .before .before .before .before .before .before .args .strict) (now (c .before .before .before .before .before .before .args .query)) (now (c .before .before .before .before .before .before .args .out)) (now (c .before .before .before .before .before .before .args .room)) (c .before .before .if1 .left) (λ i. omega (arith, c .before .before .before .before .before .shared-slice-known .given i)) _ (c .before .for-rewriting .ensures) (c .if2 .left) .0
 
 copy-requires : tie.Need-copy-requires
-copy-requires c κs = settling.room-for (now (c .before .before .before .before .before .before .before .args .query)) (now (c .before .before .before .before .before .before .before .args .out)) (now (c .before .before .before .before .before .before .before .args .room)) (c .before .before .before .if1 .left) (λ i. omega (arith, c .before .before .before .before .before .before .shared-slice-known .given i)) _ (c .before .before .for-rewriting .ensures) (c .before .if2 .left) .1
+copy-requires c κs = settling.room-for (c .before .before .before .before .before .before .before .args .strict) (now (c .before .before .before .before .before .before .before .args .query)) (now (c .before .before .before .before .before .before .before .args .out)) (now (c .before .before .before .before .before .before .before .args .room)) (c .before .before .before .if1 .left) (λ i. omega (arith, c .before .before .before .before .before .before .shared-slice-known .given i)) _ (c .before .before .for-rewriting .ensures) (c .before .if2 .left) .1
 
 rewrite-all-requires : tie.Need-rewrite-all-requires
-rewrite-all-requires c κs = settling.ready (now (c .before .before .before .before .before .before .before .before .before .before .before .args .query)) (now (c .before .before .before .before .before .before .before .before .before .before .before .args .out)) (now (c .before .before .before .before .before .before .before .before .before .before .before .args .room)) (c .before .before .before .before .before .before .before .if1 .left) (λ i. omega (arith, c .before .before .before .before .before .before .before .before .before .before .shared-slice-known .given i)) _ (c .before .before .before .before .before .before .for-rewriting .ensures) (c .before .before .before .before .before .if2 .left) (c .before .before .before .copy .ensures)
+rewrite-all-requires c κs = settling.ready (c .before .before .before .before .before .before .before .before .before .before .before .args .strict) (now (c .before .before .before .before .before .before .before .before .before .before .before .args .query)) (now (c .before .before .before .before .before .before .before .before .before .before .before .args .out)) (now (c .before .before .before .before .before .before .before .before .before .before .before .args .room)) (c .before .before .before .before .before .before .before .if1 .left) (λ i. omega (arith, c .before .before .before .before .before .before .before .before .before .before .shared-slice-known .given i)) _ (c .before .before .before .before .before .before .for-rewriting .ensures) (c .before .before .before .before .before .if2 .left) (c .before .before .before .copy .ensures)
 
 clear-requires-3 : tie.Need-clear-requires-3
 clear-requires-3 c κs = search needs
@@ -46,7 +46,7 @@ returns-3 : tie.Need-returns-3
 returns-3 c =
     rw (settling.zeroed (now (c .before .before .before .before .before .before .before .before .before .before .before .before .before .before .before .before .before .before .before .args .room)) (c .before .before .before .before .before .before .before .rewrite-all .last .0)
     (c .before .before .clear3 .last .0) (c .before .before .clear3 .ensures) (omega (arith, c .before .before .before .before .before .before .before .before .before .before .before .copy .kept .0, c .before .before .before .before .before .before .before .rewrite-all .kept .0)))
-    (settling.long-left (now (c .before .before .before .before .before .before .before .before .before .before .before .before .before .before .before .before .before .before .before .args .query)) (now (c .before .before .before .before .before .before .before .before .before .before .before .before .before .before .before .before .before .before .before .args .out))
+    (settling.long-left (c .before .before .before .before .before .before .before .before .before .before .before .before .before .before .before .before .before .before .before .args .strict) (now (c .before .before .before .before .before .before .before .before .before .before .before .before .before .before .before .before .before .before .before .args .query)) (now (c .before .before .before .before .before .before .before .before .before .before .before .before .before .before .before .before .before .before .before .args .out))
     (now (c .before .before .before .before .before .before .before .before .before .before .before .before .before .before .before .before .before .before .before .args .room)) (c .before .before .before .before .before .before .before .before .before .before .before .before .before .before .before .if1 .left)
     (λ i. omega (arith, c .before .before .before .before .before .before .before .before .before .before .before .before .before .before .before .before .before .before .shared-slice-known .given i)) _ (c .before .before .before .before .before .before .before .before .before .before .before .before .before .before .for-rewriting .ensures)
     (c .before .before .before .before .before .before .before .before .before .before .before .before .before .if2 .left) (c .before .before .before .before .before .before .before .before .before .before .before .copy .ensures) (c .before .before .before .before .before .before .before .rewrite-all .ensures)
@@ -60,7 +60,7 @@ part-copy-start c = search needs
 
 part-copy-end : tie.Need-part-copy-end
 part-copy-end c =
-    settling.settled-low (now (c .before .before .before .before .before .before .before .before .before .before .before .before .before .before .before .before .before .args .query)) (now (c .before .before .before .before .before .before .before .before .before .before .before .before .before .before .before .before .before .args .out))
+    settling.settled-low (c .before .before .before .before .before .before .before .before .before .before .before .before .before .before .before .before .before .args .strict) (now (c .before .before .before .before .before .before .before .before .before .before .before .before .before .before .before .before .before .args .query)) (now (c .before .before .before .before .before .before .before .before .before .before .before .before .before .before .before .before .before .args .out))
     (now (c .before .before .before .before .before .before .before .before .before .before .before .before .before .before .before .before .before .args .room)) (c .before .before .before .before .before .before .before .before .before .before .before .before .before .if1 .left)
     (λ i. omega (arith, c .before .before .before .before .before .before .before .before .before .before .before .before .before .before .before .before .shared-slice-known .given i)) _ (c .before .before .before .before .before .before .before .before .before .before .before .before .for-rewriting .ensures)
     (c .before .before .before .before .before .before .before .before .before .before .before .if2 .left) (c .before .before .before .before .before .before .before .before .before .copy .ensures) (c .before .before .before .before .before .rewrite-all .ensures) .0
@@ -69,7 +69,7 @@ copy-requires-2 : tie.Need-copy-requires-2
 copy-requires-2 c κs =
     omega (
       arith,
-      settling.settled-low (now (c .before .before .before .before .before .before .before .before .before .before .before .before .before .before .before .before .before .before .args .query)) (now (c .before .before .before .before .before .before .before .before .before .before .before .before .before .before .before .before .before .before .args .out))
+      settling.settled-low (c .before .before .before .before .before .before .before .before .before .before .before .before .before .before .before .before .before .before .args .strict) (now (c .before .before .before .before .before .before .before .before .before .before .before .before .before .before .before .before .before .before .args .query)) (now (c .before .before .before .before .before .before .before .before .before .before .before .before .before .before .before .before .before .before .args .out))
           (now (c .before .before .before .before .before .before .before .before .before .before .before .before .before .before .before .before .before .before .args .room)) (c .before .before .before .before .before .before .before .before .before .before .before .before .before .before .if1 .left)
           (λ i. omega (arith, c .before .before .before .before .before .before .before .before .before .before .before .before .before .before .before .before .before .shared-slice-known .given i)) _ (c .before .before .before .before .before .before .before .before .before .before .before .before .before .for-rewriting .ensures)
           (c .before .before .before .before .before .before .before .before .before .before .before .before .if2 .left) (c .before .before .before .before .before .before .before .before .before .before .copy .ensures) (c .before .before .before .before .before .before .rewrite-all .ensures) .1,
@@ -89,7 +89,7 @@ returns-4 : tie.Need-returns-4
 returns-4 c =
     rw (settling.zeroed (now (c .before .before .before .before .before .before .before .before .before .before .before .before .before .before .before .before .before .before .before .before .before .before .before .before .before .args .room)) (c .before .before .before .before .before .before .before .before .before .before .before .before .before .rewrite-all .last .0)
     (c .before .before .clear4 .last .0) (c .before .before .clear4 .ensures) (omega (arith, c .before .before .before .before .before .before .before .before .before .before .before .before .before .before .before .before .before .copy .kept .0, c .before .before .before .before .before .before .before .before .before .before .before .before .before .rewrite-all .kept .0)))
-    (settling.got-left (now (c .before .before .before .before .before .before .before .before .before .before .before .before .before .before .before .before .before .before .before .before .before .before .before .before .before .args .query)) (now (c .before .before .before .before .before .before .before .before .before .before .before .before .before .before .before .before .before .before .before .before .before .before .before .before .before .args .out))
+    (settling.got-left (c .before .before .before .before .before .before .before .before .before .before .before .before .before .before .before .before .before .before .before .before .before .before .before .before .before .args .strict) (now (c .before .before .before .before .before .before .before .before .before .before .before .before .before .before .before .before .before .before .before .before .before .before .before .before .before .args .query)) (now (c .before .before .before .before .before .before .before .before .before .before .before .before .before .before .before .before .before .before .before .before .before .before .before .before .before .args .out))
     (now (c .before .before .before .before .before .before .before .before .before .before .before .before .before .before .before .before .before .before .before .before .before .before .before .before .before .args .room)) (c .before .before .before .before .before .before .before .before .before .before .before .before .before .before .before .before .before .before .before .before .before .if1 .left)
     (λ i. omega (arith, c .before .before .before .before .before .before .before .before .before .before .before .before .before .before .before .before .before .before .before .before .before .before .before .before .shared-slice-known .given i)) _ (c .before .before .before .before .before .before .before .before .before .before .before .before .before .before .before .before .before .before .before .before .for-rewriting .ensures)
     (c .before .before .before .before .before .before .before .before .before .before .before .before .before .before .before .before .before .before .before .if2 .left) (c .before .before .before .before .before .before .before .before .before .before .before .before .before .before .before .before .before .copy .ensures)

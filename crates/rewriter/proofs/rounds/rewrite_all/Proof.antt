@@ -6,10 +6,10 @@ use Rattle.rewriter.proofs.rounds.rewrite_all.Statement.{statement}
 use Rattle.rewriter.proofs.rounds.rewrite_all.Tie as tie
 
 abbrev Inv-loop : tie.InvT-loop
-Inv-loop room₀ at t₀ made₀ left₀ room t made left = settling.Settling at room₀ room t made left
+Inv-loop room₀ at strict t₀ made₀ left₀ room t made left = settling.Settling strict at room₀ room t made left
 
 abbrev μ-loop : tie.MeasureT-loop
-μ-loop room₀ at t₀ made₀ left₀ room t made left = left
+μ-loop room₀ at strict t₀ made₀ left₀ room t made left = left
 
 sub-weight : tie.Need-sub-weight Inv-loop μ-loop
 sub-weight c = omega (arith, settling.at-low (c .before .pre))
@@ -24,7 +24,7 @@ weight-requires : tie.Need-weight-requires Inv-loop μ-loop
 weight-requires c κs = settling.first-stored (c .before .before .before .pre)
 
 loop-holds : tie.Need-loop-holds Inv-loop μ-loop
-loop-holds c = settling.settling-start (c .before .before .before .before .pre) _ (c .weight .ensures)
+loop-holds c = settling.settling-start (c .before .before .before .before .pre) _ _ (c .weight .ensures)
 
 rewrite-once-requires : tie.Need-rewrite-once-requires Inv-loop μ-loop
 rewrite-once-requires c κs = settling.round-room (c .before .loop .inv)

@@ -66,10 +66,10 @@ rewrite-once-below t =
     rewrite-once.Pre
 
 abbrev rewrite-clauses-Inv-loop : rewrite-clauses-lts.InvT-loop
-rewrite-clauses-Inv-loop room₀ at t₀ w₀ room t w = cycling.Rewriting at room₀ room t w
+rewrite-clauses-Inv-loop room₀ at strict t₀ w₀ room t w = cycling.Rewriting strict at room₀ room t w
 
 abbrev rewrite-clauses-μ-loop : rewrite-clauses-lts.MeasureT-loop
-rewrite-clauses-μ-loop room₀ at t₀ w₀ room t w = length room - t
+rewrite-clauses-μ-loop room₀ at strict t₀ w₀ room t w = length room - t
 
 -- what `rewrite-clauses` is told of the functions that it calls
 abbrev rewrite-clauses-calls : ℕ → rewrite-clauses-lts.Claims
@@ -204,7 +204,7 @@ rewrite-once-add-rewrite-boolean : (t : ℕ) → rewrite-once-lts.Need-add-rewri
 rewrite-once-add-rewrite-boolean t c =
     omega (
       arith,
-      nested.boolean-live (c .before .before .before .before .before .before .before .before .before .before .before .before .before .before .pre .1) (c .before .before .before .before .before .before .before .before .before .before .before .match .keys2)
+      nested.boolean-live (c .before .before .before .before .before .before .before .before .before .before .before .before .before .before .pre .1) (c .before .before .before .before .before .before .before .before .before .before .before .match .keys2) _
           (rw (c .before .before .r .given .1) at (c .before .before .before .before .before .before .rewrite-clauses .ensures)) _ (c .before .before .before .before .before .before .before .before .big2 .ensures) .high,
       nested.boolean-long (c .before .before .before .before .before .before .before .before .before .before .before .before .before .before .pre .1)
           (c .before .before .before .before .before .before .before .before .before .before .before .match .keys2) (c .before .before .before .before .before .before .rewrite-clauses .last .0) (c .before .before .before .before .before .before .rewrite-clauses .kept .0),
@@ -212,7 +212,7 @@ rewrite-once-add-rewrite-boolean t c =
     )
 
 rewrite-once-rewrite-boolean-requires : (t : ℕ) → rewrite-once-lts.Need-rewrite-boolean-requires (rewrite-once-calls t) (rewrite-once-at t) rewrite-once.Post
-rewrite-once-rewrite-boolean-requires t c κs = nested.boolean-live (c .before .before .before .before .before .before .before .before .before .before .before .before .before .before .pre .1) (c .before .before .before .before .before .before .before .before .before .before .before .match .keys2) (rw (c .before .before .r .given .1) at (c .before .before .before .before .before .before .rewrite-clauses .ensures)) _ (c .before .before .before .before .before .before .before .before .big2 .ensures)
+rewrite-once-rewrite-boolean-requires t c κs = nested.boolean-live (c .before .before .before .before .before .before .before .before .before .before .before .before .before .before .pre .1) (c .before .before .before .before .before .before .before .before .before .before .before .match .keys2) _ (rw (c .before .before .r .given .1) at (c .before .before .before .before .before .before .rewrite-clauses .ensures)) _ (c .before .before .before .before .before .before .before .before .big2 .ensures)
 
 rewrite-once-add-big4 : (t : ℕ) → rewrite-once-lts.Need-add-big4 (rewrite-once-calls t) (rewrite-once-at t) rewrite-once.Post
 rewrite-once-add-big4 t c = omega (arith, nested.boost-low (c .before .before .before .pre .1) (c .match .keys3), c .before .before .before .good .0)
@@ -242,7 +242,7 @@ rewrite-once-rewrite-once-requires : (t : ℕ) → rewrite-once-lts.Need-rewrite
 rewrite-once-rewrite-once-requires t c κs = (let l = nested.boost-low (c .before .before .before .before .before .before .before .pre .1) (c .before .before .before .before .match .keys3) in omega (arith, c .before .before .before .before .before .before .before .pre .0, standing.within-length (now (c .before .before .before .before .before .before .before .args .room)) 7 (length (now (c .before .before .before .before .before .before .before .args .room))) (omega arith) (omega arith)), nested.boost-room (c .before .before .before .before .before .before .before .pre .1) (c .before .before .before .before .match .keys3))
 
 rewrite-once-finish-boost-requires : (t : ℕ) → rewrite-once-lts.Need-finish-boost-requires (rewrite-once-calls t) (rewrite-once-at t) rewrite-once.Post
-rewrite-once-finish-boost-requires t c κs = nested.boost-inside (c .before .before .before .before .before .before .before .before .before .before .before .pre .1) (c .before .before .before .before .before .before .before .before .match .keys3) (c .before .before .before .rewrite-once .ensures)
+rewrite-once-finish-boost-requires t c κs = nested.boost-inside (c .before .before .before .before .before .before .before .before .before .before .before .pre .1) (c .before .before .before .before .before .before .before .before .match .keys3) _ (c .before .before .before .rewrite-once .ensures)
 
 rewrite-once-sub-rewrite-once-2 : (t : ℕ) → rewrite-once-lts.Need-sub-rewrite-once-2 (rewrite-once-calls t) (rewrite-once-at t) rewrite-once.Post
 rewrite-once-sub-rewrite-once-2 t c = omega (arith, nested.score-low (c .before .before .before .pre .1) (c .match .keys4))
@@ -257,7 +257,7 @@ rewrite-once-rewrite-once-requires-2 : (t : ℕ) → rewrite-once-lts.Need-rewri
 rewrite-once-rewrite-once-requires-2 t c κs = (let l = nested.score-low (c .before .before .before .before .pre .1) (c .before .match .keys4) in omega (arith, c .before .before .before .before .pre .0, standing.within-length (now (c .before .before .before .before .args .room)) 3 (length (now (c .before .before .before .before .args .room))) (omega arith) (omega arith)), nested.score-room (c .before .before .before .before .pre .1) (c .before .match .keys4))
 
 rewrite-once-score-over-requires : (t : ℕ) → rewrite-once-lts.Need-score-over-requires (rewrite-once-calls t) (rewrite-once-at t) rewrite-once.Post
-rewrite-once-score-over-requires t c κs = nested.score-inside (c .before .before .before .before .before .before .before .before .pre .1) (c .before .before .before .before .before .match .keys4) (c .before .before .before .rewrite-once2 .ensures)
+rewrite-once-score-over-requires t c κs = nested.score-inside (c .before .before .before .before .before .before .before .before .pre .1) (c .before .before .before .before .before .match .keys4) _ (c .before .before .before .rewrite-once2 .ensures)
 
 rewrite-once-sub-n : (t : ℕ) → rewrite-once-lts.Need-sub-n (rewrite-once-calls t) (rewrite-once-at t) rewrite-once.Post
 rewrite-once-sub-n t c = omega (arith, nested.inside (c .before .before .before .pre .1))
@@ -269,37 +269,37 @@ rewrite-once-same-length : (t : ℕ) → rewrite-once-lts.Need-same-length (rewr
 rewrite-once-same-length t c = search needs
 
 rewrite-once-returns : (t : ℕ) → rewrite-once-lts.Need-returns (rewrite-once-calls t) (rewrite-once-at t) rewrite-once.Post
-rewrite-once-returns t c = nested.phrase-done (c .before .before .before .before .before .before .before .pre .1) (c .before .before .before .before .match .keys1) (c .before .before .phrase-over .ensures)
+rewrite-once-returns t c = nested.phrase-done (c .before .before .before .before .before .before .before .pre .1) (c .before .before .before .before .match .keys1) _ (c .before .before .phrase-over .ensures)
 
 rewrite-once-same-length-2 : (t : ℕ) → rewrite-once-lts.Need-same-length-2 (rewrite-once-calls t) (rewrite-once-at t) rewrite-once.Post
 rewrite-once-same-length-2 t c = search needs
 
 rewrite-once-returns-2 : (t : ℕ) → rewrite-once-lts.Need-returns-2 (rewrite-once-calls t) (rewrite-once-at t) rewrite-once.Post
-rewrite-once-returns-2 t c = nested.boolean-dead (c .before .before .before .before .before .before .before .before .before .before .before .before .before .before .before .before .pre .1) (c .before .before .before .before .before .before .before .before .before .before .before .before .before .match .keys2) (c .before .before .before .before .before .before .before .before .rewrite-clauses .last .0) (c .before .before .before .before .before .before .before .before .rewrite-clauses .kept .0) (rw (c .before .before .before .before .enum-told .given .1) at (c .before .before .before .before .before .before .before .before .rewrite-clauses .ensures)) (c .before .before .put-none .ensures)
+rewrite-once-returns-2 t c = nested.boolean-dead (c .before .before .before .before .before .before .before .before .before .before .before .before .before .before .before .before .pre .1) (c .before .before .before .before .before .before .before .before .before .before .before .before .before .match .keys2) (c .before .before .before .before .before .before .before .before .rewrite-clauses .last .0) (c .before .before .before .before .before .before .before .before .rewrite-clauses .kept .0) _ (rw (c .before .before .before .before .enum-told .given .1) at (c .before .before .before .before .before .before .before .before .rewrite-clauses .ensures)) (c .before .before .put-none .ensures)
 
 rewrite-once-same-length-3 : (t : ℕ) → rewrite-once-lts.Need-same-length-3 (rewrite-once-calls t) (rewrite-once-at t) rewrite-once.Post
 rewrite-once-same-length-3 t c = search needs
 
 rewrite-once-returns-3 : (t : ℕ) → rewrite-once-lts.Need-returns-3 (rewrite-once-calls t) (rewrite-once-at t) rewrite-once.Post
-rewrite-once-returns-3 t c = nested.boolean-done (c .before .before .before .before .before .before .before .before .before .before .before .before .before .before .before .before .before .pre .1) (c .before .before .before .before .before .before .before .before .before .before .before .before .before .before .match .keys2) (rw (c .before .before .before .before .before .r .given .1) at (c .before .before .before .before .before .before .before .before .before .rewrite-clauses .ensures)) _ (c .before .before .before .before .before .before .before .before .before .before .before .big2 .ensures) (c .before .before .rewrite-boolean .ensures)
+rewrite-once-returns-3 t c = nested.boolean-done (c .before .before .before .before .before .before .before .before .before .before .before .before .before .before .before .before .before .pre .1) (c .before .before .before .before .before .before .before .before .before .before .before .before .before .before .match .keys2) _ (rw (c .before .before .before .before .before .r .given .1) at (c .before .before .before .before .before .before .before .before .before .rewrite-clauses .ensures)) _ (c .before .before .before .before .before .before .before .before .before .before .before .big2 .ensures) (c .before .before .rewrite-boolean .ensures)
 
 rewrite-once-same-length-4 : (t : ℕ) → rewrite-once-lts.Need-same-length-4 (rewrite-once-calls t) (rewrite-once-at t) rewrite-once.Post
 rewrite-once-same-length-4 t c = search needs
 
 rewrite-once-returns-4 : (t : ℕ) → rewrite-once-lts.Need-returns-4 (rewrite-once-calls t) (rewrite-once-at t) rewrite-once.Post
-rewrite-once-returns-4 t c = nested.boost-done (c .before .before .before .before .before .before .before .before .before .before .before .before .before .before .pre .1) (c .before .before .before .before .before .before .before .before .before .before .before .match .keys3) (c .before .before .before .before .before .before .rewrite-once .ensures) _ (c .before .before .before .before .before .before .before .before .big4 .ensures) (c .before .before .finish-boost .ensures)
+rewrite-once-returns-4 t c = nested.boost-done (c .before .before .before .before .before .before .before .before .before .before .before .before .before .before .pre .1) (c .before .before .before .before .before .before .before .before .before .before .before .match .keys3) _ (c .before .before .before .before .before .before .rewrite-once .ensures) _ (c .before .before .before .before .before .before .before .before .big4 .ensures) (c .before .before .finish-boost .ensures)
 
 rewrite-once-same-length-5 : (t : ℕ) → rewrite-once-lts.Need-same-length-5 (rewrite-once-calls t) (rewrite-once-at t) rewrite-once.Post
 rewrite-once-same-length-5 t c = search needs
 
 rewrite-once-returns-5 : (t : ℕ) → rewrite-once-lts.Need-returns-5 (rewrite-once-calls t) (rewrite-once-at t) rewrite-once.Post
-rewrite-once-returns-5 t c = nested.score-done (c .before .before .before .before .before .before .before .before .before .before .before .pre .1) (c .before .before .before .before .before .before .before .before .match .keys4) (c .before .before .before .before .before .before .rewrite-once2 .ensures) (c .before .before .score-over .ensures)
+rewrite-once-returns-5 t c = nested.score-done (c .before .before .before .before .before .before .before .before .before .before .before .pre .1) (c .before .before .before .before .before .before .before .before .match .keys4) _ (c .before .before .before .before .before .before .rewrite-once2 .ensures) (c .before .before .score-over .ensures)
 
 rewrite-once-same-length-6 : (t : ℕ) → rewrite-once-lts.Need-same-length-6 (rewrite-once-calls t) (rewrite-once-at t) rewrite-once.Post
 rewrite-once-same-length-6 t c = search needs
 
 rewrite-once-returns-6 : (t : ℕ) → rewrite-once-lts.Need-returns-6 (rewrite-once-calls t) (rewrite-once-at t) rewrite-once.Post
-rewrite-once-returns-6 t c = nested.plain-done (c .before .before .before .before .before .before .before .pre .1) (c .before .before .before .before .match .rest .0 .0 .0 .1) (c .before .before .before .before .match .rest .0 .0 .1) (c .before .before .before .before .match .rest .0 .1) (c .before .before .before .before .match .rest .1) (c .before .before .shift .ensures)
+rewrite-once-returns-6 t c = nested.plain-done (c .before .before .before .before .before .before .before .pre .1) _ (c .before .before .before .before .match .rest .0 .0 .0 .1) (c .before .before .before .before .match .rest .0 .0 .1) (c .before .before .before .before .match .rest .0 .1) (c .before .before .before .before .match .rest .1) (c .before .before .shift .ensures)
 
 pub +rewrite-clauses+rewrite-once-spec : {M : Type 1} → statement M
 +rewrite-clauses+rewrite-once-spec =

@@ -26,13 +26,13 @@ put-minimum-requires : tie.Need-put-minimum-requires
 put-minimum-requires c κs = search needs
 
 add-put-header : tie.Need-add-put-header
-add-put-header c = omega (arith, c .before .before .before .before .before .before .before .merge-clauses .ensures (c .before .before .before .before .before .before .before .before .before .before .pre .clauses) (booleans.lent-are (c .before .before .before .before .before .before .before .before .before .before .pre) _ (c .before .before .before .before .before .before .before .before .before .before .pre .are)) .size, booleans.merged-small (c .before .before .before .before .before .before .before .before .before .before .pre))
+add-put-header c = omega (arith, c .before .before .before .before .before .before .before .merge-clauses .ensures (c .before .before .before .before .before .before .before .before .before .before .pre .clauses) (booleans.lent-are (c .before .before .before .before .before .before .before .before .before .before .pre) _ (c .before .before .before .before .before .before .before .before .before .before .pre .are)) .size, booleans.merged-small (c .before .before .before .before .before .before .before .before .before .before .pre) (c .before .before .before .before .before .before .before .before .before .before .args .strict))
 
 put-header-requires : tie.Need-put-header-requires
-put-header-requires c κs = omega (arith, c .before .before .before .before .before .before .before .merge-clauses .ensures (c .before .before .before .before .before .before .before .before .before .before .pre .clauses) (booleans.lent-are (c .before .before .before .before .before .before .before .before .before .before .pre) _ (c .before .before .before .before .before .before .before .before .before .before .pre .are)) .size, booleans.merged-small (c .before .before .before .before .before .before .before .before .before .before .pre))
+put-header-requires c κs = omega (arith, c .before .before .before .before .before .before .before .merge-clauses .ensures (c .before .before .before .before .before .before .before .before .before .before .pre .clauses) (booleans.lent-are (c .before .before .before .before .before .before .before .before .before .before .pre) _ (c .before .before .before .before .before .before .before .before .before .before .pre .are)) .size, booleans.merged-small (c .before .before .before .before .before .before .before .before .before .before .pre) (c .before .before .before .before .before .before .before .before .before .before .args .strict))
 
 add-result : tie.Need-add-result
-add-result c = omega (arith, c .before .before .before .before .before .before .before .before .before .before .merge-clauses .ensures (c .before .before .before .before .before .before .before .before .before .before .before .before .before .pre .clauses) (booleans.lent-are (c .before .before .before .before .before .before .before .before .before .before .before .before .before .pre) _ (c .before .before .before .before .before .before .before .before .before .before .before .before .before .pre .are)) .size, booleans.merged-small (c .before .before .before .before .before .before .before .before .before .before .before .before .before .pre))
+add-result c = omega (arith, c .before .before .before .before .before .before .before .before .before .before .merge-clauses .ensures (c .before .before .before .before .before .before .before .before .before .before .before .before .before .pre .clauses) (booleans.lent-are (c .before .before .before .before .before .before .before .before .before .before .before .before .before .pre) _ (c .before .before .before .before .before .before .before .before .before .before .before .before .before .pre .are)) .size, booleans.merged-small (c .before .before .before .before .before .before .before .before .before .before .before .before .before .pre) (c .before .before .before .before .before .before .before .before .before .before .before .before .before .args .strict))
 
 same-length : tie.Need-same-length
 same-length c = search needs
@@ -41,7 +41,7 @@ returns : tie.Need-returns
 returns c =
     λ cs a. booleans.boolean-laid _ _ (nested.returned-stands (now (c .before .before .before .before .before .before .before .before .before .before .before .before .before .args .room)) _ 8 (omega (arith, c .before .before .before .before .before .before .before .before .before .before .before .before .before .pre .low, c .before .before .before .before .before .before .before .before .before .before .before .before .before .pre .high))
     (c .before .before .before .before .before .before .before .before .before .before .merge-clauses .ensures cs (booleans.lent-are (c .before .before .before .before .before .before .before .before .before .before .before .before .before .pre) cs a))) (c .before .before .before .before .before .before .put-minimum .ensures)
-    (c .before .before .put-header .ensures) (omega (arith, c .before .before .before .before .before .before .before .before .before .before .merge-clauses .ensures (c .before .before .before .before .before .before .before .before .before .before .before .before .before .pre .clauses) (booleans.lent-are (c .before .before .before .before .before .before .before .before .before .before .before .before .before .pre) _ (c .before .before .before .before .before .before .before .before .before .before .before .before .before .pre .are)) .size, booleans.merged-small (c .before .before .before .before .before .before .before .before .before .before .before .before .before .pre)))
+    (c .before .before .put-header .ensures) (omega (arith, c .before .before .before .before .before .before .before .before .before .before .merge-clauses .ensures (c .before .before .before .before .before .before .before .before .before .before .before .before .before .pre .clauses) (booleans.lent-are (c .before .before .before .before .before .before .before .before .before .before .before .before .before .pre) _ (c .before .before .before .before .before .before .before .before .before .before .before .before .before .pre .are)) .size, booleans.merged-small (c .before .before .before .before .before .before .before .before .before .before .before .before .before .pre) (c .before .before .before .before .before .before .before .before .before .before .before .before .before .args .strict)))
 
 pub put-merged-boolean-spec : {M : Type 1} → statement M
 put-merged-boolean-spec =

@@ -30,7 +30,7 @@ same-length : tie.Need-same-length
 same-length c = search needs
 
 returns : tie.Need-returns
-returns c = λ cs a. rw (booleans.of-negative (c .before .before .before .before .before .before .before .before .before .args .least) cs (sym (c .before .before .before .before .before .only-must-not .ensures cs a) ∙ c .before .before .before .before .if1 .taken)) (c .before .before .put-none .ensures)
+returns c = λ cs a. rw (booleans.of-negative (c .before .before .before .before .before .before .before .before .before .args .strict) (c .before .before .before .before .before .before .before .before .before .args .least) cs (sym (c .before .before .before .before .before .only-must-not .ensures cs a) ∙ c .before .before .before .before .if1 .taken)) (c .before .before .put-none .ensures)
 
 sub-should-count : tie.Need-sub-should-count
 sub-should-count c = search needs
@@ -51,7 +51,7 @@ same-length-2 : tie.Need-same-length-2
 same-length-2 c = search needs
 
 returns-2 : tie.Need-returns-2
-returns-2 c = λ cs a. rw (booleans.of-few (c .before .before .before .before .before .before .before .before .before .before .before .before .before .args .least) cs (sym (c .before .before .before .before .before .before .before .before .before .only-must-not .ensures cs a) ∙ c .before .before .before .before .before .before .before .before .if1 .left) (omega (arith, c .before .before .before .before .before .should-count .ensures .0 cs a, c .before .before .before .before .if2 .taken))) (c .before .before .put-none2 .ensures)
+returns-2 c = λ cs a. rw (booleans.of-few (c .before .before .before .before .before .before .before .before .before .before .before .before .before .args .strict) (c .before .before .before .before .before .before .before .before .before .before .before .before .before .args .least) cs (sym (c .before .before .before .before .before .before .before .before .before .only-must-not .ensures cs a) ∙ c .before .before .before .before .before .before .before .before .if1 .left) (omega (arith, c .before .before .before .before .before .should-count .ensures .0 cs a, c .before .before .before .before .if2 .taken))) (c .before .before .put-none2 .ensures)
 
 put-merged-boolean-requires : tie.Need-put-merged-boolean-requires
 put-merged-boolean-requires c κs = search needs
@@ -60,7 +60,7 @@ same-length-3 : tie.Need-same-length-3
 same-length-3 c = search needs
 
 returns-3 : tie.Need-returns-3
-returns-3 c = λ cs a. rw (booleans.of-merged (c .before .before .before .before .before .before .before .before .before .before .before .before .before .before .args .least) cs (sym (c .before .before .before .before .before .before .before .before .before .before .only-must-not .ensures cs a) ∙ c .before .before .before .before .before .before .before .before .before .if1 .left) (omega (arith, c .before .before .before .before .before .before .should-count .ensures .0 cs a, c .before .before .before .before .before .if2 .left)) (inl (c .before .before .before .before .if3 .taken))) (c .before .before .put-merged-boolean .ensures cs a)
+returns-3 c = λ cs a. rw (booleans.of-merged (c .before .before .before .before .before .before .before .before .before .before .before .before .before .before .args .strict) (c .before .before .before .before .before .before .before .before .before .before .before .before .before .before .args .least) cs (sym (c .before .before .before .before .before .before .before .before .before .before .only-must-not .ensures cs a) ∙ c .before .before .before .before .before .before .before .before .before .if1 .left) (omega (arith, c .before .before .before .before .before .before .should-count .ensures .0 cs a, c .before .before .before .before .before .if2 .left)) (inl (c .before .before .before .before .if3 .taken))) (c .before .before .put-merged-boolean .ensures cs a)
 
 sub-is-single : tie.Need-sub-is-single
 sub-is-single c = search needs
@@ -82,7 +82,7 @@ same-length-4 c = search needs
 
 returns-4 : tie.Need-returns-4
 returns-4 c =
-    λ cs a. let s = booleans.single cs (sym (c .before .before .before .before .before .is-single .ensures cs a) ∙ c .before .before .before .before .if4 .taken) in rw (booleans.of-lone (c .before .before .before .before .before .before .before .before .before .before .before .before .before .before .before .before .before .before .args .least) cs
+    λ cs a. let s = booleans.single cs (sym (c .before .before .before .before .before .is-single .ensures cs a) ∙ c .before .before .before .before .if4 .taken) in rw (booleans.of-lone (c .before .before .before .before .before .before .before .before .before .before .before .before .before .before .before .before .before .before .args .strict) (c .before .before .before .before .before .before .before .before .before .before .before .before .before .before .before .before .before .before .args .least) cs
     (sym (c .before .before .before .before .before .before .before .before .before .before .before .before .before .before .only-must-not .ensures cs a) ∙ c .before .before .before .before .before .before .before .before .before .before .before .before .before .if1 .left)
     (omega (arith, c .before .before .before .before .before .before .before .before .before .before .should-count .ensures .0 cs a, c .before .before .before .before .before .before .before .before .before .if2 .left)) (omega (arith, c .before .before .before .before .before .before .before .before .if3 .left))
     (s .0) (s .1) (s .2)) (c .before .before .put-lone .ensures (s .0) (s .1) (subst (λ (ds : Clauses). Are (within 8 (c .before .before .before .before .before .before .before .before .before .before .before .before .before .before .before .before .before .before .args .end) (now (c .before .before .before .before .before .before .before .before .before .before .before .before .before .before .before .before .before .before .args .room))) ds) (s .2) a))
@@ -94,7 +94,7 @@ same-length-5 : tie.Need-same-length-5
 same-length-5 c = search needs
 
 returns-5 : tie.Need-returns-5
-returns-5 c = λ cs a. rw (booleans.of-merged (c .before .before .before .before .before .before .before .before .before .before .before .before .before .before .before .before .before .before .args .least) cs (sym (c .before .before .before .before .before .before .before .before .before .before .before .before .before .before .only-must-not .ensures cs a) ∙ c .before .before .before .before .before .before .before .before .before .before .before .before .before .if1 .left) (omega (arith, c .before .before .before .before .before .before .before .before .before .before .should-count .ensures .0 cs a, c .before .before .before .before .before .before .before .before .before .if2 .left)) (inr (sym (c .before .before .before .before .before .is-single .ensures cs a) ∙ c .before .before .before .before .if4 .left))) (c .before .before .put-merged-boolean2 .ensures cs a)
+returns-5 c = λ cs a. rw (booleans.of-merged (c .before .before .before .before .before .before .before .before .before .before .before .before .before .before .before .before .before .before .args .strict) (c .before .before .before .before .before .before .before .before .before .before .before .before .before .before .before .before .before .before .args .least) cs (sym (c .before .before .before .before .before .before .before .before .before .before .before .before .before .before .only-must-not .ensures cs a) ∙ c .before .before .before .before .before .before .before .before .before .before .before .before .before .if1 .left) (omega (arith, c .before .before .before .before .before .before .before .before .before .before .should-count .ensures .0 cs a, c .before .before .before .before .before .before .before .before .before .if2 .left)) (inr (sym (c .before .before .before .before .before .is-single .ensures cs a) ∙ c .before .before .before .before .if4 .left))) (c .before .before .put-merged-boolean2 .ensures cs a)
 
 pub rewrite-boolean-spec : {M : Type 1} → statement M
 rewrite-boolean-spec =
