@@ -33,7 +33,7 @@ use Rattle.parser.specs.declared.parse.Parsed.the-variants.{Refused, Byt
 use Rattle.counted.specs.declared.Counted.{Counted}
 use Rattle.counted.specs.declared.Counted.the-variants.{Fault, Clauses as Many}
 use Rattle.counted.proofs.Deciding.{made-some}
-use Rattle.clauses.proofs.Rows.{tokens-length}
+use Rattle.row.proofs.Rows.{length-tokens}
 
 -- ---- the whole answer
 
@@ -217,7 +217,7 @@ module _ (st : Setup) (room : List ℕ) (n : ℕ) (f : List ℕ) (ef : st .field
   unfolding parseTokens
   tokens-run =
       ap (λ (h : List ℕ). andThen (onRead queryFound (parseClauses st (tokensOf room n) (suc (length (tokensOf room n))) h 0 none 0)) (wholeQuery (tokensOf room n))) ef
-      ∙ ap (λ (o : Read Kept). andThen (onRead queryFound o) (wholeQuery (tokensOf room n))) (M .says (suc (length (tokensOf room n))) (omega (arith, tokens-length room n)))
+      ∙ ap (λ (o : Read Kept). andThen (onRead queryFound o) (wholeQuery (tokensOf room n))) (M .says (suc (length (tokensOf room n))) (omega (arith, length-tokens room n)))
 
   means-as : {g′ : Counted} → g ≡ g′ → MeansKept g′ (M .answer)
   means-as e = subst (λ (x : Counted). MeansKept x (M .answer)) e (M .means)
