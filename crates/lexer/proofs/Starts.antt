@@ -197,17 +197,16 @@ module _ (text : List ℕ) (at : ℕ) (room : List ℕ) where
       term-fits = (term-at .1, term-at .2)
 
       pub term-wild : isWildcard (getD text next 0) ≡ true → Makes (Refused 7 next) (termFrom (length text) s) text at room
-      unfolding termFrom
+      unfolding termFrom ascii some
       term-wild w =
           let b = wild-within (decLt next (length text)) w in
           let p : startIn (length text) (drop next text) ≡ next = omega (arith, length-drop next text) in
-          (wildcard, rw (term-at .0) (rw p at (end-wild (length text) _ (drop next text) (rw (getD-drop, add-zero) w))), refl, b)
+          (wildcard, rw (term-at .0) (rw p at (end-wild (length text) (take len (drop at room)) (drop next text) (rw (getD-drop, add-zero) w))), refl, b)
         where
           -- no wildcard stands past the last byte
           wild-within : Dec (next < length text) → isWildcard (getD text next 0) ≡ true → next < length text
-          unfolding ascii some
           wild-within (yes l) w = l
-          wild-within (no l) w = clash (rw (List·getD-eq-default text 0 (omega arith)) at w) refl
+          wild-within (no l) w = let z : getD text next 0 ≡ 0 = List·getD-eq-default text 0 (omega arith) in clash (rw z at w) refl
 
       pub term-yes : (k a m : ℕ) → isWildcard (getD text next 0) ≡ false → k ≡ wordKind (take (at + len - at) (drop at room)) → a ≡ noteOf k word len
           → m ≡ cond (eqb k termKind) len 0 → Makes (Token k a m next) (termFrom (length text) s) text at room

@@ -5,7 +5,7 @@ use Rattle.row.specs.Row.{tokensOf}
 use Rattle.rules.specs.Numerals.{numeralBits}
 use Rattle.rules.specs.Reading.{numberOf}
 use Rattle.rules.proofs.stored.Refusals.{number-not, number-got}
-use Rattle.clauses.proofs.Bodies.{boost-none, boost-missing, boost-refused, boost-got, boosted-length}
+use Rattle.clauses.proofs.Bodies.{numeral-faulty, boost-none, boost-missing, boost-refused, boost-got, boosted-length}
 use Rattle.clauses.proofs.Rows.{kind-in, text-is, place-step-two}
 use native.Mathlib.Omega.{arith}
 use borrow.Author.Needs.{needs}
@@ -39,7 +39,9 @@ returns c =
     let fault = c .before .fault in
     let z = kind-in (args .room .now) (args .n) 1 (args .i + 1) (λ z. omega arith) (sym (is-at2 .ensures) ∙ if2 .taken) in
     let a = number-not (numeralBits (text-at .result .now)) (λ e. c .if3 .taken (fault .ensures ∙ e)) in
-    ((λ st m e. (a .0, boost-refused st (tokensOf (args .room .now) (args .n)) (args .i) m (sym (c .before .before .before .before .before .before .is-at .ensures) ∙ c .before .before .before .before .before .if1 .taken) (sym (is-at2 .ensures) ∙ if2 .taken) (ap numeralBits (text-is (args .room .now) (args .n) (args .i + 1) z ∙ sym (text-at .ensures)) ∙ a .1), fault .ensures ∙ ap numberOf (a .1))), omega arith)
+    let b = numeral-faulty (text-at .result .now) (a .1) in
+    let d = rw (b .1) at (a .1) in
+    ((λ st m e. (b .0, boost-refused st (tokensOf (args .room .now) (args .n)) (args .i) m (sym (c .before .before .before .before .before .before .is-at .ensures) ∙ c .before .before .before .before .before .if1 .taken) (sym (is-at2 .ensures) ∙ if2 .taken) (ap numeralBits (text-is (args .room .now) (args .n) (args .i + 1) z ∙ sym (text-at .ensures)) ∙ d), fault .ensures ∙ ap numberOf d)), omega arith)
 
 boosted-len-requires : tie.Need-boosted-len-requires
 boosted-len-requires c κs = search needs
