@@ -16,6 +16,6 @@ abbrev pub Told : ℕ → ℕ → ℕ → ℕ → ℕ → ℕ → ℕ → ℕ �
 Told refusal len count rounds place refusal′ len′ count′ rounds′ place′ =
     (refusal′ ≡ refusal) × (len′ ≡ len) × (count′ ≡ count) × (rounds′ ≡ rounds) × (place′ ≡ place)
 
--- the version of the calls, major, minor and patch as one number: 1.0.0
+-- the version of the calls, major, minor and patch as one number: 2.0.0
 abbrev pub version : ℕ
-version = 1000000
+version = 2000000

@@ -85,7 +85,7 @@ pub extern "C" fn gorbihesh_select(
 pub extern "C" fn gorbihesh_version() -> u32
     ensures { λ r. ⌜ r ≡ version ⌝ }
 {
-    1000000
+    2000000
 }
 
 // ---- the rooms

@@ -69,19 +69,19 @@ low-is (low-refused s h) r e = let z : s ≡ r = cc in rw (← z) h
 term-low : (n : ℕ) (s : List ℕ) → Low (termText n s)
 unfolding termText before
 term-low n [] = low-got
-term-low n (c ∷ []) = low-cond (endsTerm c) low-got (low-cond (isBackslash c) (low-refused (faulty nothingEscaped _) (omega arith)) low-got)
+term-low n (c ∷ []) = low-cond (endsTerm c) low-got (low-cond (isBackslash c) (low-refused (faulty nothingEscaped (startIn n (c ∷ []))) (omega arith)) low-got)
 term-low n (c ∷ d ∷ s) = low-cond (endsTerm c) low-got (low-cond (isBackslash c) (low-on (onText d) (term-low n s)) (low-on (onText c) (term-low n (d ∷ s))))
 
 quote-low : (n p : ℕ) (s : List ℕ) → Low (quotedText n p s)
 unfolding quotedText before
-quote-low n p [] = low-refused (faulty openQuote _) (omega arith)
-quote-low n p (c ∷ []) = low-cond (isQuote c) low-got (low-cond (isBackslash c) (low-refused (faulty nothingEscaped _) (omega arith)) (low-refused (faulty openQuote _) (omega arith)))
+quote-low n p [] = low-refused (faulty openQuote p) (omega arith)
+quote-low n p (c ∷ []) = low-cond (isQuote c) low-got (low-cond (isBackslash c) (low-refused (faulty nothingEscaped (startIn n (c ∷ []))) (omega arith)) (low-refused (faulty openQuote p) (omega arith)))
 quote-low n p (c ∷ d ∷ s) = low-cond (isQuote c) low-got (low-cond (isBackslash c) (low-on (onText d) (quote-low n p s)) (low-on (onText c) (quote-low n p (d ∷ s))))
 
 end-low : (n : ℕ) (p : Piece) → Low (termEnd n p)
 unfolding termEnd
 end-low n (piece t []) = low-got
-end-low n (piece t (c ∷ s)) = low-need (not (isWildcard c)) (faulty wildcard _) (omega arith) low-got
+end-low n (piece t (c ∷ s)) = low-need (not (isWildcard c)) (faulty wildcard (startIn n (c ∷ s))) (omega arith) low-got
 
 token-low : (n c : ℕ) (s : List ℕ) → Low (tokenAt n c s)
 unfolding tokenAt termFrom quotedFrom
@@ -90,8 +90,8 @@ token-low n c s =
     (low-cond (doubled 0x26 c s) low-got
     (low-cond (doubled 0x7c c s) low-got
     (low-cond (isQuote c) (low-on quotedEnd (quote-low n (startIn n (c ∷ s)) s))
-    (low-cond (isBracket c) (low-refused (faulty rangeBracket _) (omega arith))
-    (low-cond (isWildcard c) (low-refused (faulty wildcard _) (omega arith)) (low-then (termEnd n) (term-low n (c ∷ s)) (end-low n)))))))
+    (low-cond (isBracket c) (low-refused (faulty rangeBracket (startIn n (c ∷ s))) (omega arith))
+    (low-cond (isWildcard c) (low-refused (faulty wildcard (startIn n (c ∷ s))) (omega arith)) (low-then (termEnd n) (term-low n (c ∷ s)) (end-low n)))))))
 
 module _ (n : ℕ) (more : List ℕ → Read (List Token)) (l : (t : List ℕ) → Low (more t)) where
   then-low : (x : Lexed) → Low (tokenThen n more x)
@@ -115,51 +115,51 @@ lex-low s = tokens-low (length s) (length s) s
 -- ---- parsing
 
 bits-low : (minus : Bool) (x : Numeral) → Low (bitsOf minus x)
-bits-low minus bad = low-refused (faulty badNumeral _) (omega arith)
+bits-low minus bad = low-refused (faulty badNumeral 0) (omega arith)
 bits-low minus infinite = low-got
 bits-low minus notNumber = low-got
 bits-low minus (decimal d u n) = low-got
 
 numeral-low : (s : List ℕ) → Low (numeralBits s)
 unfolding numeralBits
-numeral-low s = low-need (leb (length s) numeralMost) (faulty longNumeral _) (omega arith) (bits-low (isMinus s) (unsigned (afterSign s)))
+numeral-low s = low-need (leb (length s) numeralMost) (faulty longNumeral 0) (omega arith) (bits-low (isMinus s) (unsigned (afterSign s)))
 
 module _ (st : Setup) (ts : List Token) where
   boost-low : (m : Made) (i : ℕ) → Low (boostAt st ts m i)
   unfolding boostAt
   boost-low m i =
       low-cond (isAt caretKind ts i)
-      (low-need (isAt termKind ts (i + 1)) (faulty noNumeral _) (omega arith) (low-on (λ b. found (onMade (boost b) m) (i + 2)) (low-placed (λ p. i + 1) (numeral-low (textAt ts (i + 1)))))) low-got
+      (low-need (isAt termKind ts (i + 1)) (faulty noNumeral (i + 1)) (omega arith) (low-on (λ b. found (onMade (boost b) m) (i + 2)) (low-placed (λ p. i + 1) (numeral-low (textAt ts (i + 1)))))) low-got
 
   plain-low : (f : List ℕ) (i : ℕ) → Low (plainAt st ts f i)
   unfolding plainAt
-  plain-low f i = low-need (not (isAt tildeKind ts (i + 1))) (faulty fuzzyTerm _) (omega arith) (boost-low _ (i + 1))
+  plain-low f i = low-need (not (isAt tildeKind ts (i + 1))) (faulty fuzzyTerm (i + 1)) (omega arith) (boost-low _ (i + 1))
 
   quoted-low : (f : List ℕ) (i : ℕ) → Low (quotedAt st ts f i)
   unfolding quotedAt
-  quoted-low f i = low-need (not (isAt tildeKind ts (i + 1))) (faulty sloppyPhrase _) (omega arith) (boost-low _ (i + 1))
+  quoted-low f i = low-need (not (isAt tildeKind ts (i + 1))) (faulty sloppyPhrase (i + 1)) (omega arith) (boost-low _ (i + 1))
 
   closed-low : (x : Found) → Low (closedAt st ts x)
   unfolding closedAt
-  closed-low (found m j) = low-need (isAt closeKind ts j) (faulty openBracket _) (omega arith) (boost-low m (j + 1))
+  closed-low (found m j) = low-need (isAt closeKind ts j) (faulty openBracket j) (omega arith) (boost-low m (j + 1))
 
   module _ (sub : List ℕ → ℕ → ℕ → Read Found) (l : (f : List ℕ) (d i : ℕ) → Low (sub f d i)) where
     bracket-low : (f : List ℕ) (d i : ℕ) → Low (bracketAt st ts sub f d i)
     unfolding bracketAt
-    bracket-low f d i = low-need (ltb d bracketsMost) (faulty manyBrackets _) (omega arith) (low-then (closedAt st ts) (l f (suc d) (i + 1)) closed-low)
+    bracket-low f d i = low-need (ltb d bracketsMost) (faulty manyBrackets i) (omega arith) (low-then (closedAt st ts) (l f (suc d) (i + 1)) closed-low)
 
     body-low : (f : List ℕ) (d i : ℕ) → Low (bodyAt st ts sub f d i)
     unfolding bodyAt
     body-low f d i =
         low-cond (isAt termKind ts i) (plain-low f i)
         (low-cond (isAt openKind ts i) (bracket-low f d i)
-        (low-cond (isAt quotedKind ts i) (quoted-low f i) (low-cond (isAt endKind ts i) (low-refused (faulty unexpectedEnd _) (omega arith)) (low-refused (faulty unexpectedToken _) (omega arith)))))
+        (low-cond (isAt quotedKind ts i) (quoted-low f i) (low-cond (isAt endKind ts i) (low-refused (faulty unexpectedEnd i) (omega arith)) (low-refused (faulty unexpectedToken i) (omega arith)))))
 
     clause-low : (f : List ℕ) (d i : ℕ) → Low (clauseAt st ts sub f d i)
     unfolding clauseAt
     clause-low f d i =
         low-cond (isAt termKind ts i && isAt colonKind ts (i + 1))
-        (low-need (leb (length (textAt ts i)) fieldMost) (faulty longField _) (omega arith) (body-low (textAt ts i) d (i + 2))) (body-low f d i)
+        (low-need (leb (length (textAt ts i)) fieldMost) (faulty longField i) (omega arith) (body-low (textAt ts i) d (i + 2))) (body-low f d i)
 
 add-low : (o : ℕ) (c : Conjunction) (m : Modifier) (more : Clauses → ℕ → Read Kept) → ((ds : Clauses) (h : ℕ) → Low (more ds h)) → (cs : Clauses) (x : Found)
     → Low (addClause o c m more cs x)
@@ -169,7 +169,7 @@ add-low o c m more l cs (found (made q) j) = l _ j
 
 clauses-low : (st : Setup) (ts : List Token) (n : ℕ) (f : List ℕ) (d : ℕ) (cs : Clauses) (i : ℕ) → Low (parseClauses st ts n f d cs i)
 unfolding parseClauses
-clauses-low st ts zero f d cs i = low-refused (faulty unexpectedEnd _) (omega arith)
+clauses-low st ts zero f d cs i = low-refused (faulty unexpectedEnd i) (omega arith)
 clauses-low st ts (suc n) f d cs i =
     let c = conjunctionAt cs ts i in
     let j = afterConjunction c i in
@@ -181,7 +181,7 @@ clauses-low st ts (suc n) f d cs i =
 
 whole-low : (ts : List Token) (x : Found) → Low (wholeQuery ts x)
 unfolding wholeQuery
-whole-low ts (found m j) = low-need (isAt endKind ts j) (faulty unexpectedToken _) (omega arith) low-got
+whole-low ts (found m j) = low-need (isAt endKind ts j) (faulty unexpectedToken j) (omega arith) low-got
 
 parse-low : (st : Setup) (s : List ℕ) → Low (parse st s)
 unfolding parse parseTokens
