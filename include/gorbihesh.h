@@ -12,8 +12,8 @@
  *   rows, room) must not overlap another slice of the same call; slices that it only reads may.
  * Success.  The answer's `refusal` is 0. The first `length` bytes of the output are the answer; the bytes
  *   behind them are as they were.
- * Refusal.  The answer's `refusal` is one of the numbers below and its other members are 0. Every byte of
- *   the output is as it was.
+ * Refusal.  The answer's `refusal` is one of the numbers below and its other members are 0, but for `place`,
+ *   which says where in a selector the fault is. Every byte of the output is as it was.
  * Room.  Working room is lent. It may hold anything before the call and holds zeros after it, refused or
  *   not, whole, however long it is. A room shorter than the call's constant below is refusal 32, which is
  *   tested before all else. A longer room is never needed.
@@ -36,10 +36,10 @@ extern "C" {
 /* ---- version: of this header. gorbihesh_version gives that of the library that is linked. Where the major
  * numbers differ, so do the layouts of answers, queries or lists, and no other call may be made.
  */
-#define GORBIHESH_VERSION_MAJOR 1
+#define GORBIHESH_VERSION_MAJOR 2
 #define GORBIHESH_VERSION_MINOR 0
 #define GORBIHESH_VERSION_PATCH 0
-#define GORBIHESH_VERSION_STRING "1.0.0"
+#define GORBIHESH_VERSION_STRING "2.0.0"
 #define GORBIHESH_VERSION \
     (GORBIHESH_VERSION_MAJOR * 1000000 + GORBIHESH_VERSION_MINOR * 1000 + GORBIHESH_VERSION_PATCH)
 
@@ -80,7 +80,19 @@ enum gorbihesh_analyzer {
     GORBIHESH_ENGLISH = 5     /* the same without 33 stop words, whose positions stay empty */
 };
 
-/* ---- refusals: each is given exactly when its line says */
+/* ---- refusals: each is given exactly when its line says. Those from 4 to 17 have a place, which counts the
+ * bytes of the text before it, from 0:
+ *
+ *     4                   the opening quote
+ *     5                   the backslash
+ *     6, 7                the byte itself
+ *     8, 9                the ~
+ *     10, 12              the end: as many bytes as the text has
+ *     11, 13, 14, 16, 17  where the refused token starts; for 14 also the end, where nothing follows the ^
+ *     15                  where the name starts
+ *
+ * All other refusals have place 0.
+ */
 enum gorbihesh_refusal {
     GORBIHESH_DONE = 0,              /* no refusal */
     GORBIHESH_LONG_TEXT = 1,         /* text over 1,024 bytes */
@@ -152,6 +164,7 @@ typedef struct {
     uint32_t length;  /* the bytes written to the output */
     uint32_t count;   /* gorbihesh_select: the records picked; 0 for the other calls */
     uint32_t rounds;  /* either rewriting: the rounds made, the last unchanged one included; else 0 */
+    uint32_t place;   /* gorbihesh_parse: where the fault of refusals 4 to 17 is; else 0 */
 } gorbihesh_answer;
 
 /* Parses a selector.

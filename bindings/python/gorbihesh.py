@@ -19,7 +19,7 @@ from enum import IntEnum
 from pathlib import Path
 from typing import NamedTuple, Union
 
-__version__ = "1.0.0"
+__version__ = "2.0.0"
 
 # Limits, as in gorbihesh.h.
 TEXT_MOST = 1024
@@ -81,12 +81,15 @@ class Refusal(IntEnum):
 
 
 class Refused(ValueError):
-    """A call refused. `number` is a Refusal, or a plain number that this release does not know."""
+    """A call refused. `number` is a Refusal, or a plain number that this release does not know. `place` is where in a
+    selector the fault of a refusal from 4 to 17 is, by the bytes before it; else 0."""
 
     number: int
+    place: int
 
-    def __init__(self, number: int) -> None:
-        super().__init__(number)
+    def __init__(self, number: int, place: int = 0) -> None:
+        super().__init__(number, place)
+        self.place = place
         try:
             self.number = Refusal(number)
         except ValueError:
@@ -110,12 +113,13 @@ _Buffer = ctypes.Array  # of bytes that a call writes to
 
 
 class _Answer(ctypes.Structure):
-    _fields_ = [(name, ctypes.c_uint32) for name in ("refusal", "length", "count", "rounds")]
+    _fields_ = [(name, ctypes.c_uint32) for name in ("refusal", "length", "count", "rounds", "place")]
 
     refusal: int
     length: int
     count: int
     rounds: int
+    place: int
 
 
 def _find() -> str:
@@ -172,7 +176,7 @@ def _lend_buffer(length: int) -> _Buffer[ctypes.c_uint8]:
 
 def _answer(answer: _Answer) -> _Answer:
     if answer.refusal != 0:
-        raise Refused(answer.refusal)
+        raise Refused(answer.refusal, answer.place)
     return answer
 
 
@@ -189,7 +193,7 @@ def _bytes(text: Text) -> bytes:
 
 
 def version() -> str:
-    """The version of the library that was loaded, as 1.0.0."""
+    """The version of the library that was loaded, as 2.0.0."""
     return _spelled(_library.gorbihesh_version())
 
 

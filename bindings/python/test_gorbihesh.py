@@ -126,10 +126,10 @@ class BesideTheHeader(unittest.TestCase):
 
 
 class Calls(unittest.TestCase):
-    def refuses(self, refusal: int, text: gorbihesh.Text, setup: Setup = SIMPLE) -> None:
+    def refuses(self, refusal: int, text: gorbihesh.Text, setup: Setup = SIMPLE, place: int = 0) -> None:
         with self.assertRaises(Refused) as raised:
             gorbihesh.parse(text, setup)
-        self.assertEqual(raised.exception.number, refusal)
+        self.assertEqual((raised.exception.number, raised.exception.place), (refusal, place))
         self.assertEqual(str(raised.exception), gorbihesh.words(refusal))
 
     def test_setup(self) -> None:
@@ -142,6 +142,8 @@ class Calls(unittest.TestCase):
     def test_refusals(self) -> None:
         self.refuses(Refusal.LONG_TEXT, "a" * (gorbihesh.TEXT_MOST + 1))
         self.refuses(Refusal.OPEN_QUOTE, '"a')
+        self.refuses(Refusal.OPEN_QUOTE, 'a "a', place=2)
+        self.refuses(Refusal.UNEXPECTED_END, "a AND", place=5)
         texts: list[gorbihesh.Text] = ["caf\u00e9", b"caf\xe9", "caf\udce9", "\ud800"]
         for text in texts:
             self.refuses(Refusal.NOT_ASCII, text)
@@ -153,8 +155,8 @@ class Calls(unittest.TestCase):
         self.assertEqual(Refused(99).number, 99)
 
     def test_a_refusal_between_processes(self) -> None:
-        copy = pickle.loads(pickle.dumps(Refused(Refusal.OPEN_QUOTE)))
-        self.assertEqual((copy.number, str(copy)), (Refusal.OPEN_QUOTE, gorbihesh.words(4)))
+        copy = pickle.loads(pickle.dumps(Refused(Refusal.OPEN_QUOTE, 7)))
+        self.assertEqual((copy.number, copy.place, str(copy)), (Refusal.OPEN_QUOTE, 7, gorbihesh.words(4)))
 
     def test_select(self) -> None:
         files = List()

@@ -81,9 +81,9 @@ static size_t check_selector(site *s, const result *r) {
 }
 
 static int check_job(site *s, const result *r) {
-    report_head(r->job);
+    size_t column = report_head(r->job);
     if (r->why != NULL) {
-        report_refusal(r);
+        report_refusal(r, column);
         return ALL_WELL;
     }
     return check_selector(s, r) > 0 ? POINTED_OUT : ALL_WELL;

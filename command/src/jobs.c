@@ -27,6 +27,7 @@ static void run_job(site *s, result *r) {
     r->why = j->fault;
     if (j->fault != NULL) return;
     r->refusal = run_selector(&s->desk, j->selector, j->length, &r->picks);
+    r->place = s->desk.place;
     if (r->refusal != GORBIHESH_DONE) r->why = gorbihesh_words(r->refusal);
     else r->picks_none_ever = picks_none_ever(&s->desk);
 }

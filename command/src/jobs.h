@@ -8,6 +8,7 @@
 typedef struct {
     const job *job;
     uint32_t refusal;     /* of its selector, or 0 */
+    size_t place;         /* of the selector's fault, by the bytes before it */
     const char *why;      /* it was refused, in words; NULL where it was run */
     int picks_none_ever;  /* whatever the catalogue holds */
     picks picks;

@@ -6,9 +6,9 @@
 #include "status.h"
 
 static void report_job(const site *s, const result *r, int want_all) {
-    report_head(r->job);
+    size_t column = report_head(r->job);
     if (r->why != NULL) {
-        report_refusal(r);
+        report_refusal(r, column);
         return;
     }
     report_picks(r);

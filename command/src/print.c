@@ -39,6 +39,12 @@ void print_typed(FILE *to, const char *text, size_t length) {
     }
 }
 
+size_t width_of_typed(const char *text, size_t length) {
+    size_t width = 0;
+    for (size_t i = 0; i < length; i++) width += is_printable((unsigned char)text[i]) ? 1 : ESCAPE_LENGTH;
+    return width;
+}
+
 /* How long it is. */
 static int group_digits(uint64_t n, char grouped[NUMBER_MOST]) {
     char digits[NUMBER_MOST];

@@ -17,6 +17,9 @@ void print_quotable(FILE *to, const char *text, size_t length);
 /* A line of a sheet as it was typed; bytes that are no printable ASCII as % and three octal digits. */
 void print_typed(FILE *to, const char *text, size_t length);
 
+/* How many columns it takes so: a tab and any other control character is printed as its escape. */
+size_t width_of_typed(const char *text, size_t length);
+
 /* Digits in threes, at least `width` wide. */
 void print_number(FILE *to, uint64_t n, int width);
 int width_of(uint64_t n);

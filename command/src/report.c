@@ -4,7 +4,7 @@
 #include "print.h"
 #include "status.h"
 
-enum { SHOWN_MOST = 8 };
+enum { SHOWN_MOST = 8, LINE_MOST = 78, BEFORE_MOST = 40, BEHIND_MOST = 24 };
 
 /* How many of a list are shown: not all but one. */
 static size_t count_shown(size_t count, int want_all) {
@@ -28,15 +28,38 @@ void report_catalogue(const site *s) {
     putchar('\n');
 }
 
-void report_head(const job *j) {
+size_t report_head(const job *j) {
+    int column = 0;
     putchar('\n');
-    if (j->name != NULL) printf("%s ", j->name);
-    if (j->line > 0) printf(j->name != NULL ? "(line %zu): " : "line %zu: ", j->line);
+    if (j->name != NULL) column += printf("%s ", j->name);
+    if (j->line > 0) column += printf(j->name != NULL ? "(line %zu): " : "line %zu: ", j->line);
     print_typed(stdout, j->selector, j->length);
     putchar('\n');
+    return (size_t)column;
 }
 
-void report_refusal(const result *r) {
+static void report_caret(size_t column) { printf("%*s^\n", (int)column, ""); }
+
+/* What stands before and behind the place, on a line of its own. */
+static void report_around(const job *j, size_t place) {
+    static const char indent[] = "    ", cut[] = "...";
+    size_t from = place > BEFORE_MOST ? place - BEFORE_MOST : 0;
+    size_t to = j->length - place > BEHIND_MOST ? place + BEHIND_MOST : j->length;
+    printf("%s%s", indent, from > 0 ? cut : "");
+    print_typed(stdout, j->selector + from, to - from);
+    puts(to < j->length ? cut : "");
+    report_caret(strlen(indent) + (from > 0 ? strlen(cut) : 0) + width_of_typed(j->selector + from, place - from));
+}
+
+static void report_place(const result *r, size_t column) {
+    const job *j = r->job;
+    if (r->refusal < GORBIHESH_OPEN_QUOTE || r->refusal > GORBIHESH_LONG_NUMERAL || r->place > j->length) return;
+    if (column + width_of_typed(j->selector, j->length) > LINE_MOST) report_around(j, r->place);
+    else report_caret(column + width_of_typed(j->selector, r->place));
+}
+
+void report_refusal(const result *r, size_t column) {
+    report_place(r, column);
     if (r->refusal != 0) printf("  refused, %u: %s\n", (unsigned)r->refusal, r->why);
     else printf("  refused: %s\n", r->why);
 }

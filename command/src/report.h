@@ -7,11 +7,13 @@
 /* How many files, bytes and lists. */
 void report_catalogue(const site *s);
 
-/* A job's name, line and selector. */
-void report_head(const job *j);
+/* A job's name, line and selector; answers the column that the selector begins at. */
+size_t report_head(const job *j);
 
-/* Why it was refused. */
-void report_refusal(const result *r);
+/* Why it was refused. A fault of the selector has a caret under its place: below the selector, which begins at this
+ * column of the line before; where that line is long, below what stands around the place.
+ */
+void report_refusal(const result *r, size_t column);
 
 /* How many files and bytes it picks, or that it never could pick any. */
 void report_picks(const result *r);

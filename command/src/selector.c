@@ -14,7 +14,7 @@ void make_desk(desk *d, const tree *t, const catalogue *c) {
     for (size_t i = 0; i < c->count; i++) records = greater(records, c->at[i].list.count);
     d->files = t;
     d->lists = c;
-    d->parsed_len = d->rewritten_len = 0;
+    d->parsed_len = d->rewritten_len = d->place = 0;
     d->rows_len = 4 * records;
     d->room_len = greater(gorbihesh_parse_room(), greater(gorbihesh_rewrite_room(), gorbihesh_select_room()));
     d->parsed = must_have(malloc(GORBIHESH_REWRITE_QUERY_MOST));
@@ -60,6 +60,7 @@ uint32_t read_selector(desk *d, const char *field, size_t field_length, const ch
     gorbihesh_answer a = parse_selector(field, field_length, text, length, d->parsed, GORBIHESH_REWRITE_QUERY_MOST,
                                         d->room, gorbihesh_parse_room());
     d->parsed_len = a.length;
+    d->place = a.place;
     make_texts_small(d->parsed, d->parsed_len);
     return a.refusal;
 }

@@ -18,6 +18,7 @@ typedef struct {
     const catalogue *lists;
     uint8_t *parsed, *rewritten, *rows, *room;
     size_t parsed_len, rewritten_len; /* what the last selector is read and rewritten as */
+    size_t place;                     /* where the fault of the last selector is, if it has one */
     size_t rows_len, room_len;
 } desk;
 

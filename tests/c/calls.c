@@ -61,6 +61,7 @@ outcome parse_in(setup s, bytes text, size_t out_len, size_t room_len) {
     check_room(&room);
     CHECK(a.count == 0);
     CHECK(a.rounds == 0);
+    CHECK(a.place <= text.len && (a.place == 0 || (a.refusal >= 4 && a.refusal <= 17)));
     return check_output(a, &out);
 }
 
@@ -71,7 +72,7 @@ static outcome rewrite_by(rewriting *call, bytes query, size_t out_len, size_t r
     gorbihesh_answer a = call(input.at, input.len, out.at, out.len, room.at, room.len);
     check_input(&input);
     check_room(&room);
-    CHECK(a.count == 0);
+    CHECK(a.count == 0 && a.place == 0);
     CHECK(a.refusal != 0 || a.rounds > 0);
     return check_output(a, &out);
 }
@@ -93,7 +94,7 @@ outcome pick_in(bytes query, bytes list, size_t rows_len, size_t room_len) {
     check_input(&records);
     check_room(&room);
     CHECK(a.length == 4 * (uint64_t)a.count);
-    CHECK(a.rounds == 0);
+    CHECK(a.rounds == 0 && a.place == 0);
     return check_output(a, &rows);
 }
 
@@ -110,6 +111,11 @@ outcome pick(bytes query, bytes list) { return pick_in(query, list, OUTPUT, gorb
 int is_refused(outcome o, uint32_t refusal) {
     if (o.answer.refusal != refusal) fprintf(stderr, "refusal %u, not %u\n", o.answer.refusal, refusal);
     return o.answer.refusal == refusal && refusal != 0;
+}
+
+int is_refused_at(outcome o, uint32_t refusal, uint32_t place) {
+    if (o.answer.place != place) fprintf(stderr, "refusal %u at %u, not %u\n", o.answer.refusal, o.answer.place, place);
+    return is_refused(o, refusal) && o.answer.place == place;
 }
 
 int is_stored(outcome o, const char *hex) {

@@ -37,6 +37,7 @@ outcome pick_in(bytes query, bytes list, size_t rows_len, size_t room_len);
 enum { OUTPUT = 90000 };
 
 int is_refused(outcome o, uint32_t refusal);
+int is_refused_at(outcome o, uint32_t refusal, uint32_t place);
 
 /* The answer's bytes, in hex; spaces part nothing. */
 int is_stored(outcome o, const char *hex);

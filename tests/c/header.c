@@ -29,11 +29,12 @@ static void rooms(void) {
 
 static void layout(void) {
     check_about("layout");
-    CHECK(sizeof(gorbihesh_answer) == 16);
+    CHECK(sizeof(gorbihesh_answer) == 20);
     CHECK(offsetof(gorbihesh_answer, refusal) == 0);
     CHECK(offsetof(gorbihesh_answer, length) == 4);
     CHECK(offsetof(gorbihesh_answer, count) == 8);
     CHECK(offsetof(gorbihesh_answer, rounds) == 12);
+    CHECK(offsetof(gorbihesh_answer, place) == 16);
 }
 
 static int is_number(uint32_t n) { return n <= 23 || n == 32; }

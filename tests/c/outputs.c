@@ -21,7 +21,7 @@ static gorbihesh_answer keep(outcome o) {
 
 static int is_kept(outcome o, gorbihesh_answer a) {
     return o.answer.refusal == 0 && o.answer.length == a.length && o.answer.count == a.count &&
-           o.answer.rounds == a.rounds && memcmp(o.bytes, kept, a.length) == 0;
+           o.answer.rounds == a.rounds && o.answer.place == a.place && memcmp(o.bytes, kept, a.length) == 0;
 }
 
 static void text_out(bytes text) {

@@ -1,4 +1,4 @@
-/* Every refusal number is reached, by each call that gives it. */
+/* Every refusal number is reached, by each call that gives it; and each fault of a text at its place. */
 #include "calls.h"
 #include "check.h"
 #include "pen.h"
@@ -7,35 +7,47 @@
 
 static pen query, list;
 
-static void text_refused(uint32_t refusal, bytes text) {
-    check_about("refusal %u of a text", refusal);
-    CHECK(is_refused(parse(plain_setup(), text), refusal));
+static void text_refused(uint32_t refusal, uint32_t place, bytes text) {
+    check_about("refusal %u of a text at %u", refusal, place);
+    CHECK(is_refused_at(parse(plain_setup(), text), refusal, place));
 }
 
 static void texts(void) {
     const struct {
-        uint32_t refusal;
+        uint32_t refusal, place;
         bytes text;
     } cases[] = {
-        {2, TEXT("caf\xC3\xA9")},
-        {4, TEXT("\"a b")},
-        {5, TEXT("a\\")},
-        {6, TEXT("[a")},
-        {6, TEXT("a]")},
-        {6, TEXT("{a")},
-        {6, TEXT("a}")},
-        {7, TEXT("a*")},
-        {7, TEXT("?a")},
-        {8, TEXT("a~")},
-        {9, TEXT("\"a b\"~")},
-        {10, TEXT("a +")},
-        {11, TEXT("a)")},
-        {12, TEXT("(a")},
-        {13, TEXT("a^x")},
-        {14, TEXT("a^")},
-        {14, TEXT("a^\"2\"")},
+        {2, 0, TEXT("caf\xC3\xA9")},
+        {4, 0, TEXT("\"a b")},
+        {4, 3, TEXT("a  \"b\\\"")},
+        {5, 1, TEXT("a\\")},
+        {5, 2, TEXT("\"a\\")},
+        {6, 0, TEXT("[a")},
+        {6, 1, TEXT("a]")},
+        {6, 0, TEXT("{a")},
+        {6, 1, TEXT("a}")},
+        {6, 2, TEXT("\\]]")},
+        {7, 1, TEXT("a*")},
+        {7, 0, TEXT("?a")},
+        {7, 5, TEXT("  a\\**")},
+        {8, 1, TEXT("a~")},
+        {8, 4, TEXT("\\a  ~")},
+        {9, 5, TEXT("\"a b\"~")},
+        {9, 7, TEXT("\"a b\"  ~")},
+        {10, 3, TEXT("a +")},
+        {10, 5, TEXT("a +  ")},
+        {11, 1, TEXT("a)")},
+        {11, 2, TEXT("1 AND b")},
+        {12, 2, TEXT("(a")},
+        {12, 4, TEXT("(a  ")},
+        {13, 2, TEXT("a^x")},
+        {13, 5, TEXT("\\a ^ x")},
+        {14, 2, TEXT("a^")},
+        {14, 3, TEXT("a^ ")},
+        {14, 3, TEXT("a^ \"2\"")},
     };
-    for (size_t i = 0; i < sizeof cases / sizeof *cases; i++) text_refused(cases[i].refusal, cases[i].text);
+    for (size_t i = 0; i < sizeof cases / sizeof *cases; i++)
+        text_refused(cases[i].refusal, cases[i].place, cases[i].text);
 }
 
 /* A byte so many times, then more text. */
@@ -47,13 +59,15 @@ static bytes filled(uint8_t byte, size_t n, const char *more) {
 }
 
 static void long_texts(void) {
-    text_refused(1, filled('a', 1025, ""));
-    text_refused(15, filled('n', 33, ":a"));
-    text_refused(16, filled('(', 25, "a"));
+    text_refused(1, 0, filled('a', 1025, ""));
+    text_refused(15, 0, filled('n', 33, ":a"));
+    text_refused(16, 24, filled('(', 25, "a"));
     query.len = 0;
     put_bytes(&query, TEXT("a^"));
     put_fill(&query, '1', 41);
-    text_refused(17, all(&query));
+    text_refused(17, 2, all(&query));
+    text_refused(7, 1023, filled('a', 1023, "*"));
+    text_refused(10, 1024, filled(' ', 1023, "+"));
 }
 
 static void setup_refused(const char *what, setup s) {

@@ -24,7 +24,7 @@ static size_t long_room(size_t number, int i) {
 
 static int is_same(outcome o, gorbihesh_answer a) {
     return o.answer.refusal == a.refusal && o.answer.length == a.length && o.answer.count == a.count &&
-           o.answer.rounds == a.rounds;
+           o.answer.rounds == a.rounds && o.answer.place == a.place;
 }
 
 static void text_in_rooms(bytes text, size_t out_len, uint32_t refusal) {

@@ -1,5 +1,10 @@
-// The show program beside cases by hand and the original's kept answers. The text is made here anew, from the stored bytes of the lists.
+// The show program beside cases by hand and the original's kept answers. The text is made here anew, from the stored bytes of the lists; the
+// place of a refusal, which the original does not tell, by the plain reading of tests/rust.
+#[path = "../rust/src/plain/faults.rs"]
+mod faults;
 mod lines;
+#[path = "../rust/src/plain/words.rs"]
+mod words;
 
 use lines::shown;
 use std::collections::HashMap;
@@ -33,6 +38,18 @@ fn by_hand(program: &str, folder: &str) -> usize {
         }
     }
     names.len()
+}
+
+// Where a refusal of a text is; 0 for those that have no place.
+fn place(refusal: &str, name: &[u8], text: &[u8]) -> usize {
+    let number: u32 = refusal.parse().unwrap();
+    if !(4..=17).contains(&number) {
+        return 0;
+    }
+    let fields = faults::Fields { field: name, analyzer: 2, entries: Vec::new() };
+    let (found, place) = faults::first(&fields, text).unwrap();
+    assert_eq!(found, number, "the plain reading");
+    place
 }
 
 fn main() {
@@ -76,7 +93,7 @@ fn main() {
             }
             (refusal, _) => {
                 whole += 1;
-                got == format!("refused {refusal}\n")
+                got == format!("refused {refusal} {}\n", place(refusal, &name, &text))
             }
         };
         if !good {

@@ -11,6 +11,7 @@ struct Answer {
     length: u32,
     count: u32,
     rounds: u32,
+    place: u32,
 }
 
 #[rustfmt::skip]
@@ -24,20 +25,20 @@ unsafe extern "C" {
 
 const OUT: usize = 65_535;
 
-fn parsed(operator: u8, analyzer: u8, field: &[u8], text: &[u8]) -> Result<Vec<u8>, u32> {
+fn parsed(operator: u8, analyzer: u8, field: &[u8], text: &[u8]) -> Result<Vec<u8>, (u32, u32)> {
     let (mut out, mut room) = (vec![0; OUT], vec![0; unsafe { gorbihesh_parse_room() }]);
     let answer = unsafe {
         gorbihesh_parse(operator, analyzer, field.as_ptr(), field.len(), std::ptr::null(), 0,
             text.as_ptr(), text.len(), out.as_mut_ptr(), OUT, room.as_mut_ptr(), room.len())
     };
     out.truncate(answer.length as usize);
-    if answer.refusal == 0 { Ok(out) } else { Err(answer.refusal) }
+    if answer.refusal == 0 { Ok(out) } else { Err((answer.refusal, answer.place)) }
 }
 
 fn rewritten(query: &[u8]) -> (u32, Vec<u8>) {
     let (mut out, mut room) = (vec![0; OUT], vec![0; unsafe { gorbihesh_rewrite_room() }]);
     let answer = unsafe { gorbihesh_rewrite(query.as_ptr(), query.len(), out.as_mut_ptr(), OUT, room.as_mut_ptr(), room.len()) };
-    assert_eq!((answer.refusal, answer.count), (0, 0), "what was parsed is rewritten");
+    assert_eq!((answer.refusal, answer.count, answer.place), (0, 0, 0), "what was parsed is rewritten");
     out.truncate(answer.length as usize);
     (answer.rounds, out)
 }
@@ -47,7 +48,7 @@ fn printed(input: &str) -> String {
     let [operator, field, analyzer] = setup.split(' ').collect::<Vec<_>>()[..] else { panic!("{setup}") };
     let operator = u8::from(operator == "and");
     match parsed(operator, analyzer.parse().unwrap(), field.as_bytes(), text.trim_end_matches('\n').as_bytes()) {
-        Err(refusal) => format!("refused {refusal}\n"),
+        Err((refusal, place)) => format!("refused {refusal} {place}\n"),
         Ok(query) => {
             let (rounds, after) = rewritten(&query);
             format!("written\n{}rewritten {rounds}\n{}", shown(&query), shown(&after))

@@ -9,7 +9,7 @@ use std::ffi::{CStr, c_char};
 #[repr(C)]
 #[derive(Clone, Copy, Debug, PartialEq, Eq)]
 pub struct Answer {
-    /// 0, or the number of a [`Refusal`]; the other members are then 0.
+    /// 0, or the number of a [`Refusal`]; the other members but `place` are then 0.
     pub refusal: u32,
     /// The bytes written to the output.
     pub length: u32,
@@ -17,6 +17,8 @@ pub struct Answer {
     pub count: u32,
     /// The rounds made, of [`rewrite`] and [`rewrite_strict`], the last unchanged one included; else 0.
     pub rounds: u32,
+    /// Where the fault is, of [`parse`] refused with 4 to 17: the bytes of the text before it. Else 0.
+    pub place: u32,
 }
 
 impl Answer {

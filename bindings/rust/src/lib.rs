@@ -14,7 +14,7 @@ pub use setup::{Analyzer, Operator, Setup};
 
 /// The version of this crate, as one number: major, minor and patch with three digits each.
 /// [`calls::version`] is that of the archive that is linked.
-pub const VERSION: u32 = 1_000_000;
+pub const VERSION: u32 = 2_000_000;
 
 /// The bytes of working room that [`calls::parse`] needs.
 pub const PARSE_ROOM: usize = 5_120;

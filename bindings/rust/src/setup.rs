@@ -77,9 +77,20 @@ impl Setup {
     /// [`Refusal::BadSetup`] where a field name is over [`crate::FIELD_MOST`] bytes or not ASCII, or too many
     /// fields are named; else what is wrong with the text.
     pub fn parse(&self, text: impl AsRef<[u8]>) -> Result<Query, Refusal> {
+        self.parse_placed(text).map_err(|(refusal, _)| refusal)
+    }
+
+    /// As [`Self::parse`]; a refusal comes with its place, the bytes of the text before the fault. It is 0 for a
+    /// refusal that is no fault within the text.
+    ///
+    /// # Errors
+    /// Those of [`Self::parse`].
+    pub fn parse_placed(&self, text: impl AsRef<[u8]>) -> Result<Query, (Refusal, usize)> {
         let mut out = vec![0; REWRITE_QUERY_MOST];
         let mut room = vec![0; calls::parse_room()];
-        let answer = calls::parse(self.lent(), text.as_ref(), &mut out, &mut room).done()?;
+        let answer = calls::parse(self.lent(), text.as_ref(), &mut out, &mut room);
+        let place = answer.place as usize;
+        let answer = answer.done().map_err(|refusal| (refusal, place))?;
         Ok(Query::from_bytes(&out[..answer.length as usize]))
     }
 

@@ -90,14 +90,15 @@ fn setups_are_refused() {
 #[test]
 fn refusals_have_words() {
     let long = "a".repeat(TEXT_MOST + 1);
-    for (text, refusal) in [
-        (&*long, Refusal::LongText),
-        ("caf\u{e9}", Refusal::NotAscii),
-        ("\"a", Refusal::OpenQuote),
-        ("a AND", Refusal::UnexpectedEnd),
+    for (text, refusal, at) in [
+        (&*long, Refusal::LongText, 0),
+        ("caf\u{e9}", Refusal::NotAscii, 0),
+        ("a \"a", Refusal::OpenQuote, 2),
+        ("a AND", Refusal::UnexpectedEnd, 5),
     ] {
         let refused = setup().parse(text).expect_err("a refusal");
         assert_eq!(refused, refusal);
+        assert_eq!(setup().parse_placed(text), Err((refusal, at)));
         assert_eq!(refused.to_string(), refusal.words());
     }
     let mut all: Vec<_> = Refusal::ALL.iter().map(|refusal| refusal.words()).collect();

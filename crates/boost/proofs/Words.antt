@@ -10,7 +10,7 @@ use lib.Seq.{take-all}
 use lib.Dec.{leb, eqb, le→leb, lit<}
 use lib.Arith.{lt→nleb}
 use lib.Ieee.Bits.{is-true, is-false}
-use Rattle.rules.specs.Numbers.{longNumeral, need}
+use Rattle.rules.specs.Numbers.{faulty, longNumeral, need}
 use Rattle.rules.specs.Bytes.{ascii, same, isEmpty}
 use Rattle.rules.specs.Analysis.{lower, lowercase, front, after}
 use Rattle.rules.specs.Numerals.{bad, infinite, notNumber, infinity, isDigit, digitsOn, isMinus, afterSign, afterDigits, afterWhole, unsigned, signed, bitsOf, numeralBits}
@@ -158,11 +158,11 @@ nothing m s h = refuses m (unsigned s) (ap unsigned (drop-of-length-le s h))
 module _ (s : List ℕ) where
   pub fits : length s ≤ 40 → numeralBits s ≡ bitsOf (isMinus s) (unsigned (afterSign s))
   unfolding numeralBits
-  fits h = ap (λ (b : Bool). need b longNumeral (bitsOf (isMinus s) (unsigned (afterSign s)))) (is-true (leb (length s) 40) (le→leb (length s) 40 h))
+  fits h = ap (λ (b : Bool). need b (faulty longNumeral 0) (bitsOf (isMinus s) (unsigned (afterSign s)))) (is-true (leb (length s) 40) (le→leb (length s) 40 h))
 
   pub too-long : 40 < length s → Refused 17 ≡ answerOf (numeralBits s)
   unfolding numeralBits
-  too-long h = sym (ap (λ (b : Bool). answerOf (need b longNumeral (bitsOf (isMinus s) (unsigned (afterSign s))))) (is-false (leb (length s) 40) (lt→nleb (length s) 40 h)))
+  too-long h = sym (ap (λ (b : Bool). answerOf (need b (faulty longNumeral 0) (bitsOf (isMinus s) (unsigned (afterSign s))))) (is-false (leb (length s) 40) (lt→nleb (length s) 40 h)))
 
   pub by-sign : (m : Bool) (rest : List ℕ) (r : Answer) → length s ≤ 40 → Sign s m rest → r ≡ answerOf (bitsOf m (unsigned rest)) → r ≡ answerOf (numeralBits s)
   by-sign m rest r h g w =

@@ -9,13 +9,14 @@ use mathlib.Core.Logic.{_⊎_, inl, inr}
 use lib.Dec.{leb, eqb}
 use lib.ListN.{length}
 use borrow.Author.Tests.{eq-eqb, ne-eqb, le-leb, lt-leb, lt-ltb, le-ltb}
-use Rattle.rules.specs.Numbers.{Refusal, number, Read, got, refused, onRead, andThen, fuzzyTerm, sloppyPhrase, openBracket, noNumeral, longField, manyBrackets, unexpectedEnd, unexpectedToken, fieldMost}
+use Rattle.rules.specs.Numbers.{Fault, Refusal, number, moved, faulty, Read, got, refused, need, onRead, andThen, fuzzyTerm, sloppyPhrase, openBracket, badNumeral, noNumeral, longNumeral, numeralMost, longField, manyBrackets, unexpectedEnd, unexpectedToken, fieldMost}
 use Rattle.rules.specs.Query.{Query, boost, Clauses, none}
 use Rattle.rules.specs.Lexing.{Token}
 use Rattle.rules.specs.Analysis.{tokenize}
-use Rattle.rules.specs.Numerals.{numeralBits}
+use Rattle.rules.specs.Numerals.{Numeral, bad, infinite, notNumber, decimal, isMinus, afterSign, unsigned, bitsOf, numeralBits}
 use Rattle.rules.specs.Setup.{Setup, analyzerOf}
 use Rattle.rules.specs.Parsing.{Made, nothing, made, Found, found, onMade, Kept, kept, tokenOf, isAt, textAt, termOf, phraseOf, boostAt, plainAt, quotedAt, closedAt, bracketAt, bodyAt, clauseAt, queryFound, queryOf, parseClauses}
+use Rattle.rules.proofs.stored.Refusals.{no-got}
 use Rattle.rules.proofs.stored.Sizes.{length-boost, length-encode}
 use Rattle.row.specs.Row.{tokenAt, tokensOf, nameFrom}
 use Rattle.clauses.specs.Leaves.{leafOf, leafKind, leafFault, leafAt}
@@ -44,7 +45,7 @@ module _ {room : List ℕ} {n : ℕ} (R : Rowed room n) (i from analyzer : ℕ) 
   }
 
   pub start-long : isNamed (tokensOf room n) i ≡ true → fieldMost < length (tokenAt room i .text)
-      → (st : Setup) (sub : List ℕ → ℕ → ℕ → Read Found) (f : List ℕ) (d : ℕ) → clauseAt st (tokensOf room n) sub f d i ≡ refused longField
+      → (st : Setup) (sub : List ℕ → ℕ → ℕ → Read Found) (f : List ℕ) (d : ℕ) → clauseAt st (tokensOf room n) sub f d i ≡ refused (faulty longField i)
   unfolding clauseAt
   start-long e h st sub f d =
       let l : leb (length (textAt (tokensOf room n) i)) fieldMost ≡ false = rw (text-is room n i (omega (arith, named-in room n i e))) (lt-leb _ _ h) in
@@ -82,16 +83,29 @@ answer-got (refused x) b h = absurd (never b (number x) h)
     never b e h = let z : _≡_ {A = ℕ} 0 1 = cc in omega arith
 answer-got (got c) b h = cc
 
+-- a numeral is refused for a fault, at its start
+pub numeral-faulty : (s : List ℕ) {r : Refusal} → numeralBits s ≡ refused r → (f : Fault) × (r ≡ faulty f 0)
+unfolding numeralBits
+numeral-faulty s {r} e = by (leb (length s) numeralMost) (isMinus s) (unsigned (afterSign s)) e
+  where
+    by : (b minus : Bool) (x : Numeral) → need b (faulty longNumeral 0) (bitsOf minus x) ≡ refused r → (f : Fault) × (r ≡ faulty f 0)
+    by false minus x e = (longNumeral, cc)
+    by true minus bad e = (badNumeral, cc)
+    by true minus infinite e = no-got (sym e)
+    by true minus notNumber e = no-got (sym e)
+    by true minus (decimal d u n) e = no-got (sym e)
+
 module _ (st : Setup) (ts : List Token) (i : ℕ) where
   pub boost-none : (m : Made) → isAt 11 ts i ≡ false → boostAt st ts m i ≡ got (found m i)
   unfolding boostAt
   boost-none m e = rw e
 
-  pub boost-missing : (m : Made) → isAt 11 ts i ≡ true → isAt 1 ts (i + 1) ≡ false → boostAt st ts m i ≡ refused noNumeral
+  pub boost-missing : (m : Made) → isAt 11 ts i ≡ true → isAt 1 ts (i + 1) ≡ false → boostAt st ts m i ≡ refused (faulty noNumeral (i + 1))
   unfolding boostAt
   boost-missing m e f = rw (e, f)
 
-  pub boost-refused : (m : Made) {x : Refusal} → isAt 11 ts i ≡ true → isAt 1 ts (i + 1) ≡ true → numeralBits (textAt ts (i + 1)) ≡ refused x → boostAt st ts m i ≡ refused x
+  pub boost-refused : (m : Made) {x : Refusal} → isAt 11 ts i ≡ true → isAt 1 ts (i + 1) ≡ true → numeralBits (textAt ts (i + 1)) ≡ refused x
+      → boostAt st ts m i ≡ refused (moved (λ p. i + 1) x)
   unfolding boostAt
   boost-refused m e f g = rw (e, f, g)
 
@@ -110,7 +124,7 @@ boosted-length b (made q) len r e h = h .1 .1 (λ z. made-not q (sym e ∙ z)) �
 -- ---- terms and quotes
 
 module _ (st : Setup) (ts : List Token) (f : List ℕ) (i : ℕ) where
-  pub plain-fuzzy : isAt 12 ts (i + 1) ≡ true → plainAt st ts f i ≡ refused fuzzyTerm
+  pub plain-fuzzy : isAt 12 ts (i + 1) ≡ true → plainAt st ts f i ≡ refused (faulty fuzzyTerm (i + 1))
   unfolding plainAt
   plain-fuzzy e = rw e
 
@@ -118,7 +132,7 @@ module _ (st : Setup) (ts : List Token) (f : List ℕ) (i : ℕ) where
   unfolding plainAt
   plain-goes e = rw e
 
-  pub quoted-sloppy : isAt 12 ts (i + 1) ≡ true → quotedAt st ts f i ≡ refused sloppyPhrase
+  pub quoted-sloppy : isAt 12 ts (i + 1) ≡ true → quotedAt st ts f i ≡ refused (faulty sloppyPhrase (i + 1))
   unfolding quotedAt
   quoted-sloppy e = rw e
 
@@ -130,7 +144,7 @@ pub leaf-some : (b : Bool) → leafKind b ≡ 0 → ⊥
 leaf-some true e = omega arith
 leaf-some false e = omega arith
 
-pub leaf-faulty : (b : Bool) (st : Setup) (ts : List Token) (f : List ℕ) (i : ℕ) → isAt 12 ts (i + 1) ≡ true → leafAt b st ts f i ≡ refused (leafFault b)
+pub leaf-faulty : (b : Bool) (st : Setup) (ts : List Token) (f : List ℕ) (i : ℕ) → isAt 12 ts (i + 1) ≡ true → leafAt b st ts f i ≡ refused (faulty (leafFault b) (i + 1))
 leaf-faulty true st ts f i e = plain-fuzzy st ts f i e
 leaf-faulty false st ts f i e = quoted-sloppy st ts f i e
 
@@ -145,7 +159,7 @@ leaf-same F len a b t u p q e = e ∙ ap (λ (x : ℕ). madeLength (F x t)) p �
 
 pub leaf-within : {room : List ℕ} {n : ℕ} (R : Rowed room n) (i len : ℕ) → i < n → len ≤ 8 + 45 * length (textAt (tokensOf room n) i) → (g : Measured)
     → WithinBoost (tokensOf room n) n (i + 1) len g → WithinClause (tokensOf room n) n i g
-leaf-within R i len h b (Refused e) w = omega arith
+leaf-within R i len h b (Refused e t) w = omega arith
 leaf-within R i len h b (Clause len′ next) w =
     let p = place-on R i h in
     let t = place-text R i h in
@@ -157,7 +171,7 @@ module _ (st : Setup) (ts : List Token) (o : Read Kept) where
   pub close-fault : {x : Refusal} → o ≡ refused x → andThen (onRead queryFound o) (closedAt st ts) ≡ refused x
   close-fault e = rw e
 
-  pub close-missing : {cs : Clauses} {next : ℕ} → o ≡ got (kept cs next) → isAt 10 ts next ≡ false → andThen (onRead queryFound o) (closedAt st ts) ≡ refused openBracket
+  pub close-missing : {cs : Clauses} {next : ℕ} → o ≡ got (kept cs next) → isAt 10 ts next ≡ false → andThen (onRead queryFound o) (closedAt st ts) ≡ refused (faulty openBracket next)
   unfolding closedAt
   close-missing e f = rw (e, f)
 
@@ -168,7 +182,7 @@ module _ (st : Setup) (ts : List Token) (o : Read Kept) where
 pub bracket-within : {room : List ℕ} {n : ℕ} (R : Rowed room n) (i len count tag bytes next : ℕ) → i < n → next < n
     → WithinClauses (tokensOf room n) n (i + 1) (Many count tag bytes next) → len ≤ 8 + bytes → (g : Measured)
     → WithinBoost (tokensOf room n) n (next + 1) len g → WithinClause (tokensOf room n) n i g
-bracket-within R i len count tag bytes next h k W b (Refused e) w = omega arith
+bracket-within R i len count tag bytes next h k W b (Refused e t) w = omega arith
 bracket-within R i len count tag bytes next h k W b (Clause len′ next′) w =
     let p = place-on R i h in
     let q = place-on R next k in
@@ -198,16 +212,16 @@ module _ (st : Setup) (ts : List Token) (sub : List ℕ → ℕ → ℕ → Read
     unfolding bodyAt bracketAt
     body-open e h = rw (at-other 1 n1, at-kind 9 e, lt-ltb d 24 h, add-one d)
 
-    pub body-deep : t ≡ 9 → 24 ≤ d → bodyAt st ts sub f d i ≡ refused manyBrackets
+    pub body-deep : t ≡ 9 → 24 ≤ d → bodyAt st ts sub f d i ≡ refused (faulty manyBrackets i)
     unfolding bodyAt bracketAt
     body-deep e h = rw (at-other 1 n1, at-kind 9 e, le-ltb d 24 h)
 
     module _ (n9 : t ≡ 9 → ⊥) where
-      pub body-end : (t ≡ 2 → ⊥) → t ≡ 0 → bodyAt st ts sub f d i ≡ refused unexpectedEnd
+      pub body-end : (t ≡ 2 → ⊥) → t ≡ 0 → bodyAt st ts sub f d i ≡ refused (faulty unexpectedEnd i)
       unfolding bodyAt
       body-end n2 e = rw (at-other 1 n1, at-other 9 n9, at-other 2 n2, at-kind 0 e)
 
-      pub body-other : (t ≡ 2 → ⊥) → (t ≡ 0 → ⊥) → bodyAt st ts sub f d i ≡ refused unexpectedToken
+      pub body-other : (t ≡ 2 → ⊥) → (t ≡ 0 → ⊥) → bodyAt st ts sub f d i ≡ refused (faulty unexpectedToken i)
       unfolding bodyAt
       body-other n2 n0 = rw (at-other 1 n1, at-other 9 n9, at-other 2 n2, at-other 0 n0)
 
@@ -215,7 +229,7 @@ module _ (st : Setup) (ts : List Token) (sub : List ℕ → ℕ → ℕ → Read
 
 module _ {room : List ℕ} {n i from analyzer from′ analyzer′ i′ : ℕ} (S : Started room n i from analyzer from′ analyzer′ i′) where
   pub within-start : (g : Measured) → WithinClause (tokensOf room n) n i′ g → WithinClause (tokensOf room n) n i g
-  within-start (Refused e) w = omega arith
+  within-start (Refused e t) w = omega arith
   within-start (Clause len next) w =
       let a = S .low in
       let b = S .place in

@@ -6,7 +6,7 @@ use mathlib.Core.List.{List}
 use lib.ListN.{length}
 use lib.Dec.{leb, ltb}
 use native.Mathlib.Omega.{arith}
-use Rattle.rules.specs.Numbers.{Refusal, Read, got, refused, need, onRead, andThen, unexpectedEnd, longField, manyBrackets, fieldMost}
+use Rattle.rules.specs.Numbers.{Refusal, Read, got, refused, need, onRead, andThen, faulty, unexpectedEnd, longField, manyBrackets, fieldMost}
 use Rattle.rules.specs.Query.{Clauses, none}
 use Rattle.rules.specs.Lexing.{Token}
 use Rattle.rules.specs.Setup.{Setup}
@@ -44,11 +44,11 @@ up-to run {r} step k (suc y) e = subst (λ (x : ℕ). run x ≡ got r) (omega ar
 module _ (st : Setup) (ts : List Token) {sub sub′ : List ℕ → ℕ → ℕ → Read Found} (up : (f : List ℕ) (d i : ℕ) (r : Found) → sub f d i ≡ got r → sub′ f d i ≡ got r) where
   body-up : (f : List ℕ) (d i : ℕ) {r : Found} → bodyAt st ts sub f d i ≡ got r → bodyAt st ts sub′ f d i ≡ got r
   unfolding bodyAt bracketAt
-  body-up f d i = cond-up (isAt 1 ts i) (λ e. e) (cond-up (isAt 9 ts i) (need-up (ltb d 24) manyBrackets (then-up (sub f (suc d) (i + 1)) (λ a e. up f (suc d) (i + 1) a e) (λ a e. e))) (λ e. e))
+  body-up f d i = cond-up (isAt 1 ts i) (λ e. e) (cond-up (isAt 9 ts i) (need-up (ltb d 24) (faulty manyBrackets i) (then-up (sub f (suc d) (i + 1)) (λ a e. up f (suc d) (i + 1) a e) (λ a e. e))) (λ e. e))
 
   clause-up : (f : List ℕ) (d i : ℕ) {r : Found} → clauseAt st ts sub f d i ≡ got r → clauseAt st ts sub′ f d i ≡ got r
   unfolding clauseAt
-  clause-up f d i = cond-up (isAt 1 ts i && isAt 3 ts (i + 1)) (need-up (leb (length (textAt ts i)) fieldMost) longField (body-up (textAt ts i) d (i + 2))) (body-up f d i)
+  clause-up f d i = cond-up (isAt 1 ts i && isAt 3 ts (i + 1)) (need-up (leb (length (textAt ts i)) fieldMost) (faulty longField i) (body-up (textAt ts i) d (i + 2))) (body-up f d i)
 
 -- ---- a query's clauses
 
@@ -67,7 +67,7 @@ module _ (st : Setup) (ts : List Token) where
       let m = modifierAt ts j in
       cond (stopsAt ts i) (got (kept cs i)) (andThen (clauseRun st ts f d (afterModifier m j) k) (addClause (st .operator) c m (λ ds h. parseClauses st ts k f d ds h) cs))
 
-  none-read : (f : List ℕ) (d : ℕ) (cs : Clauses) (i : ℕ) → parseClauses st ts zero f d cs i ≡ refused unexpectedEnd
+  none-read : (f : List ℕ) (d : ℕ) (cs : Clauses) (i : ℕ) → parseClauses st ts zero f d cs i ≡ refused (faulty unexpectedEnd i)
   unfolding parseClauses
   none-read f d cs i = refl
 

@@ -12,7 +12,7 @@ use lib.Dec.{ltb}
 use lib.ListN.{length, take, drop}
 use lib.Seq.{length-take-le}
 use borrow.Author.Tests.{eqb-true, le-ltb, lt-ltb}
-use Rattle.rules.specs.Numbers.{Refusal, Read, got, refused, need, onRead, andThen, manyBrackets, unexpectedEnd, unexpectedToken}
+use Rattle.rules.specs.Numbers.{Refusal, Read, got, refused, need, onRead, andThen, faulty, manyBrackets, unexpectedEnd, unexpectedToken}
 use Rattle.rules.specs.Query.{Clauses, none}
 use Rattle.rules.specs.Lexing.{Token}
 use Rattle.rules.specs.Analysis.{tokenize}
@@ -100,7 +100,7 @@ module _ {room : List ℕ} {n i from analyzer from′ analyzer′ i′ : ℕ} (S
   leaf-is : isAt 9 us i′ ≡ false → (k : ℕ) → bodyAt st us (sub k) g depth i′ ≡ got (found m j)
       → (cond (isAt 1 us i′) (plainAt st us g i′) (quotedAt st us g i′) ≡ got (found m j)) × ((isAt 1 us i′ ≡ true) ⊎ (isAt 2 us i′ ≡ true))
   unfolding bodyAt
-  leaf-is e k w = leaf-by (isAt 1 us i′) (isAt 9 us i′) (isAt 2 us i′) (isAt 0 us i′) (plainAt st us g i′) (bracketAt st us (sub k) g depth i′) (quotedAt st us g i′) unexpectedEnd unexpectedToken w e
+  leaf-is e k w = leaf-by (isAt 1 us i′) (isAt 9 us i′) (isAt 2 us i′) (isAt 0 us i′) (plainAt st us g i′) (bracketAt st us (sub k) g depth i′) (quotedAt st us g i′) (faulty unexpectedEnd i′) (faulty unexpectedToken i′) w e
 
   pub clause-leaf : isAt 9 (tokensOf room n) i′ ≡ false → LeafToWrite room n default operator from′ analyzer′ i′ at size st m j × (i′ < n)
   unfolding us g
@@ -111,7 +111,7 @@ module _ {room : List ℕ} {n i from analyzer from′ analyzer′ i′ : ℕ} (S
       )
 
   bracket-is : isAt 9 us i′ ≡ true → (k : ℕ) → W .is .0 ≤ k
-      → need (ltb depth 24) manyBrackets (andThen (onRead queryFound (parseClauses st us k g (depth + 1) none (i′ + 1))) (closedAt st us)) ≡ got (found m j)
+      → need (ltb depth 24) (faulty manyBrackets i′) (andThen (onRead queryFound (parseClauses st us k g (depth + 1) none (i′ + 1))) (closedAt st us)) ≡ got (found m j)
   unfolding bodyAt bracketAt sub
   bracket-is e k h = rw add-one (rw (other-kind us i′ 9 1 (λ z. omega arith) e, e) at (body-is k h))
 
@@ -144,7 +144,7 @@ module _ {room : List ℕ} {n : ℕ} {default : List ℕ} {operator from analyze
   means-as : {c′ : Counted} → c ≡ c′ → MeansKept c′ (M .answer)
   means-as e = subst (λ (x : Counted). MeansKept x (M .answer)) e (M .means)
 
-  pub bracket-fault : {A : Type 0} {e : ℕ} → c ≡ Fault e → A
+  pub bracket-fault : {A : Type 0} {e t : ℕ} → c ≡ Fault e t → A
   bracket-fault e = let z = means-as e in no-got (sym (close-fault st (tokensOf room n) (M .answer) (z .1)) ∙ answer-is)
 
   module _ {count tag bytes next : ℕ} (e : c ≡ Many count tag bytes next) where

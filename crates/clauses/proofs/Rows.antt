@@ -14,23 +14,8 @@ use Rattle.rules.specs.Lexing.{Token}
 use Rattle.rules.specs.Parsing.{tokenOf, isAt, textAt, stopsAt}
 use Rattle.rules.proofs.Bools.{clash, or-r}
 use Rattle.row.specs.Row.{tokenAt, tokensOf}
+use Rattle.row.proofs.Rows.{length-tokens, token-is}
 use Rattle.clauses.specs.Measured.{placeAt, Rowed, isNamed}
-
-pub tokens-length : (room : List ℕ) (n : ℕ) → length (tokensOf room n) ≡ n
-unfolding tokensOf
-tokens-length room zero = refl
-tokens-length room (suc n) = length-append (tokensOf room n) (tokenAt room n ∷ []) ∙ omega (arith, tokens-length room n)
-
-pub token-is : (room : List ℕ) (n i : ℕ) (d : Token) → i < n → getD (tokensOf room n) i d ≡ tokenAt room i
-unfolding tokensOf
-token-is room zero i d h = absurd (omega arith)
-token-is room (suc n) i d h = by (token-is room n i d) (decLt i n)
-  where
-    by : (i < n → getD (tokensOf room n) i d ≡ tokenAt room i) → Dec (i < n) → getD (tokensOf room n ++ (tokenAt room n ∷ [])) i d ≡ tokenAt room i
-    by f (yes l) = List·getD-append (tokensOf room n) (tokenAt room n ∷ []) d i (rw tokens-length l) ∙ f l
-    by f (no k) =
-        let e : i ≡ n = omega arith in
-        getD-at (tokensOf room n) (tokenAt room n) [] d i (tokens-length room n ∙ sym e) ∙ ap (tokenAt room) (sym e)
 
 module _ (room : List ℕ) (n : ℕ) where
   pub text-is : (i : ℕ) → i < n → textAt (tokensOf room n) i ≡ tokenAt room i .text
@@ -43,7 +28,7 @@ module _ (room : List ℕ) (n : ℕ) where
       by : Dec (i < n) → i < n
       by (yes l) = l
       by (no m) =
-          let d : tokenOf (tokensOf room n) i .kind ≡ 0 = ap (λ (t : Token). t .kind) (List·getD-eq-default (tokensOf room n) _ (rw tokens-length (omega arith))) in
+          let d : tokenOf (tokensOf room n) i .kind ≡ 0 = ap (λ (t : Token). t .kind) (List·getD-eq-default (tokensOf room n) _ (rw length-tokens (omega arith))) in
           absurd (z (sym (eqb-true _ k e) ∙ d))
 
   pub named-in : (i : ℕ) → isNamed (tokensOf room n) i ≡ true → i + 1 < n
@@ -60,12 +45,12 @@ module _ (room : List ℕ) (n : ℕ) where
       by : Dec (i < n) → i < n
       by (yes l) = l
       by (no m) =
-          let d : tokenOf (tokensOf room n) i .kind ≡ 0 = ap (λ (t : Token). t .kind) (List·getD-eq-default (tokensOf room n) _ (rw tokens-length (omega arith))) in
+          let d : tokenOf (tokensOf room n) i .kind ≡ 0 = ap (λ (t : Token). t .kind) (List·getD-eq-default (tokensOf room n) _ (rw length-tokens (omega arith))) in
           clash (or-r (isAt 10 (tokensOf room n) i) (rw d)) e
 
 module _ {room : List ℕ} {n : ℕ} (R : Rowed room n) where
   past-end : (i : ℕ) → n ≤ i → placeAt (tokensOf room n) i ≡ textMost
-  past-end i h = ap (λ (t : Token). t .place) (List·getD-eq-default (tokensOf room n) _ (rw tokens-length h))
+  past-end i h = ap (λ (t : Token). t .place) (List·getD-eq-default (tokensOf room n) _ (rw length-tokens h))
 
   pub place-up : (i : ℕ) → placeAt (tokensOf room n) i ≤ placeAt (tokensOf room n) (i + 1)
   place-up i = rw add-one (by (decLt i n))

@@ -6,7 +6,7 @@ use mathlib.Core.List.{List}
 use native.Mathlib.Omega.{arith}
 use lib.Dec.{ltb}
 use borrow.Author.Tests.{lt-ltb}
-use Rattle.rules.specs.Numbers.{Refusal, Read, got, refused, andThen}
+use Rattle.rules.specs.Numbers.{Refusal, faulty, Read, got, refused, andThen}
 use Rattle.rules.specs.Query.{Clauses, none, clause}
 use Rattle.rules.specs.Lexing.{Token}
 use Rattle.rules.specs.Setup.{Setup}
@@ -140,13 +140,13 @@ module _ {st : Setup} {ts : List Token} {n : ℕ} {f : List ℕ} {d at i count t
     lead : Lead ts (T .acc) i c j m k
     lead = L (T .acc) (kept-counted (T .acc) (T .sums))
 
-    pub turn-refused : {e : ℕ} {g : Measured} → g ≡ Refused e → MeantClause st ts n f d k g → MeantClauses st ts n f d at (Fault e)
-    turn-refused {e} {g} E M = by (subst (λ (g : Measured). MeansFound g (M .answer)) E (M .means))
+    pub turn-refused : {e t : ℕ} {g : Measured} → g ≡ Refused e t → MeantClause st ts n f d k g → MeantClauses st ts n f d at (Fault e t)
+    turn-refused {e} {t} {g} E M = by (subst (λ (g : Measured). MeansFound g (M .answer)) E (M .means))
       where
-        by : MeansFound (Refused e) (M .answer) → MeantClauses st ts n f d at (Fault e)
+        by : MeansFound (Refused e t) (M .answer) → MeantClauses st ts n f d at (Fault e t)
         by (x, a, b) = record {
-          answer = refused x;
-          says = T .says (refused x) (step-refused st ts f d (T .acc) i goes lead n l low (λ y h. M .says y h ∙ a));
+          answer = refused (faulty x t);
+          says = T .says (refused (faulty x t)) (step-refused st ts f d (T .acc) i goes lead n l low (λ y h. M .says y h ∙ a));
           means = (x, refl, b);
         }
 

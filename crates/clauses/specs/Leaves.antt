@@ -4,7 +4,7 @@ use Prim.Native.Nat.{ℕ, _+_}
 use mathlib.Core.List.{List, [], _∷_, _++_}
 use lib.ListN.{length}
 use mathlib.Core.Bool.{Bool, true, false}
-use Rattle.rules.specs.Numbers.{Refusal, Read, fuzzyTerm, sloppyPhrase}
+use Rattle.rules.specs.Numbers.{Fault, Read, fuzzyTerm, sloppyPhrase}
 use Rattle.rules.specs.Bytes.{part}
 use Rattle.rules.specs.Query.{Word, word, term}
 use Rattle.rules.specs.Lexing.{Token, termKind, quotedKind}
@@ -32,7 +32,7 @@ abbrev pub leafKind : Bool → ℕ
 leafKind true = termKind
 leafKind false = quotedKind
 
-abbrev pub leafFault : Bool → Refusal
+abbrev pub leafFault : Bool → Fault
 leafFault true = fuzzyTerm
 leafFault false = sloppyPhrase
 

@@ -1,10 +1,10 @@
--- What the measuring routines answer of what is read: a refusal's number, or lengths and the number of the next token.
+-- What the measuring routines answer of what is read: a refusal's number and the token that it is met at, or lengths and the number of the next token.
 use mathlib.Core.Path.{_≡_}
 use Prim.Native.Nat.{ℕ, suc, _+_, _*_, _-_, _≤_, _<_}
 use mathlib.Core.List.{List, []}
 use mathlib.Core.Bool.{Bool, true, _&&_}
 use lib.ListN.{length, getD}
-use Rattle.rules.specs.Numbers.{Refusal, number, Read, got, refused, onRead, textMost, fieldMost}
+use Rattle.rules.specs.Numbers.{Fault, faultNumber, faulty, Read, got, refused, onRead, textMost, fieldMost}
 use Rattle.rules.specs.Query.{Clauses, none}
 use Rattle.rules.specs.Lexing.{Token, endKind, termKind, colonKind}
 use Rattle.rules.specs.Setup.{Setup, analyzerOf}
@@ -14,7 +14,7 @@ use Rattle.counted.specs.Kinds.{Sums, madeLength}
 use Rattle.clauses.specs.declared.kinds.Measured.{Measured}
 use Rattle.clauses.specs.declared.kinds.Measured.the-variants.{Refused, Clause}
 use Rattle.counted.specs.declared.Counted.{Counted}
-use Rattle.counted.specs.declared.Counted.the-variants.{Fault, Clauses as Many}
+use Rattle.counted.specs.declared.Counted.the-variants.{Fault as Failed, Clauses as Many}
 
 -- every fuel from m on gives r
 abbrev pub Says : {A : Type 0} → (ℕ → Read A) → ℕ → Read A → Type 0
@@ -70,20 +70,20 @@ clausesRun st ts f d cs i k = parseClauses st ts k f d cs i
 -- ---- the answers
 
 abbrev pub MeansFound : Measured → Read Found → Type 0
-MeansFound (Refused e) r = (x : Refusal) × (r ≡ refused x) × (e ≡ number x)
+MeansFound (Refused e t) r = (f : Fault) × (r ≡ refused (faulty f t)) × (e ≡ faultNumber f)
 MeansFound (Clause len next) r = (m : Made) × (r ≡ got (found m next)) × (len ≡ madeLength m)
 
 abbrev pub MeansKept : Counted → Read Kept → Type 0
-MeansKept (Fault e) r = (x : Refusal) × (r ≡ refused x) × (e ≡ number x)
+MeansKept (Failed e t) r = (f : Fault) × (r ≡ refused (faulty f t)) × (e ≡ faultNumber f)
 MeansKept (Many count tag bytes next) r = (cs : Clauses) × (r ≡ got (kept cs next)) × Sums cs count tag bytes
 
 -- a clause from i on ends at next, and takes at most 63 bytes for each byte of the text, with its header
 abbrev pub WithinClause : List Token → ℕ → ℕ → Measured → Type 0
-WithinClause ts n i (Refused e) = 0 ≤ e
+WithinClause ts n i (Refused e t) = 0 ≤ e
 WithinClause ts n i (Clause len next) = (i < next) × (next ≤ n) × (placeAt ts i + 1 ≤ placeAt ts next) × (len + 3 ≤ 63 * (placeAt ts next - placeAt ts i))
 
 abbrev pub WithinClauses : List Token → ℕ → ℕ → Counted → Type 0
-WithinClauses ts n i (Fault e) = 0 ≤ e
+WithinClauses ts n i (Failed e t) = 0 ≤ e
 WithinClauses ts n i (Many count tag bytes next) =
     (i ≤ next) × (next ≤ n) × (placeAt ts i ≤ placeAt ts next) × (bytes ≤ 63 * (placeAt ts next - placeAt ts i)) × (3 * count ≤ bytes)
 

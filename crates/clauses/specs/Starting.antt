@@ -2,7 +2,7 @@
 use mathlib.Core.Path.{_≡_}
 use Prim.Native.Nat.{ℕ, _+_, _≤_}
 use mathlib.Core.List.{List}
-use Rattle.rules.specs.Numbers.{Read, refused, longField}
+use Rattle.rules.specs.Numbers.{Read, refused, faulty, longField}
 use Rattle.rules.specs.Lexing.{Token}
 use Rattle.rules.specs.Setup.{Setup}
 use Rattle.rules.specs.Parsing.{Found, clauseAt, bodyAt}
@@ -25,10 +25,10 @@ pub record Started (room : List ℕ) (n i from analyzer from′ analyzer′ i′
 
 abbrev pub Starts : List ℕ → ℕ → ℕ → ℕ → ℕ → Start → Type 0
 Starts room n i from analyzer Long =
-    (st : Setup) (sub : List ℕ → ℕ → ℕ → Read Found) (f : List ℕ) (d : ℕ) → clauseAt st (tokensOf room n) sub f d i ≡ refused longField
+    (st : Setup) (sub : List ℕ → ℕ → ℕ → Read Found) (f : List ℕ) (d : ℕ) → clauseAt st (tokensOf room n) sub f d i ≡ refused (faulty longField i)
 Starts room n i from analyzer (At from′ analyzer′ i′) = Started room n i from analyzer from′ analyzer′ i′
 
 -- a boost adds seven bytes at most, and the clause ends at i or behind the boost
 abbrev pub WithinBoost : List Token → ℕ → ℕ → ℕ → Measured → Type 0
-WithinBoost ts n i len (Refused e) = 0 ≤ e
+WithinBoost ts n i len (Refused e t) = 0 ≤ e
 WithinBoost ts n i len (Clause len′ next) = (i ≤ next) × (next ≤ n) × (placeAt ts i ≤ placeAt ts next) × (len′ ≤ len + 7)

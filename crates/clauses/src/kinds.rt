@@ -42,9 +42,9 @@ const REQUIRED: u8 = 1;
 
 const PROHIBITED: u8 = 2;
 
-// A clause that was read: a refusal, or the length of its query (0 where it analyzes to nothing) and the number of the next token.
+// A clause that was read: a refusal and the number of the token it is met at; or the length of its query (0 where it analyzes to nothing) and the number of the next token.
 pub enum Measured {
-    Refused(u8),
+    Refused(u8, usize),
     Clause { len: usize, next: usize },
 }
 

@@ -37,7 +37,7 @@ use row::text_at;
 ghost use mathlib.Core.Path.{_≡_};
 ghost use mathlib.Core.Bool.{true};
 ghost use Prim.Native.Nat.{ℕ, _+_, _-_, _≤_, _<_};
-ghost use Rattle.rules.specs.Numbers.{number, Read, onRead, andThen};
+ghost use Rattle.rules.specs.Numbers.{faultNumber, Read, onRead, andThen};
 ghost use Rattle.rules.specs.Setup.{Setup};
 ghost use Rattle.rules.specs.Parsing.{Made, Kept, isAt, boostAt, closedAt, queryFound};
 ghost use Rattle.row.specs.Row.{tokensOf, nameFrom};
@@ -67,21 +67,21 @@ fn with_boost(room: &[u8], n: usize, len: usize, i: usize) -> Measured
         if is_at(room, n, TERM_KIND, i + 1) {
             let e = fault(text_at(room, i + 1));
             if e != 0 {
-                return Measured::Refused(e);
+                return Measured::Refused(e, i + 1);
             }
             return Measured::Clause {
                 len: boosted_len(len),
                 next: i + 2,
             };
         }
-        return Measured::Refused(NO_NUMERAL);
+        return Measured::Refused(NO_NUMERAL, i + 1);
     }
     Measured::Clause { len: len, next: i }
 }
 
 // The refusal of a tilde behind a term, or behind a quote.
 fn leaf_fault(plain: bool) -> u8
-    ensures { λ r. ⌜ r ≡ number (leafFault plain) ⌝ }
+    ensures { λ r. ⌜ r ≡ faultNumber (leafFault plain) ⌝ }
 {
     if plain {
         return FUZZY_TERM;
@@ -104,7 +104,7 @@ fn measure_leaf<'a>(
     ensures within { λ r. ⌜ WithinClause (tokensOf (now (room .entry)) n) n i r ⌝ }
 {
     if is_at(room, n, TILDE_KIND, i + 1) {
-        return Measured::Refused(leaf_fault(plain));
+        return Measured::Refused(leaf_fault(plain), i + 1);
     }
     let field = field_part(room, default, from);
     let text = text_at(room, i);
@@ -126,7 +126,7 @@ fn closing(room: &[u8], n: usize, g: Counted) -> Measured
     ensures within { λ r. ⌜ ((i : ℕ) → i < n → WithinClauses (tokensOf (now (room .entry)) n) n (i + 1) g → WithinClause (tokensOf (now (room .entry)) n) n i r) ⌝ }
 {
     match g {
-        Counted::Fault(e) => Measured::Refused(e),
+        Counted::Fault(e, token) => Measured::Refused(e, token),
         Counted::Clauses {
             count,
             tag,
@@ -136,7 +136,7 @@ fn closing(room: &[u8], n: usize, g: Counted) -> Measured
             if is_at(room, n, CLOSE_KIND, next) {
                 return with_boost(room, n, query_len(count, tag, bytes), next + 1);
             }
-            Measured::Refused(OPEN_BRACKET)
+            Measured::Refused(OPEN_BRACKET, next)
         }
     }
 }
@@ -148,7 +148,7 @@ fn measure_clause<'a>(room: &'a [u8], default: &'a [u8], p: Scope, i: usize) -> 
     ensures within { λ r. ⌜ WithinClause (tokensOf (now (room .entry)) (p .n)) (p .n) i r ⌝ }
 {
     match clause_start(room, p.n, p.from, p.analyzer, i) {
-        Start::Long => Measured::Refused(LONG_FIELD),
+        Start::Long => Measured::Refused(LONG_FIELD, i),
         Start::At { from, analyzer, i } => {
             let t = kind_at(room, p.n, i);
             if t == TERM_KIND || t == QUOTED_KIND {
@@ -166,12 +166,12 @@ fn measure_clause<'a>(room: &'a [u8], default: &'a [u8], p: Scope, i: usize) -> 
                     let g = measure_query(room, default, q, i + 1);
                     return closing(room, p.n, g);
                 }
-                return Measured::Refused(MANY_BRACKETS);
+                return Measured::Refused(MANY_BRACKETS, i);
             }
             if t == END_KIND {
-                return Measured::Refused(UNEXPECTED_END);
+                return Measured::Refused(UNEXPECTED_END, i);
             }
-            Measured::Refused(UNEXPECTED_TOKEN)
+            Measured::Refused(UNEXPECTED_TOKEN, i)
         }
     }
 }
@@ -194,7 +194,7 @@ pub fn measure_query<'a>(room: &'a [u8], default: &'a [u8], p: Scope, at: usize)
         let m = kinds::modifier_at(room, p.n, j);
         let k = kinds::after(m, j);
         match measure_clause(room, default, p, k) {
-            Measured::Refused(e) => return Counted::Fault(e),
+            Measured::Refused(e, token) => return Counted::Fault(e, token),
             Measured::Clause { len, next } => {
                 s = kinds::added(s, p.operator, c, m, len);
                 i = next;

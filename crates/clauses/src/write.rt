@@ -184,7 +184,7 @@ fn write_bracket<'a>(
     ensures within { λ r. ⌜ (i < r .next) × (r .next ≤ p .n) ⌝ }
 {
     match measure_query(room, default, p, i) {
-        Counted::Fault(_) => Wrote { end: at, next: i },
+        Counted::Fault(_, _) => Wrote { end: at, next: i },
         Counted::Clauses {
             count,
             tag,

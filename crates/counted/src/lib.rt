@@ -8,9 +8,9 @@ ghost use Rattle.rules.specs.Query.{Clauses};
 ghost use Rattle.rules.specs.Parsing.{queryOf};
 ghost use Rattle.counted.specs.Kinds.{madeLength, isAlone, Sums};
 
-// The clauses of a query: a refusal, or how many are kept, the last one's tag, how many bytes they take, the number of the next token.
+// The clauses of a query: a refusal and the number of the token it is met at; or how many are kept, the last one's tag, how many bytes they take, the number of the next token.
 pub enum Counted {
-    Fault(u8),
+    Fault(u8, usize),
     Clauses {
         count: usize,
         tag: u8,

@@ -9,7 +9,7 @@ use Rattle.rules.specs.Query.{Query}
 use Rattle.rules.specs.Setup.{readSetup}
 use Rattle.rules.specs.Parsing.{parse}
 use Rattle.rules.specs.Answers.{Left, storedReply, parseReply, parseLeft}
-use Rattle.rules.proofs.Answers.{Telling, Some, call-telling, ofAnswer, refusal-told, same-answer}
+use Rattle.rules.proofs.Answers.{Telling, Some, call-at-telling, ofAnswer, refusal-told, same-answer}
 use Rattle.rules.proofs.stored.Refusals.{no-got, got-same}
 use Rattle.rules.proofs.rewriting.Measures.{weight-length}
 use Rattle.rules.proofs.stored.Weights.{weight-some}
@@ -35,16 +35,17 @@ no-second-of q i p r = no-second (p q i) (r q i)
 pub no-second-put : {out s left left′ : List ℕ} {at next next′ : ℕ} → Put out at s next left → Put out at s next′ left′ → (next ≡ next′) × (left ≡ left′)
 no-second-put p q = (no-second (p .place) (q .place), no-second (p .bytes) (q .bytes))
 
--- ---- an exported call, and the rewriter: four numbers, the output, the room
+-- ---- an exported call, and the rewriter: five numbers, the output, the room
 
-pub no-second-call : {given : Left} {a b c d a′ b′ c′ d′ : ℕ} {out room out′ room′ : List ℕ} → left a b c d out room ≡ given → left a′ b′ c′ d′ out′ room′ ≡ given
-    → (a ≡ a′) × (b ≡ b′) × (c ≡ c′) × (d ≡ d′) × (out ≡ out′) × (room ≡ room′)
+pub no-second-call : {given : Left} {a b c d e a′ b′ c′ d′ e′ : ℕ} {out room out′ room′ : List ℕ} → left a b c d e out room ≡ given
+    → left a′ b′ c′ d′ e′ out′ room′ ≡ given → (a ≡ a′) × (b ≡ b′) × (c ≡ c′) × (d ≡ d′) × (e ≡ e′) × (out ≡ out′) × (room ≡ room′)
 no-second-call p q =
     let e = no-second p q in (
       ap (λ (x : Left). x .answer .refusal) e,
       ap (λ (x : Left). x .answer .written) e,
       ap (λ (x : Left). x .answer .count) e,
       ap (λ (x : Left). x .answer .rounds) e,
+      ap (λ (x : Left). x .answer .place) e,
       ap (λ (x : Left). x .output) e,
       ap (λ (x : Left). x .room) e,
     )
@@ -66,7 +67,7 @@ stored-some (got q) a e = rw (← got-same e) (omega (arith, weight-length q, we
 stored-some (refused x) a e = no-got e
 
 told : (p : Parsed) → Telling (answerOf p) → ofAnswer Refused Bytes (answerOf p) ≡ p
-told (Refused n) t = refusal-told Refused Bytes n t
+told (Refused n w) t = refusal-told Refused Bytes n w t
 told (Bytes n) t = refl
 
 module _ {o a : ℕ} {f es text out room out′ room′ out″ room″ : List ℕ} {p p′ : Parsed} where
@@ -75,7 +76,7 @@ module _ {o a : ℕ} {f es text out room out′ room′ out″ room″ : List �
   no-second-parse P Q =
       let e = no-second (P .is) (Q .is) in
       let r = andThen (readSetup o a f es) (λ st. parse st text) in
-      let t = call-telling parseRoom (onRead storedReply r) out room (stored-some r) in (
+      let t = call-at-telling parseRoom (onRead storedReply r) out room (stored-some r) in (
         same-answer answerOf (ofAnswer Refused Bytes) told p p′ (ap (λ (x : Left). x .answer) e) (subst Telling (sym (ap (λ (x : Left). x .answer) (P .is))) t),
         ap (λ (x : Left). x .output) e,
         ap (λ (x : Left). x .room) e,

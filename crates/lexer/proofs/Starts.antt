@@ -7,14 +7,14 @@ use native.Mathlib.Omega.{arith}
 use native.Mathlib.Decide.{decLt}
 use native.Mathlib.Nat.{add-zero, add-sub-cancel-left}
 use native.Mathlib.Numerals.{add-one}
-use lib.ListN.{length, getD, take, drop, List·getD-eq-default}
+use lib.ListN.{length, getD, take, drop, length-drop, List·getD-eq-default}
 use lib.Seq.{drop-cons, drop-drop, getD-drop}
 use lib.Dec.{leb, eqb}
 use borrow.Author.Tests.{eq-eqb, ne-eqb, leb-true}
-use Rattle.rules.specs.Numbers.{Refusal, number, rangeBracket, wildcard, chunkMost, Read, got, refused}
+use Rattle.rules.specs.Numbers.{Fault, faultNumber, faulty, rangeBracket, wildcard, chunkMost, Read, got, refused}
 use Rattle.rules.specs.Bytes.{ascii, some}
 use Rattle.rules.specs.Analysis.{isLetter}
-use Rattle.rules.specs.Lexing.{Piece, piece, Lexed, lexed, endKind, termKind, andKind, orKind, isQuote, isBracket, isWildcard, termText, quotedText, wordKind, wordLexed, termEnd, termFrom, quotedFrom, signKind, doubled, tokenAt}
+use Rattle.rules.specs.Lexing.{Piece, piece, startIn, Lexed, lexed, endKind, termKind, andKind, orKind, isQuote, isBracket, isWildcard, termText, quotedText, wordKind, wordLexed, termEnd, termFrom, quotedFrom, signKind, doubled, tokenAt}
 use Rattle.rules.proofs.Bools.{clash, and-l, and-r, and-no-r}
 use Rattle.row.specs.Row.{wordNote}
 use Rattle.texts.specs.Texts.{Spelled, Reads}
@@ -28,15 +28,15 @@ use Rattle.texts.proofs.Flags.{letter-other}
 
 -- ---- which token begins with c
 
-module _ (c : ℕ) (s : List ℕ) where
-  pub starts-sign : (signKind c ≡ 0 → ⊥) → tokenAt c s ≡ got (lexed (signKind c) [] s)
+module _ (n c : ℕ) (s : List ℕ) where
+  pub starts-sign : (signKind c ≡ 0 → ⊥) → tokenAt n c s ≡ got (lexed (signKind c) [] s)
   unfolding tokenAt
-  starts-sign n = rw (ne-eqb (signKind c) 0 n)
+  starts-sign some = rw (ne-eqb (signKind c) 0 some)
 
   module _ (sign : signKind c ≡ 0) where
-    pub starts-double : (doubleKind c (getD s 0 0) ≡ 0 → ⊥) → tokenAt c s ≡ got (lexed (doubleKind c (getD s 0 0)) [] (drop 1 s))
+    pub starts-double : (doubleKind c (getD s 0 0) ≡ 0 → ⊥) → tokenAt n c s ≡ got (lexed (doubleKind c (getD s 0 0)) [] (drop 1 s))
     unfolding tokenAt doubleKind
-    starts-double n = rw (eq-eqb (signKind c) 0 sign) (pick (doubled 0x26 c s) (doubled 0x7c c s) _ n)
+    starts-double some = rw (eq-eqb (signKind c) 0 sign) (pick (doubled 0x26 c s) (doubled 0x7c c s) _ some)
       where
         pick : (x y : Bool) (o : Read Lexed) → (cond x andKind (cond y orKind endKind) ≡ 0 → ⊥)
             → cond x (got (lexed andKind [] (drop 1 s))) (cond y (got (lexed orKind [] (drop 1 s))) o) ≡ got (lexed (cond x andKind (cond y orKind endKind)) [] (drop 1 s))
@@ -45,8 +45,11 @@ module _ (c : ℕ) (s : List ℕ) where
         pick false false o n = absurd (n refl)
 
     module _ (double : doubleKind c (getD s 0 0) ≡ 0) where
-      after-double : tokenAt c s
-          ≡ cond (isQuote c) (quotedFrom s) (cond (isBracket c) (refused rangeBracket) (cond (isWildcard c) (refused wildcard) (termFrom (c ∷ s))))
+      abbrev here : ℕ
+      here = startIn n (c ∷ s)
+
+      after-double : tokenAt n c s
+          ≡ cond (isQuote c) (quotedFrom n here s) (cond (isBracket c) (refused (faulty rangeBracket here)) (cond (isWildcard c) (refused (faulty wildcard here)) (termFrom n (c ∷ s))))
       unfolding tokenAt doubleKind
       after-double = rw (eq-eqb (signKind c) 0 sign) (pick (doubled 0x26 c s) (doubled 0x7c c s) _ _ _ double)
         where
@@ -55,49 +58,49 @@ module _ (c : ℕ) (s : List ℕ) where
           pick false true o p q e = absurd (omega arith)
           pick false false o p q e = refl
 
-      pub starts-quote : isQuote c ≡ true → tokenAt c s ≡ quotedFrom s
+      pub starts-quote : isQuote c ≡ true → tokenAt n c s ≡ quotedFrom n here s
       starts-quote h = after-double ∙ rw h
 
       module _ (quote : isQuote c ≡ false) where
-        pub starts-bad : (badStart c ≡ 0 → ⊥) → (f : Refusal) × (tokenAt c s ≡ refused f) × (badStart c ≡ number f)
+        pub starts-bad : (badStart c ≡ 0 → ⊥) → (f : Fault) × (tokenAt n c s ≡ refused (faulty f here)) × (badStart c ≡ faultNumber f)
         unfolding badStart
-        starts-bad n = rw (after-double, quote) (pick (isBracket c) (isWildcard c) _ n)
+        starts-bad some = rw (after-double, quote) (pick (isBracket c) (isWildcard c) _ some)
           where
-            pick : (x y : Bool) (o : Read Lexed) → (cond x (number rangeBracket) (cond y (number wildcard) 0) ≡ 0 → ⊥)
-                → (f : Refusal) × (cond x (refused rangeBracket) (cond y (refused wildcard) o) ≡ refused f)
-                × (cond x (number rangeBracket) (cond y (number wildcard) 0) ≡ number f)
+            pick : (x y : Bool) (o : Read Lexed) → (cond x (faultNumber rangeBracket) (cond y (faultNumber wildcard) 0) ≡ 0 → ⊥)
+                → (f : Fault) × (cond x (refused (faulty rangeBracket here)) (cond y (refused (faulty wildcard here)) o) ≡ refused (faulty f here))
+                × (cond x (faultNumber rangeBracket) (cond y (faultNumber wildcard) 0) ≡ faultNumber f)
             pick true y o n = (rangeBracket, refl, refl)
             pick false true o n = (wildcard, refl, refl)
             pick false false o n = absurd (n refl)
 
-        pub starts-term : badStart c ≡ 0 → tokenAt c s ≡ termFrom (c ∷ s)
+        pub starts-term : badStart c ≡ 0 → tokenAt n c s ≡ termFrom n (c ∷ s)
         unfolding badStart
         starts-term e = after-double ∙ rw quote (pick (isBracket c) (isWildcard c) _ e)
           where
-            pick : (x y : Bool) (o : Read Lexed) → cond x (number rangeBracket) (cond y (number wildcard) 0) ≡ 0
-                → cond x (refused rangeBracket) (cond y (refused wildcard) o) ≡ o
+            pick : (x y : Bool) (o : Read Lexed) → cond x (faultNumber rangeBracket) (cond y (faultNumber wildcard) 0) ≡ 0
+                → cond x (refused (faulty rangeBracket here)) (cond y (refused (faulty wildcard here)) o) ≡ o
             pick true y o e = absurd (omega arith)
             pick false true o e = absurd (omega arith)
             pick false false o e = refl
 
 -- a letter begins a term
-module _ (c : ℕ) (s : List ℕ) (h : isLetter c ≡ true) where
+module _ (n c : ℕ) (s : List ℕ) (h : isLetter c ≡ true) where
   letter-sign : signKind c ≡ 0
   unfolding signKind
   letter-sign =
-      let n = letter-other c h in
-      rw (n 0x2b refl, n 0x2d refl, n 0x21 refl, n 0x28 refl, n 0x29 refl, n 0x3a refl, n 0x5e refl, n 0x7e refl)
+      let o = letter-other c h in
+      rw (o 0x2b refl, o 0x2d refl, o 0x21 refl, o 0x28 refl, o 0x29 refl, o 0x3a refl, o 0x5e refl, o 0x7e refl)
 
   letter-double : doubleKind c (getD s 0 0) ≡ 0
   unfolding doubleKind
-  letter-double = let n = letter-other c h in rw (n 0x26 refl, n 0x7c refl)
+  letter-double = let o = letter-other c h in rw (o 0x26 refl, o 0x7c refl)
 
   letter-bad : badStart c ≡ 0
   unfolding badStart ascii some
-  letter-bad = let n = letter-other c h in rw (n 0x5b refl, n 0x5d refl, n 0x7b refl, n 0x7d refl, n 0x2a refl, n 0x3f refl)
+  letter-bad = let o = letter-other c h in rw (o 0x5b refl, o 0x5d refl, o 0x7b refl, o 0x7d refl, o 0x2a refl, o 0x3f refl)
 
-  pub starts-letter : tokenAt c s ≡ termFrom (c ∷ s)
-  starts-letter = starts-term c s letter-sign letter-double (letter-other c h 0x22 refl) letter-bad
+  pub starts-letter : tokenAt n c s ≡ termFrom n (c ∷ s)
+  starts-letter = starts-term n c s letter-sign letter-double (letter-other c h 0x22 refl) letter-bad
 
 double-zero : (c : ℕ) → doubleKind c 0 ≡ 0
 unfolding doubleKind
@@ -105,15 +108,15 @@ double-zero c = rw (and-no-r (eqb c 0x26) refl, and-no-r (eqb c 0x7c) refl)
 
 -- ---- the end of a term
 
-end-wild : (t s : List ℕ) → isWildcard (getD s 0 0) ≡ true → termEnd (piece t s) ≡ refused wildcard
+end-wild : (n : ℕ) (t s : List ℕ) → isWildcard (getD s 0 0) ≡ true → termEnd n (piece t s) ≡ refused (faulty wildcard (startIn n s))
 unfolding termEnd ascii some
-end-wild t [] h = clash h refl
-end-wild t (c ∷ s) h = rw h
+end-wild n t [] h = clash h refl
+end-wild n t (c ∷ s) h = rw h
 
-end-word : (t s : List ℕ) → isWildcard (getD s 0 0) ≡ false → termEnd (piece t s) ≡ got (wordLexed t s)
+end-word : (n : ℕ) (t s : List ℕ) → isWildcard (getD s 0 0) ≡ false → termEnd n (piece t s) ≡ got (wordLexed t s)
 unfolding termEnd
-end-word t [] h = refl
-end-word t (c ∷ s) h = rw h
+end-word n t [] h = refl
+end-word n t (c ∷ s) h = rw h
 
 -- ---- the note
 
@@ -160,52 +163,60 @@ module _ (at next : ℕ) (room : List ℕ) (k a len m : ℕ) (word : Bool) (o : 
 
 module _ (text : List ℕ) (at : ℕ) (room : List ℕ) where
   -- the whole token is read from what the token's text was read as
-  made-no : {o : Read Piece} {p : Read Lexed} (r : Ended) (k : ℕ) → ((f : Refusal) → o ≡ refused f → p ≡ refused f) → r ≡ ended.Refused k
-      → Reads r o text at room → Makes (Refused k) p text at room
-  made-no {o} r k g e h =
-      let i : Reads (ended.Refused k) o text at room = subst (λ (x : Ended). Reads x o text at room) e h in
-      (i .0, g (i .0) (i .1), i .2)
+  made-no : {o : Read Piece} {p : Read Lexed} (r : Ended) (k w : ℕ) → ((f : Fault) → o ≡ refused (faulty f w) → p ≡ refused (faulty f w)) → r ≡ ended.Refused k w
+      → Reads r o text at room → Makes (Refused k w) p text at room
+  made-no {o} r k w g e h =
+      let i : Reads (ended.Refused k w) o text at room = subst (λ (x : Ended). Reads x o text at room) e h in
+      (i .0, g (i .0) (i .1), i .2, i .3)
 
   -- ---- a quote
 
-  module _ (s : List ℕ) (r : Ended) (h : Reads r (quotedText s) text at room) where
-    pub quoted-no : (k : ℕ) → r ≡ ended.Refused k → Makes (Refused k) (quotedFrom s) text at room
+  module _ (s : List ℕ) (r : Ended) (h : Reads r (quotedText (length text) at s) text at room) where
+    pub quoted-no : (k w : ℕ) → r ≡ ended.Refused k w → Makes (Refused k w) (quotedFrom (length text) at s) text at room
     unfolding quotedFrom
-    quoted-no k e = made-no r k (λ f l. rw l) e h
+    quoted-no k w e = made-no r k w (λ f l. rw l) e h
 
-    pub quoted-yes : (next len : ℕ) (word : Bool) → r ≡ At next len word → Makes (Token 2 0 len next) (quotedFrom s) text at room
+    pub quoted-yes : (next len : ℕ) (word : Bool) → r ≡ At next len word → Makes (Token 2 0 len next) (quotedFrom (length text) at s) text at room
     unfolding quotedFrom
     quoted-yes next len word e =
-        let i : Reads (At next len word) (quotedText s) text at room = subst (λ (x : Ended). Reads x (quotedText s) text at room) e h in
+        let i : Reads (At next len word) (quotedText (length text) at s) text at room = subst (λ (x : Ended). Reads x (quotedText (length text) at s) text at room) e h in
         (rw (i .0), i .1, i .2, noted-none at next len room)
 
   -- ---- a term
 
-  module _ (s : List ℕ) (r : Ended) (h : Reads r (termText s) text at room) where
-    pub term-no : (k : ℕ) → r ≡ ended.Refused k → Makes (Refused k) (termFrom s) text at room
+  module _ (s : List ℕ) (r : Ended) (h : Reads r (termText (length text) s) text at room) where
+    pub term-no : (k w : ℕ) → r ≡ ended.Refused k w → Makes (Refused k w) (termFrom (length text) s) text at room
     unfolding termFrom
-    term-no k e = made-no r k (λ f l. rw l) e h
+    term-no k w e = made-no r k w (λ f l. rw l) e h
 
     module _ (next len : ℕ) (word : Bool) (e : r ≡ At next len word) where
-      term-at : Reads (At next len word) (termText s) text at room
-      term-at = subst (λ (x : Ended). Reads x (termText s) text at room) e h
+      term-at : Reads (At next len word) (termText (length text) s) text at room
+      term-at = subst (λ (x : Ended). Reads x (termText (length text) s) text at room) e h
 
       pub term-fits : (next ≤ length text) × (at + len ≤ next)
       term-fits = (term-at .1, term-at .2)
 
-      pub term-wild : isWildcard (getD text next 0) ≡ true → Makes (Refused 7) (termFrom s) text at room
-      unfolding termFrom
-      term-wild w = (wildcard, rw (term-at .0) (end-wild _ (drop next text) (rw (getD-drop, add-zero) w)), refl)
+      pub term-wild : isWildcard (getD text next 0) ≡ true → Makes (Refused 7 next) (termFrom (length text) s) text at room
+      unfolding termFrom ascii some
+      term-wild w =
+          let b = wild-within (decLt next (length text)) w in
+          let p : startIn (length text) (drop next text) ≡ next = omega (arith, length-drop next text) in
+          (wildcard, rw (term-at .0) (rw p at (end-wild (length text) (take len (drop at room)) (drop next text) (rw (getD-drop, add-zero) w))), refl, b)
+        where
+          -- no wildcard stands past the last byte
+          wild-within : Dec (next < length text) → isWildcard (getD text next 0) ≡ true → next < length text
+          wild-within (yes l) w = l
+          wild-within (no l) w = let z : getD text next 0 ≡ 0 = List·getD-eq-default text 0 (omega arith) in clash (rw z at w) refl
 
       pub term-yes : (k a m : ℕ) → isWildcard (getD text next 0) ≡ false → k ≡ wordKind (take (at + len - at) (drop at room)) → a ≡ noteOf k word len
-          → m ≡ cond (eqb k termKind) len 0 → Makes (Token k a m next) (termFrom s) text at room
+          → m ≡ cond (eqb k termKind) len 0 → Makes (Token k a m next) (termFrom (length text) s) text at room
       unfolding termFrom
       term-yes k a m w f o g =
           let u = take len (drop at room) in
           let l : m ≤ len = rw g (less (eqb k termKind)) in
           let i = term-at .2 in
           let n : k ≡ wordKind u = rw add-sub-cancel-left at f in (
-            rw (term-at .0) (end-word u (drop next text) (rw (getD-drop, add-zero) w) ∙ rw (← n, kept (eqb k termKind) g)),
+            rw (term-at .0) (end-word (length text) u (drop next text) (rw (getD-drop, add-zero) w) ∙ rw (← n, kept (eqb k termKind) g)),
             term-at .1,
             omega arith,
             noted-term at next room k a len m word o g (term-at .3),
@@ -222,21 +233,24 @@ module _ (text : List ℕ) (at : ℕ) (room : List ℕ) where
   -- ---- a token
 
   module _ (h : at < length text) where
-    pub made-sign : (k : ℕ) → k ≡ signKind (getD text at 0) → (k ≡ 0 → ⊥) → Makes (Token k 0 0 (at + 1)) (tokenAt (getD text at 0) (drop (at + 1) text)) text at room
-    made-sign k e n = (starts-sign (getD text at 0) (drop (at + 1) text) (rw e at n) ∙ rw (← e), omega arith, omega arith, noted-none at (at + 1) 0 room)
+    here-at : startIn (length text) (getD text at 0 ∷ drop (at + 1) text) ≡ at
+    here-at = omega (arith, length-drop (at + 1) text)
 
-    pub made-letter : isLetter (getD text at 0) ≡ true → (r : Step) → Makes r (termFrom (drop at text)) text at room
-        → Makes r (tokenAt (getD text at 0) (drop (at + 1) text)) text at room
-    made-letter l r m = rw (starts-letter (getD text at 0) (drop (at + 1) text) l, add-one, ← drop-cons text at 0 h) m
+    pub made-sign : (k : ℕ) → k ≡ signKind (getD text at 0) → (k ≡ 0 → ⊥) → Makes (Token k 0 0 (at + 1)) (tokenAt (length text) (getD text at 0) (drop (at + 1) text)) text at room
+    made-sign k e n = (starts-sign (length text) (getD text at 0) (drop (at + 1) text) (rw e at n) ∙ rw (← e), omega arith, omega arith, noted-none at (at + 1) 0 room)
+
+    pub made-letter : isLetter (getD text at 0) ≡ true → (r : Step) → Makes r (termFrom (length text) (drop at text)) text at room
+        → Makes r (tokenAt (length text) (getD text at 0) (drop (at + 1) text)) text at room
+    made-letter l r m = rw (starts-letter (length text) (getD text at 0) (drop (at + 1) text) l, add-one, ← drop-cons text at 0 h) m
 
     module _ (sign : signKind (getD text at 0) ≡ 0) where
       pub made-double : (k : ℕ) → k ≡ doubleKind (getD text at 0) (getD text (at + 1) 0) → (k ≡ 0 → ⊥)
-          → Makes (Token k 0 0 (at + 2)) (tokenAt (getD text at 0) (drop (at + 1) text)) text at room
+          → Makes (Token k 0 0 (at + 2)) (tokenAt (length text) (getD text at 0) (drop (at + 1) text)) text at room
       made-double k e n =
           let d : getD (drop (at + 1) text) 0 0 ≡ getD text (at + 1) 0 = getD-drop (at + 1) text 0 0 ∙ rw add-zero in
           let j : at + 1 < length text = more (decLt (at + 1) (length text)) in
           let two : at + 1 + 1 ≡ at + 2 = omega arith in (
-            starts-double (getD text at 0) (drop (at + 1) text) sign (λ z. n (e ∙ rw d at z)) ∙ rw (d, ← e, drop-drop, two),
+            starts-double (length text) (getD text at 0) (drop (at + 1) text) sign (λ z. n (e ∙ rw d at z)) ∙ rw (d, ← e, drop-drop, two),
             omega arith,
             omega arith,
             noted-none at (at + 2) 0 room,
@@ -252,15 +266,17 @@ module _ (text : List ℕ) (at : ℕ) (room : List ℕ) where
         none : doubleKind (getD text at 0) (getD (drop (at + 1) text) 0 0) ≡ 0
         none = rw (getD-drop, add-zero) double
 
-        pub made-quoted : isQuote (getD text at 0) ≡ true → (r : Step) → Makes r (quotedFrom (drop (at + 1) text)) text at room
-            → Makes r (tokenAt (getD text at 0) (drop (at + 1) text)) text at room
-        made-quoted q r m = rw (starts-quote (getD text at 0) (drop (at + 1) text) sign none q) m
+        pub made-quoted : isQuote (getD text at 0) ≡ true → (r : Step) → Makes r (quotedFrom (length text) at (drop (at + 1) text)) text at room
+            → Makes r (tokenAt (length text) (getD text at 0) (drop (at + 1) text)) text at room
+        made-quoted q r m = rw (starts-quote (length text) (getD text at 0) (drop (at + 1) text) sign none q, here-at) m
 
         module _ (quote : isQuote (getD text at 0) ≡ false) where
-          pub made-bad : (k : ℕ) → k ≡ badStart (getD text at 0) → (k ≡ 0 → ⊥) → Makes (Refused k) (tokenAt (getD text at 0) (drop (at + 1) text)) text at room
-          made-bad k e n = rw e (starts-bad (getD text at 0) (drop (at + 1) text) sign none quote (rw e at n))
+          pub made-bad : (k : ℕ) → k ≡ badStart (getD text at 0) → (k ≡ 0 → ⊥) → Makes (Refused k at) (tokenAt (length text) (getD text at 0) (drop (at + 1) text)) text at room
+          made-bad k e n =
+              let b = starts-bad (length text) (getD text at 0) (drop (at + 1) text) sign none quote (rw e at n) in
+              (b .0, rw here-at at (b .1), e ∙ b .2, h)
 
-          pub made-term : badStart (getD text at 0) ≡ 0 → (r : Step) → Makes r (termFrom (drop at text)) text at room
-              → Makes r (tokenAt (getD text at 0) (drop (at + 1) text)) text at room
+          pub made-term : badStart (getD text at 0) ≡ 0 → (r : Step) → Makes r (termFrom (length text) (drop at text)) text at room
+              → Makes r (tokenAt (length text) (getD text at 0) (drop (at + 1) text)) text at room
           made-term b r m =
-              rw (starts-term (getD text at 0) (drop (at + 1) text) sign none quote b, add-one, ← drop-cons text at 0 h) m
+              rw (starts-term (length text) (getD text at 0) (drop (at + 1) text) sign none quote b, add-one, ← drop-cons text at 0 h) m

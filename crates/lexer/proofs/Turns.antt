@@ -7,7 +7,7 @@ use native.Mathlib.Omega.{arith}
 use native.Mathlib.Numerals.{add-one}
 use lib.ListN.{length, getD, take, drop, length-drop, drop-of-length-le}
 use lib.Seq.{drop-cons, length-take-le}
-use Rattle.rules.specs.Numbers.{Refusal, number, textMost, Read, got, refused, onRead}
+use Rattle.rules.specs.Numbers.{Refusal, number, placeOf, faulty, textMost, Read, got, refused, onRead}
 use Rattle.rules.specs.Analysis.{isSpace}
 use Rattle.rules.specs.Lexing.{Token, lex}
 use Rattle.rules.specs.Lexing as lexing
@@ -71,22 +71,22 @@ module _ (text : List ℕ) where
 
       -- what is read at i is a token
       module _ (s : isSpace (getD text i 0) ≡ false) (room₁ : List ℕ) (q : Step)
-          (m : Makes q (lexing.tokenAt (getD text i 0) (drop (i + 1) text)) text i room₁) where
-        pub lexing-refused : (k : ℕ) → q ≡ step.Refused k → (Refused k ≡ answerOf (lex text)) × Row (lex text) room₁
-        lexing-refused k e =
-            let (f, o, j) = subst (λ (x : Step). Makes x (lexing.tokenAt (getD text i 0) (drop (i + 1) text)) text i room₁) e m in
-            let p = ap (tokensLeft (length text)) here ∙ left-refused (length text) (getD text i 0) (drop (i + 1) text) s o in
-            let w : lex text ≡ refused f = r .whole ∙ rw p in
-            rw w (ap Refused j, tt)
+          (m : Makes q (lexing.tokenAt (length text) (getD text i 0) (drop (i + 1) text)) text i room₁) where
+        pub lexing-refused : (k p : ℕ) → q ≡ step.Refused k p → length text ≤ textMost → (Refused k p ≡ answerOf (lex text)) × Row (lex text) room₁
+        lexing-refused k p e short =
+            let (f, o, j, l) = subst (λ (x : Step). Makes x (lexing.tokenAt (length text) (getD text i 0) (drop (i + 1) text)) text i room₁) e m in
+            let t = ap (tokensLeft (length text)) here ∙ left-refused (length text) (getD text i 0) (drop (i + 1) text) s o in
+            let w : lex text ≡ refused (faulty f p) = r .whole ∙ rw t in
+            rw w (ap (λ (x : ℕ). Refused x p) j, omega arith)
 
         module _ (k a len next : ℕ) (e : q ≡ step.Token k a len next) where
-          made : Makes (step.Token k a len next) (lexing.tokenAt (getD text i 0) (drop (i + 1) text)) text i room₁
-          made = subst (λ (x : Step). Makes x (lexing.tokenAt (getD text i 0) (drop (i + 1) text)) text i room₁) e m
+          made : Makes (step.Token k a len next) (lexing.tokenAt (length text) (getD text i 0) (drop (i + 1) text)) text i room₁
+          made = subst (λ (x : Step). Makes x (lexing.tokenAt (length text) (getD text i 0) (drop (i + 1) text)) text i room₁) e m
 
           -- it ends behind i, and its text with it
           pub ends-behind : (i < next) × (next ≤ length text) × (i + len ≤ next) × (a < 8)
           ends-behind =
-              let l = token-shorter (getD text i 0) (drop (i + 1) text) s (made .0) in
+              let l = token-shorter (length text) (getD text i 0) (drop (i + 1) text) s (made .0) in
               let n = made .1 in
               (omega (arith, simp length-drop at l), n, made .2, made .3 .few)
 
@@ -142,9 +142,9 @@ tokens-told (got ts) room n e row =
     (ap (λ (us : List Token). got us) (sym k), rw l at (row .1), rw l at (row .2))
 tokens-told (refused f) room n e row = absurd (let z : _≡_ {A = ℕ} 0 1 = cc in omega arith)
 
-pub refused-told : (o : Read (List Token)) (k : ℕ) → Refused k ≡ answerOf o → (f : Refusal) × (o ≡ refused f) × (k ≡ number f)
-refused-told (got ts) k e = absurd (let z : _≡_ {A = ℕ} 0 1 = cc in omega arith)
-refused-told (refused f) k e = (f, refl, cc)
+pub refused-told : (o : Read (List Token)) (k p : ℕ) → Refused k p ≡ answerOf o → (f : Refusal) × (o ≡ refused f) × (k ≡ number f) × (p ≡ placeOf f)
+refused-told (got ts) k p e = absurd (let z : _≡_ {A = ℕ} 0 1 = cc in omega arith)
+refused-told (refused f) k p e = (f, refl, cc, cc)
 
 -- of the row of a text
 module _ (text room : List ℕ) (n : ℕ) (e : lex text ≡ got (tokensOf room n)) where

@@ -1,4 +1,4 @@
-// The lexer: the whole text becomes a row of tokens over unescaped bytes, or is refused for its first fault from the left.
+// The lexer: the whole text becomes a row of tokens over unescaped bytes, or is refused for its first fault from the left, which has a place.
 use classes::table::CLASSES;
 use names::END_CLASS;
 use names::SPACE_CLASS;
@@ -23,7 +23,7 @@ ghost use Rattle.lexer.specs.Lexing.{answerOf, Row};
 mod tokens;
 
 pub enum Lexed {
-    Refused(u8),
+    Refused(u8, usize),
     Tokens(usize),
 }
 
@@ -55,7 +55,7 @@ pub fn lex(text: &[u8], room: &mut [u8]) -> Lexed
             continue;
         }
         match tokens::token_at(&table, text, i, room) {
-            Step::Refused(f) => return Lexed::Refused(f),
+            Step::Refused(f, place) => return Lexed::Refused(f, place),
             Step::Token {
                 kind,
                 note,

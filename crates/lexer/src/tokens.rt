@@ -32,9 +32,9 @@ ghost use Rattle.rules.specs.Lexing.{termKind, signKind, isWildcard, wordKind, 
 ghost use Rattle.row.specs.Row.{roomLeast, Kept};
 ghost use Rattle.lexer.specs.Tokens.{Makes, noteOf, doubleKind, badStart};
 
-// A token: its kind, its note, how many bytes its text has in the room from its place on, and where it ended in the input.
+// A refusal and its place; or a token: its kind, its note, how many bytes its text has in the room from its place on, and where it ended in the input.
 pub enum Step {
-    Refused(u8),
+    Refused(u8, usize),
     Token {
         kind: u8,
         note: u8,
@@ -173,13 +173,13 @@ fn word_note(kind: u8, word: bool, len: usize) -> u8
 fn term_at(table: &[u8; 128], text: &[u8], at: usize, room: &mut [u8]) -> Step
     requires { ⌜ (at ≤ length (now text)) × (length (now text) ≤ textMost) × (isText (now text) ≡ true) × (roomLeast ≤ length (now room)) × (now table ≡ classes) ⌝ }
     ensures kept { λ r. ⌜ Kept at (now (room .entry)) (now (room .exit)) ⌝ }
-    ensures makes { λ r. ⌜ Makes r (termFrom (drop at (now (text .entry)))) (now (text .entry)) at (now (room .exit)) ⌝ }
+    ensures makes { λ r. ⌜ Makes r (termFrom (length (now (text .entry))) (drop at (now (text .entry)))) (now (text .entry)) at (now (room .exit)) ⌝ }
 {
     match texts::read_term(table, text, at, room) {
-        Ended::Refused(f) => Step::Refused(f),
+        Ended::Refused(f, place) => Step::Refused(f, place),
         Ended::At { next, len, word } => {
             if is_wildcard(peek(text, next)) {
-                return Step::Refused(WILDCARD);
+                return Step::Refused(WILDCARD, next);
             }
             let end = at + len;
             let kind = word_kind(&room[at..end]);
@@ -196,10 +196,10 @@ fn term_at(table: &[u8; 128], text: &[u8], at: usize, room: &mut [u8]) -> Step
 fn quoted_at(text: &[u8], at: usize, room: &mut [u8]) -> Step
     requires { ⌜ (at < length (now text)) × (length (now text) ≤ textMost) × (roomLeast ≤ length (now room)) ⌝ }
     ensures kept { λ r. ⌜ Kept at (now (room .entry)) (now (room .exit)) ⌝ }
-    ensures makes { λ r. ⌜ Makes r (quotedFrom (drop (at + 1) (now (text .entry)))) (now (text .entry)) at (now (room .exit)) ⌝ }
+    ensures makes { λ r. ⌜ Makes r (quotedFrom (length (now (text .entry))) at (drop (at + 1) (now (text .entry)))) (now (text .entry)) at (now (room .exit)) ⌝ }
 {
     match texts::read_quoted(text, at, room) {
-        Ended::Refused(f) => Step::Refused(f),
+        Ended::Refused(f, place) => Step::Refused(f, place),
         Ended::At { next, len, word: _ } => Step::Token {
             kind: QUOTED_KIND,
             note: NO_NOTE,
@@ -213,7 +213,7 @@ fn quoted_at(text: &[u8], at: usize, room: &mut [u8]) -> Step
 pub fn token_at(table: &[u8; 128], text: &[u8], at: usize, room: &mut [u8]) -> Step
     requires { ⌜ (at < length (now text)) × (length (now text) ≤ textMost) × (isText (now text) ≡ true) × (roomLeast ≤ length (now room)) × (now table ≡ classes) ⌝ }
     ensures kept { λ r. ⌜ Kept at (now (room .entry)) (now (room .exit)) ⌝ }
-    ensures makes { λ r. ⌜ Makes r (tokenAt (getD (now (text .entry)) at 0) (drop (at + 1) (now (text .entry)))) (now (text .entry)) at (now (room .exit)) ⌝ }
+    ensures makes { λ r. ⌜ Makes r (tokenAt (length (now (text .entry))) (getD (now (text .entry)) at 0) (drop (at + 1) (now (text .entry)))) (now (text .entry)) at (now (room .exit)) ⌝ }
 {
     let c = text[at];
     if LETTER_CLASS <= classes::class_at(table, c) {
@@ -242,7 +242,7 @@ pub fn token_at(table: &[u8; 128], text: &[u8], at: usize, room: &mut [u8]) -> S
     }
     let bad = bad_start(c);
     if bad != 0 {
-        return Step::Refused(bad);
+        return Step::Refused(bad, at);
     }
     term_at(table, text, at, room)
 }

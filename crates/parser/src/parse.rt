@@ -24,23 +24,24 @@ use names::TEXT_MOST;
 use names::UNEXPECTED_TOKEN;
 use parts::write::put_header;
 use row::kind_at;
+use row::place_at;
 use stretches::clear;
 use stretches::is_text;
 ghost use mathlib.Core.Path.{_≡_};
 ghost use Prim.Native.Nat.{ℕ, _≤_, _<_};
 ghost use lib.ListN.{length};
-ghost use Rattle.rules.specs.Numbers.{fieldMost, got, andThen};
+ghost use Rattle.rules.specs.Numbers.{textMost, fieldMost, got, andThen, placed};
 ghost use Rattle.rules.specs.Query.{Clauses};
 ghost use Rattle.rules.specs.Setup.{Setup, readSetup};
-ghost use Rattle.rules.specs.Parsing.{queryOf, orMatchNone, parse, parseTokens};
+ghost use Rattle.rules.specs.Parsing.{startOf, queryOf, orMatchNone, parse, parseTokens};
 ghost use Rattle.row.specs.Row.{roomLeast, tokensOf};
 ghost use Rattle.clauses.specs.Measured.{Rowed, Fielded, Tuned};
 ghost use Rattle.parser.specs.Parsed.{Delivers, Parses};
 ghost use Rattle.clauses.specs.Written.{QueryToWrite};
 
-// What a call answers: a refusal by its number, or how many bytes it wrote.
+// What a call answers: a refusal by its number and the place of the fault, 0 where it is none of the text's; or how many bytes it wrote.
 pub enum Parsed {
-    Refused(u8),
+    Refused(u8, usize),
     Bytes(usize),
 }
 
@@ -58,29 +59,31 @@ fn write_whole<'a>(
 {
     if len == 0 {
         if out.len() < HEADER {
-            return Parsed::Refused(LONG_ANSWER);
+            return Parsed::Refused(LONG_ANSWER, 0);
         }
         put_header(out, 0, MATCH_NONE_TAG, 0);
         return Parsed::Bytes(HEADER);
     }
     if out.len() < len {
-        return Parsed::Refused(LONG_ANSWER);
+        return Parsed::Refused(LONG_ANSWER, 0);
     }
     write_query(room, field, p, 0, alone, &mut out[0..len]);
     Parsed::Bytes(len)
 }
 
-// The tokens in the room, to their end, in the default field.
+// The tokens in the room, to their end, in the default field. The text ends at `end`: what is refused there has that place, and any other token
+// its start, which is looked up only then.
 fn parse_tokens<'a>(
     operator: u8,
     analyzer: u8,
     field: &'a [u8],
     n: usize,
+    end: usize,
     room: &'a [u8],
     out: &mut [u8],
 ) -> Parsed
-    requires { ⌜ (Rowed (now room) n) × (length (now field) ≤ fieldMost) × ((st : Setup) × Tuned st operator (now room) n (now field) 0 analyzer × (st .field ≡ now field)) ⌝ }
-    ensures { λ r. ⌜ ((st : Setup) → Tuned st operator (now (room .entry)) n (now (field .entry)) 0 analyzer → st .field ≡ now (field .entry) → Delivers (parseTokens st (tokensOf (now (room .entry)) n)) (now (out .entry)) r (now (out .exit))) ⌝ }
+    requires { ⌜ (Rowed (now room) n) × (end ≤ textMost) × (length (now field) ≤ fieldMost) × ((st : Setup) × Tuned st operator (now room) n (now field) 0 analyzer × (st .field ≡ now field)) ⌝ }
+    ensures { λ r. ⌜ ((st : Setup) → Tuned st operator (now (room .entry)) n (now (field .entry)) 0 analyzer → st .field ≡ now (field .entry) → Delivers (placed (startOf end (tokensOf (now (room .entry)) n)) (parseTokens st (tokensOf (now (room .entry)) n))) (now (out .entry)) r (now (out .exit))) ⌝ }
 {
     let p = Scope {
         n: n,
@@ -90,7 +93,7 @@ fn parse_tokens<'a>(
         analyzer: analyzer,
     };
     match measure_query(room, field, p, 0) {
-        Counted::Fault(e) => Parsed::Refused(e),
+        Counted::Fault(e, token) => Parsed::Refused(e, place_at(room, n, token, end)),
         Counted::Clauses {
             count,
             tag,
@@ -101,7 +104,7 @@ fn parse_tokens<'a>(
                 let len = query_len(count, tag, bytes);
                 return write_whole(room, field, p, is_alone(count, tag), len, out);
             }
-            Parsed::Refused(UNEXPECTED_TOKEN)
+            Parsed::Refused(UNEXPECTED_TOKEN, place_at(room, n, next, end))
         }
     }
 }
@@ -124,23 +127,23 @@ fn parse_text(
     let mut analyzers = [0u8; ENTRIES_MOST];
     let count = setup::read_entries(fields, &mut names, &mut lengths, &mut analyzers);
     if ENTRIES_MOST < count {
-        return Parsed::Refused(BAD_SETUP);
+        return Parsed::Refused(BAD_SETUP, 0);
     }
     if !setup::is_plain(operator, analyzer, field) {
-        return Parsed::Refused(BAD_SETUP);
+        return Parsed::Refused(BAD_SETUP, 0);
     }
     if TEXT_MOST < text.len() {
-        return Parsed::Refused(LONG_TEXT);
+        return Parsed::Refused(LONG_TEXT, 0);
     }
     if !is_text(text) {
-        return Parsed::Refused(NOT_ASCII);
+        return Parsed::Refused(NOT_ASCII, 0);
     }
     match lexer::lex(text, room) {
-        Lexed::Refused(e) => Parsed::Refused(e),
+        Lexed::Refused(e, place) => Parsed::Refused(e, place),
         Lexed::Tokens(n) => {
             setup::note_fields(room, n, &names, &lengths, &analyzers, count, analyzer);
             let a = analyzer_of(&names, &lengths, &analyzers, count, analyzer, field);
-            parse_tokens(operator, a, field, n, room, out)
+            parse_tokens(operator, a, field, n, text.len(), room, out)
         }
     }
 }
@@ -160,7 +163,7 @@ pub fn parse(
 {
     if room.len() < PARSE_ROOM {
         clear(room);
-        return Parsed::Refused(SHORT_ROOM);
+        return Parsed::Refused(SHORT_ROOM, 0);
     }
     let p = parse_text(operator, analyzer, field, fields, text, out, room);
     clear(room);

@@ -17,7 +17,7 @@ pub record Settled (p : Query) (k n made : ℕ) (room : List ℕ) : Type 0 where
 -- what the call leaves, by the numbers of its answer
 abbrev pub left : ℕ → ℕ → ℕ → List ℕ → List ℕ → Left
 left refusal len made output room = record {
-  answer = record { refusal = refusal; written = len; count = 0; rounds = made };
+  answer = record { refusal = refusal; written = len; count = 0; rounds = made; place = 0 };
   output = output;
   room = room;
 }

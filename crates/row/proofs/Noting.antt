@@ -11,7 +11,7 @@ use Rattle.rules.specs.Lexing.{Token}
 use Rattle.rules.specs.Parsing.{tokenOf}
 use Rattle.analysis.specs.Tokens.{OneWord}
 use Rattle.row.specs.Row.{roomLeast, entryAt, placeIn, sizeIn, tokenAt, Below, Laid, nameFrom, wordNote, Worded, Renoted}
-use Rattle.row.proofs.Rows.{token-of, token-like, tokens-same}
+use Rattle.row.proofs.Rows.{token-is, token-like, tokens-same}
 
 -- the byte that holds a note holds a part of a place too
 rest-of : (x a : ℕ) → (x % 32 + a * 32) % 32 ≡ x % 32
@@ -65,7 +65,7 @@ module _ (room : List ℕ) (i a : ℕ) (few : i < textMost) (long : roomLeast �
 
 module _ {i a n : ℕ} {before after : List ℕ} (R : Renoted i a before after) (laid : Laid before n) where
   pub token-noted : (k : ℕ) → k < n → tokenAt after k ≡ tokenAt before k
-  token-noted k h = sym (token-of after n k h) ∙ ap (λ (ts : List Token). tokenOf ts k) (R .tokens n laid) ∙ token-of before n k h
+  token-noted k h = sym (token-is after n k _ h) ∙ ap (λ (ts : List Token). tokenOf ts k) (R .tokens n laid) ∙ token-is before n k _ h
 
   pub name-noted : (field : List ℕ) (k : ℕ) → k ≤ n → nameFrom after field k ≡ nameFrom before field k
   name-noted field zero h = refl

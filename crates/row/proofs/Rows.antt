@@ -9,8 +9,7 @@ use native.Mathlib.Decide.{decLt}
 use lib.ListN.{length, getD, take, drop, set, length-append, List·getD-append, List·getD-eq-default}
 use lib.Seq.{take-nil, take-take, take-at, getD-take, getD-drop, getD-at, getD-append-add, length-take-le, sets-eq}
 use Rattle.rules.specs.Numbers.{textMost}
-use Rattle.rules.specs.Lexing.{endKind}
-use Rattle.rules.specs.Parsing.{tokenOf}
+use Rattle.rules.specs.Lexing.{Token}
 use Rattle.row.specs.Row.{roomLeast, entryAt, kindIn, noteIn, placeIn, sizeIn, tokenAt, tokensOf, Below, LaidBelow, Laid, entry, nameFrom, wordNote, Worded, Kept}
 use Rattle.analysis.specs.Tokens.{OneWord}
 
@@ -43,19 +42,19 @@ unfolding tokensOf
 length-tokens room zero = refl
 length-tokens room (suc n) = length-append (tokensOf room n) (tokenAt room n ∷ []) ∙ omega (arith, length-tokens room n)
 
-pub token-of : (room : List ℕ) (n i : ℕ) → i < n → tokenOf (tokensOf room n) i ≡ tokenAt room i
+pub token-is : (room : List ℕ) (n i : ℕ) (d : Token) → i < n → getD (tokensOf room n) i d ≡ tokenAt room i
 unfolding tokensOf
-token-of room zero i h = absurd (omega arith)
-token-of room (suc n) i h = pass (token-of room n i) (decLt i n)
+token-is room zero i d h = absurd (omega arith)
+token-is room (suc n) i d h = pass (token-is room n i d) (decLt i n)
   where
-    pass : (i < n → tokenOf (tokensOf room n) i ≡ tokenAt room i) → Dec (i < n) → tokenOf (tokensOf room n ++ (tokenAt room n ∷ [])) i ≡ tokenAt room i
+    pass : (i < n → getD (tokensOf room n) i d ≡ tokenAt room i) → Dec (i < n) → getD (tokensOf room n ++ (tokenAt room n ∷ [])) i d ≡ tokenAt room i
     pass more (yes l) = List·getD-append (tokensOf room n) _ _ i (omega (arith, length-tokens room n)) ∙ more l
     pass more (no m) =
         let e : i ≡ n = omega arith in
         rw e (getD-at (tokensOf room n) (tokenAt room n) [] _ n (length-tokens room n))
 
-pub token-past : (room : List ℕ) (n i : ℕ) → n ≤ i → tokenOf (tokensOf room n) i ≡ record { kind = endKind; text = []; place = 0 }
-token-past room n i h = List·getD-eq-default (tokensOf room n) _ (omega (arith, length-tokens room n))
+pub token-none : (room : List ℕ) (n i : ℕ) (d : Token) → n ≤ i → getD (tokensOf room n) i d ≡ d
+token-none room n i d h = List·getD-eq-default (tokensOf room n) d (omega (arith, length-tokens room n))
 
 -- ---- the row, kept
 

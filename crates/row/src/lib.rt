@@ -6,7 +6,7 @@ ghost use Prim.Native.Nat.{_≤_, _<_};
 ghost use lib.ListN.{length};
 ghost use lib.Dec.{eqb};
 ghost use Rattle.rules.specs.Numbers.{textMost};
-ghost use Rattle.rules.specs.Parsing.{tokenOf};
+ghost use Rattle.rules.specs.Parsing.{tokenOf, startOf};
 ghost use Rattle.row.specs.Row.{roomLeast, placeIn, sizeIn, noteIn, wordNote, tokenAt, tokensOf, Below, Laid, nameFrom, Renoted};
 
 // The row stands behind the unescaped bytes. A token's four bytes are its kind; its note, above the upper bits of its place; the lower bits of its
@@ -53,6 +53,18 @@ pub fn kind_at(room: &[u8], n: usize, i: usize) -> u8
         room[TEXT_MOST + ENTRY * i]
     } else {
         END_KIND
+    }
+}
+
+// Where the token at i of n starts in the text, and the end of the text past the last.
+pub fn place_at(room: &[u8], n: usize, i: usize, end: usize) -> usize
+    requires { ⌜ (n ≤ textMost) × (roomLeast ≤ length (now room)) ⌝ }
+    ensures { λ r. ⌜ r ≡ startOf end (tokensOf (now (room .entry)) n) i ⌝ }
+{
+    if i < n {
+        start_at(room, i)
+    } else {
+        end
     }
 }
 

@@ -75,7 +75,7 @@ pub record AllLeft : Type 0 where
 -- a refusal leaves answers and rows as they were; the room ends all zeros in every case
 abbrev pub leaveAll : Read (List (List ℕ)) → List ℕ → List ℕ → List ℕ → List ℕ → AllLeft
 leaveAll (refused r) l answers rows room = record {
-  answer = record { refusal = number r; written = 0; count = 0; rounds = 0 };
+  answer = record { refusal = number r; written = 0; count = 0; rounds = 0; place = 0 };
   answers = answers;
   rows = rows;
   room = zeros room;
@@ -83,7 +83,7 @@ leaveAll (refused r) l answers rows room = record {
 leaveAll (got qs) l answers rows room =
     let ts = turns qs l rows in
     record {
-      answer = record { refusal = 0; written = ts .written; count = length qs; rounds = 0 };
+      answer = record { refusal = 0; written = ts .written; count = length qs; rounds = 0; place = 0 };
       answers = ts .told ++ drop (length (ts .told)) answers;
       rows = ts .rows;
       room = zeros room;

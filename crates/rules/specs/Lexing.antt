@@ -4,7 +4,7 @@ use mathlib.Core.List.{List, [], _∷_}
 use mathlib.Core.Bool.{Bool, not, _&&_, cond}
 use lib.ListN.{length, getD, drop}
 use lib.Dec.{eqb}
-use Rattle.rules.specs.Numbers.{Read, got, refused, need, onRead, andThen, openQuote, nothingEscaped, rangeBracket, wildcard}
+use Rattle.rules.specs.Numbers.{Read, got, refused, need, onRead, andThen, faulty, openQuote, nothingEscaped, rangeBracket, wildcard}
 use Rattle.rules.specs.Bytes.{ascii, same, some}
 use Rattle.rules.specs.Analysis.{isSpace, endsTerm}
 
@@ -74,25 +74,31 @@ onText c (piece t s) = piece (c ∷ t) s
 unfoldable pub before : ℕ → Read Piece → Read Piece
 before c r = onRead (onText c) r
 
--- a term's text, up to a byte that ends it
-unfoldable pub termText : List ℕ → Read Piece
-termText [] = got (piece [] [])
-termText (c ∷ []) =
-    cond (endsTerm c) (got (piece [] (c ∷ []))) (cond (isBackslash c) (refused nothingEscaped) (got (piece (c ∷ []) [])))
-termText (c ∷ d ∷ s) =
-    let plain = before c (termText (d ∷ s)) in
-    let escaped = before d (termText s) in
+-- where s begins, with which a text of n bytes ends
+abbrev pub startIn : ℕ → List ℕ → ℕ
+startIn n s = n - length s
+
+-- a term's text, up to a byte that ends it; the text of n bytes ends with what it is read from
+unfoldable pub termText : ℕ → List ℕ → Read Piece
+termText n [] = got (piece [] [])
+termText n (c ∷ []) =
+    let dangling = refused (faulty nothingEscaped (startIn n (c ∷ []))) in
+    cond (endsTerm c) (got (piece [] (c ∷ []))) (cond (isBackslash c) dangling (got (piece (c ∷ []) [])))
+termText n (c ∷ d ∷ s) =
+    let plain = before c (termText n (d ∷ s)) in
+    let escaped = before d (termText n s) in
     let more = cond (isBackslash c) escaped plain in
     cond (endsTerm c) (got (piece [] (c ∷ d ∷ s))) more
 
--- a quoted text, up to the closing quote
-unfoldable pub quotedText : List ℕ → Read Piece
-quotedText [] = refused openQuote
-quotedText (c ∷ []) =
-    cond (isQuote c) (got (piece [] [])) (cond (isBackslash c) (refused nothingEscaped) (refused openQuote))
-quotedText (c ∷ d ∷ s) =
-    let plain = before c (quotedText (d ∷ s)) in
-    let escaped = before d (quotedText s) in
+-- a quoted text, up to the closing quote; the opening one stands at p
+unfoldable pub quotedText : ℕ → ℕ → List ℕ → Read Piece
+quotedText n p [] = refused (faulty openQuote p)
+quotedText n p (c ∷ []) =
+    let dangling = refused (faulty nothingEscaped (startIn n (c ∷ []))) in
+    cond (isQuote c) (got (piece [] [])) (cond (isBackslash c) dangling (refused (faulty openQuote p)))
+quotedText n p (c ∷ d ∷ s) =
+    let plain = before c (quotedText n p (d ∷ s)) in
+    let escaped = before d (quotedText n p s) in
     let more = cond (isBackslash c) escaped plain in
     cond (isQuote c) (got (piece [] (d ∷ s))) more
 
@@ -118,18 +124,18 @@ abbrev pub wordLexed : List ℕ → List ℕ → Lexed
 wordLexed t s = lexed (wordKind t) (cond (eqb (wordKind t) termKind) t []) s
 
 -- a term may not be followed by a wildcard
-unfoldable pub termEnd : Piece → Read Lexed
-termEnd (piece t []) = got (wordLexed t [])
-termEnd (piece t (c ∷ s)) = need (not (isWildcard c)) wildcard (got (wordLexed t (c ∷ s)))
+unfoldable pub termEnd : ℕ → Piece → Read Lexed
+termEnd n (piece t []) = got (wordLexed t [])
+termEnd n (piece t (c ∷ s)) = need (not (isWildcard c)) (faulty wildcard (startIn n (c ∷ s))) (got (wordLexed t (c ∷ s)))
 
 abbrev pub quotedEnd : Piece → Lexed
 quotedEnd (piece t s) = lexed quotedKind t s
 
-unfoldable pub termFrom : List ℕ → Read Lexed
-termFrom s = andThen (termText s) termEnd
+unfoldable pub termFrom : ℕ → List ℕ → Read Lexed
+termFrom n s = andThen (termText n s) (termEnd n)
 
-unfoldable pub quotedFrom : List ℕ → Read Lexed
-quotedFrom s = onRead quotedEnd (quotedText s)
+unfoldable pub quotedFrom : ℕ → ℕ → List ℕ → Read Lexed
+quotedFrom n p s = onRead quotedEnd (quotedText n p s)
 
 -- the kind of a token that is one byte, and endKind where c makes none
 unfoldable pub signKind : ℕ → ℕ
@@ -147,16 +153,17 @@ signKind c =
 abbrev pub doubled : ℕ → ℕ → List ℕ → Bool
 doubled x c s = eqb c x && eqb (getD s 0 0) x
 
--- the token that begins with c, before s
-unfoldable pub tokenAt : ℕ → List ℕ → Read Lexed
-tokenAt c s =
+-- the token that begins with c, before s, with which a text of n bytes ends
+unfoldable pub tokenAt : ℕ → ℕ → List ℕ → Read Lexed
+tokenAt n c s =
+    let p = startIn n (c ∷ s) in
     cond (not (eqb (signKind c) endKind)) (got (lexed (signKind c) [] s))
     (cond (doubled 0x26 c s) (got (lexed andKind [] (drop 1 s)))
     (cond (doubled 0x7c c s) (got (lexed orKind [] (drop 1 s)))
-    (cond (isQuote c) (quotedFrom s)
-    (cond (isBracket c) (refused rangeBracket)
-    (cond (isWildcard c) (refused wildcard)
-    (termFrom (c ∷ s)))))))
+    (cond (isQuote c) (quotedFrom n p s)
+    (cond (isBracket c) (refused (faulty rangeBracket p))
+    (cond (isWildcard c) (refused (faulty wildcard p))
+    (termFrom n (c ∷ s)))))))
 
 -- the token at p, and what `more` reads after it
 unfoldable pub tokenThen : ℕ → (List ℕ → Read (List Token)) → Lexed → Read (List Token)
@@ -167,7 +174,7 @@ unfoldable pub tokensStep : ℕ → (List ℕ → Read (List Token)) → List �
 tokensStep n more [] = got []
 tokensStep n more (c ∷ s) =
     let skipped = more s in
-    let token = andThen (tokenAt c s) (tokenThen (n - length (c ∷ s)) more) in
+    let token = andThen (tokenAt n c s) (tokenThen (startIn n (c ∷ s)) more) in
     cond (isSpace c) skipped token
 
 -- k bounds the bytes

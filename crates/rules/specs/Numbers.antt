@@ -166,16 +166,36 @@ floatTag = 0x45
 
 -- ---- refusals
 
--- a refusal is no bare number, so that none has the number of a success
+-- what is wrong with a text, met while it is lexed and parsed
+pub data Fault : Type 0 where
+  openQuote nothingEscaped : Fault
+  rangeBracket wildcard : Fault
+  fuzzyTerm sloppyPhrase : Fault
+  unexpectedEnd unexpectedToken : Fault
+  openBracket : Fault
+  badNumeral noNumeral : Fault
+  longField manyBrackets longNumeral : Fault
+
+abbrev pub faultNumber : Fault → ℕ
+faultNumber openQuote = 4
+faultNumber nothingEscaped = 5
+faultNumber rangeBracket = 6
+faultNumber wildcard = 7
+faultNumber fuzzyTerm = 8
+faultNumber sloppyPhrase = 9
+faultNumber unexpectedEnd = 10
+faultNumber unexpectedToken = 11
+faultNumber openBracket = 12
+faultNumber badNumeral = 13
+faultNumber noNumeral = 14
+faultNumber longField = 15
+faultNumber manyBrackets = 16
+faultNumber longNumeral = 17
+
+-- a refusal is no bare number, so that none has the number of a success; a fault stands at a place
 pub data Refusal : Type 0 where
   longText notAscii badSetup : Refusal
-  openQuote nothingEscaped : Refusal
-  rangeBracket wildcard : Refusal
-  fuzzyTerm sloppyPhrase : Refusal
-  unexpectedEnd unexpectedToken : Refusal
-  openBracket : Refusal
-  badNumeral noNumeral : Refusal
-  longField manyBrackets longNumeral : Refusal
+  faulty : Fault → ℕ → Refusal
   longAnswer : Refusal
   longQuery malformedQuery deepQuery : Refusal
   longList malformedList : Refusal
@@ -186,20 +206,7 @@ abbrev pub number : Refusal → ℕ
 number longText = 1
 number notAscii = 2
 number badSetup = 3
-number openQuote = 4
-number nothingEscaped = 5
-number rangeBracket = 6
-number wildcard = 7
-number fuzzyTerm = 8
-number sloppyPhrase = 9
-number unexpectedEnd = 10
-number unexpectedToken = 11
-number openBracket = 12
-number badNumeral = 13
-number noNumeral = 14
-number longField = 15
-number manyBrackets = 16
-number longNumeral = 17
+number (faulty f p) = faultNumber f
 number longAnswer = 18
 number longQuery = 19
 number malformedQuery = 20
@@ -208,6 +215,36 @@ number longList = 22
 number malformedList = 23
 number manyQueries = 24
 number shortRoom = 32
+
+-- the place of a fault; all other refusals give 0
+abbrev pub placeOf : Refusal → ℕ
+placeOf longText = 0
+placeOf notAscii = 0
+placeOf badSetup = 0
+placeOf (faulty f p) = p
+placeOf longAnswer = 0
+placeOf longQuery = 0
+placeOf malformedQuery = 0
+placeOf deepQuery = 0
+placeOf longList = 0
+placeOf malformedList = 0
+placeOf manyQueries = 0
+placeOf shortRoom = 0
+
+-- the same refusal, a fault's place counted anew by g
+abbrev pub moved : (ℕ → ℕ) → Refusal → Refusal
+moved g longText = longText
+moved g notAscii = notAscii
+moved g badSetup = badSetup
+moved g (faulty f p) = faulty f (g p)
+moved g longAnswer = longAnswer
+moved g longQuery = longQuery
+moved g malformedQuery = malformedQuery
+moved g deepQuery = deepQuery
+moved g longList = longList
+moved g malformedList = malformedList
+moved g manyQueries = manyQueries
+moved g shortRoom = shortRoom
 
 -- what is read, or the refusal
 pub data Read (A : Type 0) : Type 0 where
@@ -228,3 +265,8 @@ onRead f (refused r) = refused r
 abbrev pub andThen : {A B : Type 0} → Read A → (A → Read B) → Read B
 andThen (got a) f = f a
 andThen (refused r) f = refused r
+
+-- the same, with a fault's place counted anew by g
+abbrev pub placed : {A : Type 0} → (ℕ → ℕ) → Read A → Read A
+placed g (got a) = got a
+placed g (refused r) = refused (moved g r)

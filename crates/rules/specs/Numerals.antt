@@ -7,7 +7,7 @@ use mathlib.Core.Bool.{Bool, false, not, _||_, cond}
 use lib.ListN.{length}
 use lib.Dec.{leb, ltb, eqb}
 use lib.Ieee.{binary32, round, toBits}
-use Rattle.rules.specs.Numbers.{Read, got, refused, need, badNumeral, longNumeral, numeralMost}
+use Rattle.rules.specs.Numbers.{Read, got, refused, need, faulty, badNumeral, longNumeral, numeralMost}
 pub use Rattle.rules.specs.Bytes.{isDigit}
 use Rattle.rules.specs.Bytes.{ascii, same, isEmpty}
 use Rattle.rules.specs.Stored.{theNan}
@@ -93,13 +93,13 @@ signed minus p = cond minus (2 ^ 31) 0 + p
 
 -- the one NaN has no sign
 abbrev pub bitsOf : Bool → Numeral → Read ℕ
-bitsOf minus bad = refused badNumeral
+bitsOf minus bad = refused (faulty badNumeral 0)
 bitsOf minus infinite = got (signed minus infinity)
 bitsOf minus notNumber = got theNan
 bitsOf minus (decimal d u n) = got (signed minus (nearest (d * 10 ^ u) (10 ^ n)))
 
--- 17 before 13
+-- 17 before 13; both at the numeral's own start
 unfoldable pub numeralBits : List ℕ → Read ℕ
 numeralBits s =
     let bits = bitsOf (isMinus s) (unsigned (afterSign s)) in
-    need (leb (length s) numeralMost) longNumeral bits
+    need (leb (length s) numeralMost) (faulty longNumeral 0) bits

@@ -4,7 +4,7 @@ use mathlib.Core.List.{List, [], _∷_}
 use mathlib.Core.Bool.{Bool, not, _&&_, _||_, cond}
 use lib.ListN.{length, getD}
 use lib.Dec.{leb, ltb, eqb}
-use Rattle.rules.specs.Numbers.{Read, got, refused, need, onRead, andThen, longText, notAscii, fuzzyTerm, sloppyPhrase, unexpectedEnd, unexpectedToken, openBracket, noNumeral, longField, manyBrackets, textMost, fieldMost, bracketsMost, andOperator}
+use Rattle.rules.specs.Numbers.{Read, got, refused, need, onRead, andThen, placed, faulty, longText, notAscii, fuzzyTerm, sloppyPhrase, unexpectedEnd, unexpectedToken, openBracket, noNumeral, longField, manyBrackets, textMost, fieldMost, bracketsMost, andOperator}
 use Rattle.rules.specs.Bytes.{isText}
 use Rattle.rules.specs.Query.{Word, word, Kind, must, should, mustNot, filter, Query, term, phrase, boolean, boost, matchNone, Clauses, none, clause}
 use Rattle.rules.specs.Analysis.{tokenize}
@@ -36,6 +36,10 @@ isAt k ts i = eqb (tokenOf ts i .kind) k
 abbrev pub textAt : List Token → ℕ → List ℕ
 textAt ts i = tokenOf ts i .text
 
+-- where it starts; past the last token, where a text of n bytes ends
+abbrev pub startOf : ℕ → List Token → ℕ → ℕ
+startOf n ts i = getD ts i (record { kind = endKind; text = []; place = n }) .place
+
 -- ---- terms and phrases
 
 -- the kind of the default operator
@@ -66,47 +70,48 @@ phraseOf f [] = nothing
 phraseOf f (word p t ∷ []) = made (term f t)
 phraseOf f (v ∷ w ∷ ws) = made (phrase f (fromFirst (v ∷ w ∷ ws)))
 
--- ---- a clause, in the field f and below d open brackets; `sub` reads a query
+-- ---- a clause, in the field f and below d open brackets; `sub` reads a query. A fault is at a token, by its number.
 
 module _ (st : Setup) (ts : List Token) where
   -- a boost may follow
   unfoldable pub boostAt : Made → ℕ → Read Found
   boostAt m i =
-      let boosted = onRead (λ b. found (onMade (boost b) m) (i + 2)) (numeralBits (textAt ts (i + 1))) in
-      let taken = need (isAt termKind ts (i + 1)) noNumeral boosted in
+      let bits = placed (λ p. i + 1) (numeralBits (textAt ts (i + 1))) in
+      let boosted = onRead (λ b. found (onMade (boost b) m) (i + 2)) bits in
+      let taken = need (isAt termKind ts (i + 1)) (faulty noNumeral (i + 1)) boosted in
       cond (isAt caretKind ts i) taken (got (found m i))
 
   unfoldable pub plainAt : List ℕ → ℕ → Read Found
   plainAt f i =
       let m = termOf (st .operator) f (tokenize (analyzerOf st f) (textAt ts i)) in
-      need (not (isAt tildeKind ts (i + 1))) fuzzyTerm (boostAt m (i + 1))
+      need (not (isAt tildeKind ts (i + 1))) (faulty fuzzyTerm (i + 1)) (boostAt m (i + 1))
 
   unfoldable pub quotedAt : List ℕ → ℕ → Read Found
   quotedAt f i =
       let m = phraseOf f (tokenize (analyzerOf st f) (textAt ts i)) in
-      need (not (isAt tildeKind ts (i + 1))) sloppyPhrase (boostAt m (i + 1))
+      need (not (isAt tildeKind ts (i + 1))) (faulty sloppyPhrase (i + 1)) (boostAt m (i + 1))
 
   -- after the query in brackets
   unfoldable pub closedAt : Found → Read Found
-  closedAt (found m j) = need (isAt closeKind ts j) openBracket (boostAt m (j + 1))
+  closedAt (found m j) = need (isAt closeKind ts j) (faulty openBracket j) (boostAt m (j + 1))
 
   module _ (sub : List ℕ → ℕ → ℕ → Read Found) where
     unfoldable pub bracketAt : List ℕ → ℕ → ℕ → Read Found
     bracketAt f d i =
         let inner = andThen (sub f (suc d) (i + 1)) closedAt in
-        need (ltb d bracketsMost) manyBrackets inner
+        need (ltb d bracketsMost) (faulty manyBrackets i) inner
 
     unfoldable pub bodyAt : List ℕ → ℕ → ℕ → Read Found
     bodyAt f d i =
         cond (isAt termKind ts i) (plainAt f i)
         (cond (isAt openKind ts i) (bracketAt f d i)
         (cond (isAt quotedKind ts i) (quotedAt f i)
-        (cond (isAt endKind ts i) (refused unexpectedEnd) (refused unexpectedToken))))
+        (cond (isAt endKind ts i) (refused (faulty unexpectedEnd i)) (refused (faulty unexpectedToken i)))))
 
     -- a field name and a colon may stand before
     unfoldable pub clauseAt : List ℕ → ℕ → ℕ → Read Found
     clauseAt f d i =
-        let named = need (leb (length (textAt ts i)) fieldMost) longField (bodyAt (textAt ts i) d (i + 2)) in
+        let named = need (leb (length (textAt ts i)) fieldMost) (faulty longField i) (bodyAt (textAt ts i) d (i + 2)) in
         cond (isAt termKind ts i && isAt colonKind ts (i + 1)) named (bodyAt f d i)
 
 -- ---- a query: its clauses, kinds set as in `add_clause`
@@ -196,7 +201,7 @@ stopsAt ts i = isAt closeKind ts i || isAt endKind ts i
 
 -- the clauses from i on, with cs kept before them; n is above the number of unread tokens
 unfoldable pub parseClauses : Setup → List Token → ℕ → List ℕ → ℕ → Clauses → ℕ → Read Kept
-parseClauses st ts zero f d cs i = refused unexpectedEnd
+parseClauses st ts zero f d cs i = refused (faulty unexpectedEnd i)
 parseClauses st ts (suc n) f d cs i =
     let c = conjunctionAt cs ts i in
     let j = afterConjunction c i in
@@ -216,14 +221,14 @@ orMatchNone nothing = matchNone
 orMatchNone (made q) = q
 
 unfoldable pub wholeQuery : List Token → Found → Read Query
-wholeQuery ts (found m j) = need (isAt endKind ts j) unexpectedToken (got (orMatchNone m))
+wholeQuery ts (found m j) = need (isAt endKind ts j) (faulty unexpectedToken j) (got (orMatchNone m))
 
 unfoldable pub parseTokens : Setup → List Token → Read Query
 parseTokens st ts = andThen (parseQuery st ts (suc (length ts)) (st .field) 0 0) (wholeQuery ts)
 
--- 1, 2; then the whole text is lexed; then parsing
+-- 1, 2; then the whole text is lexed; then parsing, whose faults are where their tokens start
 unfoldable pub parse : Setup → List ℕ → Read Query
 parse st s =
-    let parsed = andThen (lex s) (parseTokens st) in
+    let parsed = andThen (lex s) (λ ts. placed (startOf (length s) ts) (parseTokens st ts)) in
     let plain = need (isText s) notAscii parsed in
     need (leb (length s) textMost) longText plain

@@ -4,7 +4,7 @@ use mathlib.Core.List.{List, [], _∷_, _++_}
 use mathlib.Core.Bool.{Bool, not, _&&_, _||_, cond}
 use lib.ListN.{drop}
 use lib.Dec.{ltb, eqb}
-use Rattle.rules.specs.Numbers.{number, Read, got, refused, need, onRead, andThen, badSetup, orOperator, andOperator, simpleAnalyzer}
+use Rattle.rules.specs.Numbers.{number, placeOf, Read, got, refused, need, onRead, andThen, badSetup, orOperator, andOperator, simpleAnalyzer}
 use Rattle.rules.specs.Bytes.{ascii, same, big, isEmpty}
 use Rattle.rules.specs.Query.{Word, word, Kind, must, should, mustNot, filter, Numbers, whole, float, Bound, unbounded, included, excluded, Query, term, phrase, boolean, boost, constantScore, matchAll, matchNone, range, Clauses, none, clause}
 use Rattle.rules.specs.Stored.{encode}
@@ -125,7 +125,7 @@ showParsed q = onRead (λ p. showRewritten p (rewrite original p)) (readForRewri
 
 abbrev pub orRefusal : Read (List ℕ) → List ℕ
 orRefusal (got s) = s
-orRefusal (refused r) = ascii "refused " ++ decimal (number r) ++ ascii "\n"
+orRefusal (refused r) = ascii "refused " ++ decimal (number r) ++ ascii " " ++ decimal (placeOf r) ++ ascii "\n"
 
 -- what the program writes for its input
 unfoldable pub showText : List ℕ → List ℕ

@@ -51,8 +51,8 @@ pub record Selects (s l before after : List ℕ) (r : Selected) : Type 0 where
 
 -- the paper's number and values for each case of the answer
 abbrev pub told : Selected → Answer
-told (Refused r) = record { refusal = r; written = 0; count = 0; rounds = 0 }
-told (Chosen n) = record { refusal = 0; written = 4 * n; count = n; rounds = 0 }
+told (Refused r) = record { refusal = r; written = 0; count = 0; rounds = 0; place = 0 }
+told (Chosen n) = record { refusal = 0; written = 4 * n; count = n; rounds = 0; place = 0 }
 
 -- the answer's case, its numbers, what the rows and the room hold afterwards; and a bound on the count, for a caller that narrows it
 pub record SelectsBytes (s l rows room rows-after room-after : List ℕ) (r : Selected) : Type 0 where

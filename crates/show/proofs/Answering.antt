@@ -9,7 +9,7 @@ use lib.ListN.{length, take, drop, length-append, length-take, length-drop}
 use lib.Seq.{take-at}
 use lib.Dec.{leb, eqb}
 use borrow.Author.Tests.{le-leb, lt-leb, leb-true, leb-false, eqb-true, eq-eqb, ne-eqb}
-use Rattle.rules.specs.Numbers.{Refusal, number, Read, got, refused, need, onRead, andThen, longAnswer, shortRoom, parseRoom, rewriteRoom, rewriterBytes, rewriterDepth, selectionBytes}
+use Rattle.rules.specs.Numbers.{Refusal, number, placeOf, Read, got, refused, need, onRead, andThen, longAnswer, shortRoom, parseRoom, rewriteRoom, rewriterBytes, rewriterDepth, selectionBytes}
 use Rattle.rules.specs.Bytes.{Bytes, ascii}
 use Rattle.rules.specs.Query.{Query}
 use Rattle.rules.specs.Stored.{encode, Valid}
@@ -18,7 +18,7 @@ use Rattle.rules.specs.Checked.{Is}
 use Rattle.rules.specs.Rewriting.{Rewritten, rewritten, weight, original, rewrite, resultOf, countOf}
 use Rattle.rules.specs.Show.{decimal, noKind, show, showRewritten, showParsed, orRefusal, showSetup, firstLine, secondLine, showText}
 use Rattle.rules.specs.Parsing.{parse}
-use Rattle.rules.specs.Answers.{Left, Reply, zeros, leave, fitting, call, storedReply, rewrittenReply, rewriteReply, rewriteLeft}
+use Rattle.rules.specs.Answers.{Left, Reply, zeros, leaveWith, leave, leaveAt, fitting, call, callAt, storedReply, rewrittenReply, rewriteReply, rewriteLeft}
 use Rattle.rules.proofs.stored.Refusals.{number-some}
 use Rattle.rules.proofs.stored.Parts.{none-empty, empty-nil}
 use Rattle.rules.proofs.stored.Sizes.{length-encode}
@@ -42,7 +42,7 @@ use Rattle.show.specs.declared.call.Shown.the-variants as shown
 use Rattle.show.proofs.Decimals.{decimal-long}
 use Rattle.show.proofs.Nodes.{query-in}
 use Rattle.show.proofs.Lengths.{show-length}
-use Rattle.show.proofs.Lows.{written-low}
+use Rattle.show.proofs.Lows.{written-low, read-nowhere}
 
 -- ---- the text, by what was parsed
 
@@ -54,14 +54,14 @@ written-text : (s : List ℕ) → showText s ≡ orRefusal (andThen (writtenIn s
 unfolding showText writtenIn
 written-text s = ap orRefusal (join (λ st. parse st (secondLine s)) (showSetup (firstLine s)))
 
-refused-text : (s : List ℕ) {r : Refusal} → writtenIn s ≡ refused r → showText s ≡ refusalText (number r)
+refused-text : (s : List ℕ) {r : Refusal} → writtenIn s ≡ refused r → showText s ≡ refusalText (number r) (placeOf r)
 unfolding refusalText
 refused-text s e = written-text s ∙ rw e
 
 -- ---- a refusal to be shown
 
-module _ {s : List ℕ} {r : ℕ} (n : r ≡ 0 → ⊥) (e : refusalText r ≡ showText s) where
-  pub makes-refused : (first second : List ℕ) (w v k : ℕ) → w ≤ length first → v ≤ length second → w ≤ 0xffff → v ≤ 0xffff → k ≤ 0xffff → Makes s r w first v second k
+module _ {s : List ℕ} {r p : ℕ} (n : r ≡ 0 → ⊥) (e : refusalText r p ≡ showText s) (near : p ≤ 0xffff) where
+  pub makes-refused : (first second : List ℕ) (w v k : ℕ) → w ≤ length first → v ≤ length second → w ≤ 0xffff → v ≤ 0xffff → k ≤ 0xffff → Makes s r p w first v second k
   unfolding answerText
   makes-refused first second w v k hw hv lf lv lk = record {
     in-first = hw;
@@ -72,55 +72,60 @@ module _ {s : List ℕ} {r : ℕ} (n : r ≡ 0 → ⊥) (e : refusalText r ≡ s
       short = omega (arith, length-take w first);
       shorter = omega (arith, length-take v second);
       few = lk;
+      near = near;
     };
     text = rw (ne-eqb r 0 n) e;
   }
 
 -- ---- what parsing answered
 
-leave-room : (o : Read Reply) (out room : List ℕ) → leave o out room .room ≡ zeros room
-leave-room (got a) out room = refl
-leave-room (refused r) out room = refl
+leave-room : (w : Refusal → ℕ) (o : Read Reply) (out room : List ℕ) → leaveWith w o out room .room ≡ zeros room
+leave-room w (got a) out room = refl
+leave-room w (refused r) out room = refl
 
 module _ (X : Read Query) (first room : List ℕ) (h : parseRoom ≤ length room) where
   abbrev whole : Left
-  whole = call parseRoom (onRead storedReply X) first room
+  whole = callAt parseRoom (onRead storedReply X) first room
 
-  called : whole ≡ leave (andThen (onRead storedReply X) (fitting (length first))) first room
-  unfolding call
+  called : whole ≡ leaveAt (andThen (onRead storedReply X) (fitting (length first))) first room
+  unfolding callAt
   called = rw (le-leb parseRoom (length room) h)
 
-  as-refused : {x : Refusal} → X ≡ refused x → whole ≡ leave (refused x) first room
+  as-refused : {x : Refusal} → X ≡ refused x → whole ≡ leaveAt (refused x) first room
   as-refused e = called ∙ rw e
 
-  as-fitting : {q : Query} → X ≡ got q → length (encode q) ≤ length first → whole ≡ leave (got (storedReply q)) first room
+  as-fitting : {q : Query} → X ≡ got q → length (encode q) ≤ length first → whole ≡ leaveAt (got (storedReply q)) first room
   as-fitting {q} e l = called ∙ rw (e, le-leb (length (encode q)) (length first) l)
 
-  as-long : {q : Query} → X ≡ got q → length first < length (encode q) → whole ≡ leave (refused longAnswer) first room
+  as-long : {q : Query} → X ≡ got q → length first < length (encode q) → whole ≡ leaveAt (refused longAnswer) first room
   as-long {q} e l = called ∙ rw (e, lt-leb (length (encode q)) (length first) l)
 
   pub parse-room : (p : parsed-type) (first′ room′ : List ℕ) → parsedLeft p first′ room′ ≡ whole → room′ ≡ zeros room
-  parse-room p first′ room′ E = ap (λ (l : Left). l .room) (E ∙ called) ∙ leave-room (andThen (onRead storedReply X) (fitting (length first))) first room
+  parse-room p first′ room′ E = ap (λ (l : Left). l .room) (E ∙ called) ∙ leave-room placeOf (andThen (onRead storedReply X) (fitting (length first))) first room
 
-  abbrev pub Unparsed : ℕ → Type 0
-  Unparsed e = ((x : Refusal) × (X ≡ refused x) × (e ≡ number x)) ⊎ ((q : Query) × (X ≡ got q) × (length first < length (encode q)) × (e ≡ 18))
+  abbrev pub Unparsed : ℕ → ℕ → Type 0
+  Unparsed e w =
+      ((x : Refusal) × (X ≡ refused x) × (e ≡ number x) × (w ≡ placeOf x)) ⊎ ((q : Query) × (X ≡ got q) × (length first < length (encode q)) × (e ≡ 18) × (w ≡ 0))
 
-  pub parse-refused : (e : ℕ) (first′ room′ : List ℕ) {p : parsed-type} → p ≡ parsed.Refused e → parsedLeft p first′ room′ ≡ whole → Unparsed e
-  parse-refused e first′ room′ ep Ep = by X refl
+  pub parse-refused : (e w : ℕ) (first′ room′ : List ℕ) {p : parsed-type} → p ≡ parsed.Refused e w → parsedLeft p first′ room′ ≡ whole → Unparsed e w
+  parse-refused e w first′ room′ ep Ep = by X refl
     where
-      E : parsedLeft (parsed.Refused e) first′ room′ ≡ whole
+      E : parsedLeft (parsed.Refused e w) first′ room′ ≡ whole
       E = ap (λ (p : parsed-type). parsedLeft p first′ room′) (sym ep) ∙ Ep
 
-      fits : (q : Query) → X ≡ got q → (b : Bool) → leb (length (encode q)) (length first) ≡ b → Unparsed e
+      fits : (q : Query) → X ≡ got q → (b : Bool) → leb (length (encode q)) (length first) ≡ b → Unparsed e w
       fits q eX true t =
           let z : 0 ≡ length (encode q) = ap (λ (l : Left). l .answer .written) (E ∙ as-fitting eX (leb-true (length (encode q)) (length first) t)) in
           absurd (omega (arith, length-encode q))
       fits q eX false t =
           let l = leb-false (length (encode q)) (length first) t in
-          inr (q, eX, l, ap (λ (l : Left). l .answer .refusal) (E ∙ as-long eX l))
+          let F = E ∙ as-long eX l in
+          inr (q, eX, l, ap (λ (l : Left). l .answer .refusal) F, ap (λ (l : Left). l .answer .place) F)
 
-      by : (o : Read Query) → X ≡ o → Unparsed e
-      by (refused x) eX = inl (x, eX, ap (λ (l : Left). l .answer .refusal) (E ∙ as-refused eX))
+      by : (o : Read Query) → X ≡ o → Unparsed e w
+      by (refused x) eX =
+          let F = E ∙ as-refused eX in
+          inl (x, eX, ap (λ (l : Left). l .answer .refusal) F, ap (λ (l : Left). l .answer .place) F)
       by (got q) eX = fits q eX (leb (length (encode q)) (length first)) refl
 
   pub record Parsed (n : ℕ) (first′ : List ℕ) : Type 0 where
@@ -161,17 +166,17 @@ module _ (X : Read Query) (first room : List ℕ) (h : parseRoom ≤ length room
     pub parsed-length : (n ≤ length first′) × (length first′ ≡ length first)
     parsed-length = omega (arith, ap length (P .there), length-append (encode (P .query)) (drop n first), length-drop n first, P .long, P .fits)
 
--- a refusal of parsing is shown by its number, and 19 where the query is too long for its stretch
-pub unparsed : (s first room : List ℕ) (h : parseRoom ≤ length room) {e r : ℕ} → length first ≡ rewriterBytes → Unparsed (writtenIn s) first room h e → r ≡ shownRefusal e
-    → (r ≡ 0 → ⊥) × (refusalText r ≡ showText s)
+-- a refusal of parsing is shown by its number and its place, and 19 where the query is too long for its stretch
+pub unparsed : (s first room : List ℕ) (h : parseRoom ≤ length room) {e w r p : ℕ} → length first ≡ rewriterBytes → Unparsed (writtenIn s) first room h e w → r ≡ shownRefusal e → p ≡ w
+    → (r ≡ 0 → ⊥) × (refusalText r p ≡ showText s)
 unfolding showParsed refusalText
-unparsed s first room h {e} {r} lf (inl (x, eX, ee)) er =
+unparsed s first room h {e} {w} {r} {p} lf (inl (x, eX, ee, ew)) er ep =
     let low = written-low s x eX in
     let n : r ≡ number x = er ∙ ap shownRefusal ee ∙ rw (ne-eqb (number x) 18 (λ z. omega arith)) in
-    ((λ z. number-some x (sym n ∙ z)), ap refusalText n ∙ sym (refused-text s eX))
-unparsed s first room h {e} {r} lf (inr (q, eX, l, ee)) er =
+    ((λ z. number-some x (sym n ∙ z)), ap (λ (k : ℕ). refusalText k p) n ∙ ap (refusalText (number x)) (ep ∙ ew) ∙ sym (refused-text s eX))
+unparsed s first room h {e} {w} {r} {p} lf (inr (q, eX, l, ee, ew)) er ep =
     let n : r ≡ 19 = er ∙ ap shownRefusal ee in
-    ((λ z. omega arith), ap refusalText n ∙ sym (written-text s ∙ rw (eX, read-long rewriterBytes rewriterDepth (encode q) (omega arith))))
+    ((λ z. omega arith), ap (λ (k : ℕ). refusalText k p) n ∙ ap (refusalText 19) (ep ∙ ew) ∙ sym (written-text s ∙ rw (eX, read-long rewriterBytes rewriterDepth (encode q) (omega arith))))
 
 -- ---- what rewriting answered
 
@@ -182,17 +187,18 @@ module _ (s : List ℕ) {q : Query} (eX : writtenIn s ≡ got q) (w second room 
 
   module _ {r len k n : ℕ} {first second′ room′ : List ℕ} (E : left r len k second′ room′ ≡ rewriteLeft original w second room)
       (ew : take n first ≡ w) (hn : n ≤ length first) (hf : length first ≤ 0xffff) where
-    refused-left : {x : Refusal} → readForRewriting w ≡ refused x → Makes s r n first len second′ k
+    refused-left : {x : Refusal} → readForRewriting w ≡ refused x → Makes s r 0 n first len second′ k
     unfolding rewriteLeft rewriteReply call refusalText
     refused-left {x} f =
         let F : left r len k second′ room′ ≡ leave (refused x) second room = E ∙ rw (le-leb rewriteRoom (length room) hr, f) in
         let a : r ≡ number x = ap (λ (l : Left). l .answer .refusal) F in
         let b : len ≡ 0 = ap (λ (l : Left). l .answer .written) F in
         let c : k ≡ 0 = ap (λ (l : Left). l .answer .rounds) F in
-        makes-refused (λ z. number-some x (sym a ∙ z)) (ap refusalText a ∙ sym (text-is ∙ rw f)) first second′ n len k hn (omega arith) (omega arith) (omega arith) (omega arith)
+        let d = read-nowhere rewriterBytes rewriterDepth w x f in
+        makes-refused (λ z. number-some x (sym a ∙ z)) (ap (λ (k : ℕ). refusalText k 0) a ∙ ap (refusalText (number x)) (sym d) ∙ sym (text-is ∙ rw f)) (omega arith) first second′ n len k hn (omega arith) (omega arith) (omega arith) (omega arith)
 
     made-left : (x : Rewritten) (p : Query) → Is w p → readForRewriting w ≡ got p → rewrite original p ≡ x → Valid (resultOf x) → length (encode (resultOf x)) ≤ 0xffff
-        → countOf x ≤ 0xffff → Makes s r n first len second′ k
+        → countOf x ≤ 0xffff → Makes s r 0 n first len second′ k
     unfolding rewriteLeft rewriteReply call answerText
     made-left (rewritten p′ m) p i f g v lv lm =
         let F : left r len k second′ room′ ≡ leave (got (rewrittenReply (rewritten p′ m))) second room =
@@ -213,14 +219,15 @@ module _ (s : List ℕ) {q : Query} (eX : writtenIn s ≡ got q) (w second room 
             short = omega (arith, length-take n first);
             shorter = omega (arith, ap length t);
             few = omega arith;
+            near = omega arith;
           };
           text = rw (eq-eqb r 0 a, query-in u, query-in j, c) (sym (text-is ∙ rw (f, g)));
         }
 
-    pub makes-rewritten : Bytes w → Makes s r n first len second′ k
+    pub makes-rewritten : Bytes w → Makes s r 0 n first len second′ k
     makes-rewritten B = by (readForRewriting w) refl
       where
-        by : (o : Read Query) → readForRewriting w ≡ o → Makes s r n first len second′ k
+        by : (o : Read Query) → readForRewriting w ≡ o → Makes s r 0 n first len second′ k
         by (refused x) f = refused-left f
         by (got p) f =
             let R = read-sound rewriterBytes rewriterDepth w p B f in
@@ -234,9 +241,9 @@ both-length : (a b c : List ℕ) → length (ascii "written\n" ++ a ++ ascii "re
 unfolding ascii
 both-length a b c = simp length-append (omega arith)
 
-refusal-length : (r : ℕ) → length (refusalText r) ≤ 10 + r
+refusal-length : (r p : ℕ) → length (refusalText r p) ≤ 12 + r + p
 unfolding refusalText ascii
-refusal-length r = simp length-append (omega (arith, decimal-long r))
+refusal-length r p = simp length-append (omega (arith, decimal-long r, decimal-long p))
 
 kindless : length noKind ≤ 7
 unfolding ascii
@@ -248,9 +255,9 @@ unfolding showRewritten
 rewritten-length p q n vp vq lp lq ln =
     omega (arith, both-length (show 0 noKind p) (decimal n) (show 0 noKind q), show-length p 0 noKind vp (omega arith) kindless, show-length q 0 noKind vq (omega arith) kindless, decimal-long n)
 
-pub answer-length : {r : ℕ} {w v : List ℕ} {n : ℕ} → ToSay r w v n → r ≤ 0xff → 0 + length (answerText r w v n) ≤ placeMost
+pub answer-length : {r p : ℕ} {w v : List ℕ} {n : ℕ} → ToSay r p w v n → r ≤ 0xff → 0 + length (answerText r p w v n) ≤ placeMost
 unfolding answerText
-answer-length {r} {w} {v} {n} T h = by (eqb r 0) refl
+answer-length {r} {p} {w} {v} {n} T h = by (eqb r 0) refl
   where
     both : r ≡ 0 → length (showRewritten (queryIn w) (rewritten (queryIn v) n)) ≤ 0x1000_0000_0000_0000
     both z =
@@ -259,9 +266,9 @@ answer-length {r} {w} {v} {n} T h = by (eqb r 0) refl
         rw (query-in (W .is), query-in (U .is))
         (rewritten-length (W .query) (U .query) n (W .is .valid) (U .is .valid) (omega (arith, T .short, ap length (W .is .form))) (omega (arith, T .shorter, ap length (U .is .form))) (T .few))
 
-    by : (b : Bool) → eqb r 0 ≡ b → 0 + length (cond b (showRewritten (queryIn w) (rewritten (queryIn v) n)) (refusalText r)) ≤ placeMost
+    by : (b : Bool) → eqb r 0 ≡ b → 0 + length (cond b (showRewritten (queryIn w) (rewritten (queryIn v) n)) (refusalText r p)) ≤ placeMost
     by true e = omega (arith, both (eqb-true r 0 e))
-    by false e = omega (arith, refusal-length r)
+    by false e = omega (arith, refusal-length r p, T .near)
 
 -- ---- delivery
 
@@ -310,15 +317,15 @@ short-left s out room room′ h z = rw (lt-leb rewriteRoom (length room) h, z)
 
 pub rewrite-room : (w out room : List ℕ) {r len k : ℕ} {out′ room′ : List ℕ} → left r len k out′ room′ ≡ rewriteLeft original w out room → room′ ≡ zeros room
 unfolding rewriteLeft call
-rewrite-room w out room E = ap (λ (l : Left). l .room) E ∙ leave-room (need (leb rewriteRoom (length room)) shortRoom (andThen (rewriteReply original w) (fitting (length out)))) out room
+rewrite-room w out room E = ap (λ (l : Left). l .room) E ∙ leave-room (λ x. 0) (need (leb rewriteRoom (length room)) shortRoom (andThen (rewriteReply original w) (fitting (length out)))) out room
 
 -- what was made, however code cuts its stretches
-module _ {s : List ℕ} {r w : ℕ} {first : List ℕ} {v : ℕ} {second : List ℕ} {n : ℕ} (M : Makes s r w first v second n) where
+module _ {s : List ℕ} {r p w : ℕ} {first : List ℕ} {v : ℕ} {second : List ℕ} {n : ℕ} (M : Makes s r p w first v second n) where
   cut : (k : ℕ) → k - 0 ≡ k
   cut k = omega arith
 
-  pub made-to-say : ToSay r (take (w - 0) first) (take (v - 0) second) n
+  pub made-to-say : ToSay r p (take (w - 0) first) (take (v - 0) second) n
   made-to-say = rw (cut w, cut v) (M .to-say)
 
-  pub made-text : answerText r (take (w - 0) first) (take (v - 0) second) n ≡ showText s
+  pub made-text : answerText r p (take (w - 0) first) (take (v - 0) second) n ≡ showText s
   made-text = rw (cut w, cut v) (M .text)

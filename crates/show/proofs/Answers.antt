@@ -44,8 +44,8 @@ text-some s = by (showSetup (firstLine s))
     by (got st) = then (parse st (secondLine s))
     by (refused x) = omega arith
 
-told : (p : Shown) → Telling (answerOf p) → ofAnswer Refused Bytes (answerOf p) ≡ p
-told (Refused n) t = refusal-told Refused Bytes n t
+told : (p : Shown) → Telling (answerOf p) → ofAnswer (λ n w. Refused n) Bytes (answerOf p) ≡ p
+told (Refused n) t = refusal-told (λ n w. Refused n) Bytes n 0 t
 told (Bytes n) t = refl
 
 module _ (s out room : List ℕ) {out′ room′ out″ room″ : List ℕ} {p q : Shown} where
@@ -54,7 +54,7 @@ module _ (s out room : List ℕ) {out′ room′ out″ room″ : List ℕ} {p q
   no-second-show P Q =
       let e = P ∙ sym Q in
       let t = call-telling rewriteRoom (got (textReply (showText s))) out room (λ a h. subst (λ b. 0 < length (b .bytes)) (got-same h) (text-some s)) in (
-        same-answer answerOf (ofAnswer Refused Bytes) told p q (ap (λ (x : Left). x .answer) e) (subst Telling (sym (ap (λ (x : Left). x .answer) P)) t),
+        same-answer answerOf (ofAnswer (λ n w. Refused n) Bytes) told p q (ap (λ (x : Left). x .answer) e) (subst Telling (sym (ap (λ (x : Left). x .answer) P)) t),
         ap (λ (x : Left). x .output) e,
         ap (λ (x : Left). x .room) e,
       )

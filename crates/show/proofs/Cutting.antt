@@ -14,7 +14,7 @@ use Rattle.rules.specs.Analysis.{front, after}
 use Rattle.rules.specs.Setup.{Setup, readSetup, entriesIn, setupWith, isSetup}
 use Rattle.rules.specs.Parsing.{parse}
 use Rattle.rules.specs.Show.{inWord, firstLine, secondLine, operatorIn, showSetup}
-use Rattle.rules.specs.Answers.{call, storedReply, parseReply, parseLeft}
+use Rattle.rules.specs.Answers.{callAt, storedReply, parseReply, parseLeft}
 use Rattle.rules.proofs.stored.Parts.{cut-from, none-empty, some-empty}
 use Rattle.rules.proofs.text.Pieces.{front-yes, front-no, front-nil, front-is, after-is, front-after, front-most}
 use Rattle.show.specs.Lines.{other, operatorNumber, lineOperator, writtenIn}
@@ -113,8 +113,8 @@ show-setup s = by (isEmpty (after inWord s)) (same (front inWord s) (ascii "or")
 
 -- what parsing is called with
 pub lines-parsed : (s line field es text out room : List ℕ) (o : ℕ) → line ≡ firstLine s → o ≡ lineOperator line → field ≡ drop 1 (after inWord line) → es ≡ []
-    → text ≡ secondLine s → parseLeft o simpleAnalyzer field es text out room ≡ call parseRoom (onRead storedReply (writtenIn s)) out room
+    → text ≡ secondLine s → parseLeft o simpleAnalyzer field es text out room ≡ callAt parseRoom (onRead storedReply (writtenIn s)) out room
 unfolding parseLeft parseReply writtenIn
 lines-parsed s line field es text out room o el eo ef ee et =
     rw (eo, ef, ee, et, el)
-    (ap (λ (r : Read Setup). call parseRoom (onRead storedReply (andThen r (λ st. parse st (secondLine s)))) out room) (show-setup (firstLine s)))
+    (ap (λ (r : Read Setup). callAt parseRoom (onRead storedReply (andThen r (λ st. parse st (secondLine s)))) out room) (show-setup (firstLine s)))

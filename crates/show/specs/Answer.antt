@@ -19,26 +19,27 @@ use Rattle.show.specs.declared.call.Shown.the-variants.{Refused, Bytes}
 abbrev pub shownRefusal : ℕ → ℕ
 shownRefusal e = cond (eqb e (number longAnswer)) (number longQuery) e
 
-unfoldable pub refusalText : ℕ → List ℕ
-refusalText r = ascii "refused " ++ decimal r ++ ascii "\n"
+unfoldable pub refusalText : ℕ → ℕ → List ℕ
+refusalText r p = ascii "refused " ++ decimal r ++ ascii " " ++ decimal p ++ ascii "\n"
 
--- the text, from a refusal's number or 0, both stored queries and the rounds
-unfoldable pub answerText : ℕ → List ℕ → List ℕ → ℕ → List ℕ
-answerText r w v n = cond (eqb r 0) (showRewritten (queryIn w) (rewritten (queryIn v) n)) (refusalText r)
+-- the text, from a refusal's number or 0, its place, both stored queries and the rounds
+unfoldable pub answerText : ℕ → ℕ → List ℕ → List ℕ → ℕ → List ℕ
+answerText r p w v n = cond (eqb r 0) (showRewritten (queryIn w) (rewritten (queryIn v) n)) (refusalText r p)
 
-pub record ToSay (r : ℕ) (w v : List ℕ) (n : ℕ) : Type 0 where
+pub record ToSay (r p : ℕ) (w v : List ℕ) (n : ℕ) : Type 0 where
   pub written : r ≡ 0 → Stored w
   pub rewritten : r ≡ 0 → Stored v
   pub short : length w ≤ 0xffff
   pub shorter : length v ≤ 0xffff
   pub few : n ≤ 0xffff
+  pub near : p ≤ 0xffff
 
 -- the text of the input s is that of what was made, with w bytes in the first stretch and v in the second
-pub record Makes (s : List ℕ) (r w : ℕ) (first : List ℕ) (v : ℕ) (second : List ℕ) (n : ℕ) : Type 0 where
+pub record Makes (s : List ℕ) (r p w : ℕ) (first : List ℕ) (v : ℕ) (second : List ℕ) (n : ℕ) : Type 0 where
   pub in-first : w ≤ length first
   pub in-second : v ≤ length second
-  pub to-say : ToSay r (take w first) (take v second) n
-  pub text : answerText r (take w first) (take v second) n ≡ showText s
+  pub to-say : ToSay r p (take w first) (take v second) n
+  pub text : answerText r p (take w first) (take v second) n ≡ showText s
 
 -- ---- the public call
 
@@ -50,8 +51,8 @@ unfoldable pub showLeft : List ℕ → List ℕ → List ℕ → Left
 showLeft s output room = call rewriteRoom (got (textReply (showText s))) output room
 
 abbrev pub answerOf : Shown → Answer
-answerOf (Refused r) = record { refusal = r; written = 0; count = 0; rounds = 0 }
-answerOf (Bytes n) = record { refusal = 0; written = n; count = 0; rounds = 0 }
+answerOf (Refused r) = record { refusal = r; written = 0; count = 0; rounds = 0; place = 0 }
+answerOf (Bytes n) = record { refusal = 0; written = n; count = 0; rounds = 0; place = 0 }
 
 abbrev pub leftOf : Shown → List ℕ → List ℕ → Left
 leftOf p output room = record { answer = answerOf p; output = output; room = room }

@@ -6,11 +6,12 @@ use parser::parse::Parsed;
 use parser::parse::parse;
 use stretches::same;
 ghost use mathlib.Core.Path.{_≡_};
+ghost use Prim.Native.Nat.{_≤_};
 ghost use lib.ListN.{length, drop};
-ghost use Rattle.rules.specs.Numbers.{onRead, parseRoom};
+ghost use Rattle.rules.specs.Numbers.{onRead, parseRoom, textMost};
 ghost use Rattle.rules.specs.Analysis.{front, after};
-ghost use Rattle.rules.specs.Answers.{call, storedReply};
-ghost use Rattle.parser.specs.Parsed.{leftOf};
+ghost use Rattle.rules.specs.Answers.{callAt, storedReply};
+ghost use Rattle.parser.specs.Parsed.{answerOf, leftOf};
 ghost use Rattle.show.specs.Lines.{other, operatorNumber, lineOperator, writtenIn};
 
 // Where the first byte b is, or the end.
@@ -73,7 +74,8 @@ fn line_operator(line: &[u8]) -> u8
 }
 
 pub fn parse_lines(input: &[u8], out: &mut [u8], room: &mut [u8]) -> Parsed
-    ensures { λ r. ⌜ leftOf r (now (out .exit)) (now (room .exit)) ≡ call parseRoom (onRead storedReply (writtenIn (now (input .entry)))) (now (out .entry)) (now (room .entry)) ⌝ }
+    ensures is { λ r. ⌜ leftOf r (now (out .exit)) (now (room .exit)) ≡ callAt parseRoom (onRead storedReply (writtenIn (now (input .entry)))) (now (out .entry)) (now (room .entry)) ⌝ }
+    ensures near { λ r. ⌜ answerOf r .place ≤ textMost ⌝ }
 {
     let line = before(input, b'\n');
     let text = before(behind(input, b'\n'), b'\n');

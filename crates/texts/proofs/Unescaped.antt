@@ -9,7 +9,7 @@ use native.Mathlib.Nat.{add-zero}
 use native.Mathlib.Numerals.{add-one}
 use lib.ListN.{length, getD, take, drop, set, length-set, length-drop, drop-of-length-le}
 use lib.Seq.{drop-cons, drop-set-add, take-suc-set, take-set-le, drop-set-lt}
-use Rattle.rules.specs.Numbers.{Refusal, number, openQuote, nothingEscaped, textMost, Read, got, refused, onRead}
+use Rattle.rules.specs.Numbers.{Fault, faultNumber, faulty, openQuote, nothingEscaped, textMost, Read, got, refused, onRead}
 use Rattle.rules.specs.Lexing.{Piece, piece, before, isQuote, isBackslash, termText, quotedText}
 use Rattle.rules.specs.Bytes.{all}
 use Rattle.rules.specs.Analysis.{endsTerm, isLetter}
@@ -34,7 +34,7 @@ front-more u c (refused f) = refl
 
 -- ---- one byte more
 
-module _ (F : List ℕ → Read Piece) (stop : ℕ → Bool) (U : Unescaping F stop) (text : List ℕ) (i j : ℕ) (h : i < length text)
+module _ (F : List ℕ → Read Piece) (stop : ℕ → Bool) (text : List ℕ) (U : Unescaping (length text) F stop) (i j : ℕ) (h : i < length text)
     (go : stop (getD text i 0) ≡ false) (e : j ≡ i + cond (isBackslash (getD text i 0)) 1 0) where
   pub next-byte : j < length text → F (drop i text) ≡ before (getD text j 0) (F (drop (j + 1) text))
   next-byte l = ⊎-elim escaped plain (split (isBackslash (getD text i 0)))
@@ -49,16 +49,17 @@ module _ (F : List ℕ → Read Piece) (stop : ℕ → Bool) (U : Unescaping F s
           let k : j ≡ i = e ∙ rw b (add-zero i) in
           rw (k, add-one, drop-cons text i 0 h) (U .plain (getD text i 0) (drop (suc i) text) go b)
 
-  pub no-byte : length text ≤ j → F (drop i text) ≡ refused nothingEscaped
+  pub no-byte : length text ≤ j → F (drop i text) ≡ refused (faulty nothingEscaped i)
   no-byte l = ⊎-elim escaped plain (split (isBackslash (getD text i 0)))
     where
-      escaped : isBackslash (getD text i 0) ≡ true → F (drop i text) ≡ refused nothingEscaped
+      escaped : isBackslash (getD text i 0) ≡ true → F (drop i text) ≡ refused (faulty nothingEscaped i)
       escaped b =
           let k : j ≡ suc i = e ∙ rw b (add-one i) in
           let n : length text ≤ suc i = omega arith in
-          rw (drop-cons text i 0 h, drop-of-length-le text n) (U .dangling (getD text i 0) go b)
+          let p : length text - 1 ≡ i = omega arith in
+          rw (drop-cons text i 0 h, drop-of-length-le text n) (rw p at (U .dangling (getD text i 0) go b))
 
-      plain : isBackslash (getD text i 0) ≡ false → F (drop i text) ≡ refused nothingEscaped
+      plain : isBackslash (getD text i 0) ≡ false → F (drop i text) ≡ refused (faulty nothingEscaped i)
       plain b = absurd (let k : j ≡ i + 0 = e ∙ rw b in omega arith)
 
 -- ---- a turn of the loop
@@ -119,21 +120,22 @@ module _ (F : List ℕ → Read Piece) {o : Read Piece} (text : List ℕ) (at : 
         let u = take len (drop at room) in
         (r .kept, (r .whole ∙ rw e (ap (λ (t : List ℕ). got (piece t (drop k text))) (append-nil u)), l, omega arith, λ e. clash e refl))
 
-    pub reading-fault : (f : Refusal) → F (drop i text) ≡ refused f → Kept at room₀ room × Reads (Refused (number f)) o text at room
-    reading-fault f e = (r .kept, (f, r .whole ∙ rw e, refl))
+    pub reading-fault : (f : Fault) (p : ℕ) → F (drop i text) ≡ refused (faulty f p) → p < length text
+        → Kept at room₀ room × Reads (Refused (faultNumber f) p) o text at room
+    reading-fault f p e l = (r .kept, (f, r .whole ∙ rw e, refl, l))
 
     -- a byte is read that does not end it
-    module _ (stop : ℕ → Bool) (U : Unescaping F stop) (x : ℕ) (h : i < length text) (go : stop (getD text i 0) ≡ false)
+    module _ (stop : ℕ → Bool) (U : Unescaping (length text) F stop) (x : ℕ) (h : i < length text) (go : stop (getD text i 0) ≡ false)
         (e : x ≡ cond (isBackslash (getD text i 0)) 1 0) where
       pub reading-turn : i + x < length text → length text ≤ textMost → roomLeast ≤ length room₀
           → Reading F o text at room₀ (set room (at + len) (getD text (i + x) 0)) (i + x + 1) (len + 1)
       reading-turn l m n =
           let a = r .as-long in
-          reading-more (getD text (i + x) 0) (i + x + 1) (next-byte F stop U text i (i + x) h go (ap (λ (y : ℕ). i + y) e) l)
+          reading-more (getD text (i + x) 0) (i + x + 1) (next-byte F stop text U i (i + x) h go (ap (λ (y : ℕ). i + y) e) l)
           (omega arith) (omega arith) m (omega arith)
 
-      pub reading-dangling : length text ≤ i + x → Kept at room₀ room × Reads (Refused 5) o text at room
-      reading-dangling l = reading-fault nothingEscaped (no-byte F stop U text i (i + x) h go (ap (λ (y : ℕ). i + y) e) l)
+      pub reading-dangling : length text ≤ i + x → Kept at room₀ room × Reads (Refused 5 i) o text at room
+      reading-dangling l = reading-fault nothingEscaped i (no-byte F stop text U i (i + x) h go (ap (λ (y : ℕ). i + y) e) l) h
 
 -- ---- the ends of both
 
@@ -142,19 +144,19 @@ escape-most true = omega arith
 escape-most false = omega arith
 
 module _ (text : List ℕ) (i : ℕ) where
-  pub term-ends : i < length text → endsTerm (getD text i 0) ≡ true → termText (drop i text) ≡ got (piece [] (drop i text))
-  term-ends h e = rw (drop-cons text i 0 h) (term-stop (getD text i 0) (drop (suc i) text) e)
+  pub term-ends : i < length text → endsTerm (getD text i 0) ≡ true → termText (length text) (drop i text) ≡ got (piece [] (drop i text))
+  term-ends h e = rw (drop-cons text i 0 h) (term-stop (length text) (getD text i 0) (drop (suc i) text) e)
 
-  pub term-over : length text ≤ i → termText (drop i text) ≡ got (piece [] (drop i text))
+  pub term-over : length text ≤ i → termText (length text) (drop i text) ≡ got (piece [] (drop i text))
   unfolding termText
   term-over h = rw (drop-of-length-le text h)
 
-  pub quote-ends : i < length text → isQuote (getD text i 0) ≡ true → quotedText (drop i text) ≡ got (piece [] (drop (i + 1) text))
-  quote-ends h e = rw (drop-cons text i 0 h, add-one) (quoted-stop (getD text i 0) (drop (suc i) text) e)
+  pub quote-ends : (p : ℕ) → i < length text → isQuote (getD text i 0) ≡ true → quotedText (length text) p (drop i text) ≡ got (piece [] (drop (i + 1) text))
+  quote-ends p h e = rw (drop-cons text i 0 h, add-one) (quoted-stop (length text) p (getD text i 0) (drop (suc i) text) e)
 
-  pub quote-over : length text ≤ i → quotedText (drop i text) ≡ refused openQuote
+  pub quote-over : (p : ℕ) → length text ≤ i → quotedText (length text) p (drop i text) ≡ refused (faulty openQuote p)
   unfolding quotedText
-  quote-over h = rw (drop-of-length-le text h)
+  quote-over p h = rw (drop-of-length-le text h)
 
 -- ---- letters first
 
@@ -166,7 +168,7 @@ all-more P (x ∷ s) c h k = both (and-l (P x) (all P s) h) (all-more P s c (and
 -- the bytes from `at` to i are letters, and each stands in the room at its own place
 pub record Spelling (text : List ℕ) (at : ℕ) (room₀ room : List ℕ) (i : ℕ) : Type 0 where
   pub onward : at ≤ i
-  pub reading : Reading termText (termText (drop at text)) text at room₀ room i (i - at)
+  pub reading : Reading (termText (length text)) (termText (length text) (drop at text)) text at room₀ room i (i - at)
   pub letters : all isLetter (take (i - at) (drop at room)) ≡ true
 
 module _ (text : List ℕ) (at : ℕ) where
@@ -176,7 +178,7 @@ module _ (text : List ℕ) (at : ℕ) where
       let e : 0 ≡ at - at = omega arith in
       record {
         onward = omega arith;
-        reading = rw e at (reading-none termText text at at room (omega arith) h);
+        reading = rw e at (reading-none (termText (length text)) text at at room (omega arith) h);
         letters = rw (← e);
       }
 
@@ -191,8 +193,8 @@ module _ (text : List ℕ) (at : ℕ) where
         let none : i + 0 ≡ i = add-zero i in
         let here : at + (i - at) ≡ i = omega arith in
         let next : i - at + 1 ≡ i + 1 - at = omega arith in
-        let turn : Reading termText (termText (drop at text)) text at room₀ (set room i v) (i + 1) (i - at + 1) =
-        rw (none, here) at (reading-turn termText text at (S .reading) endsTerm term-unescapes 0 h n (rw back) (omega arith) m l) in
+        let turn : Reading (termText (length text)) (termText (length text) (drop at text)) text at room₀ (set room i v) (i + 1) (i - at + 1) =
+        rw (none, here) at (reading-turn (termText (length text)) text at (S .reading) endsTerm (term-unescapes (length text)) 0 h n (rw back) (omega arith) m l) in
         let o : i - at < length (drop at room) = rw length-drop (omega arith) in
         let p : take (i - at + 1) (drop at (set room (at + (i - at)) v)) ≡ take (i - at) (drop at room) ++ (v ∷ []) =
         rw (add-one, drop-set-add at room (i - at) v) (take-suc-set (drop at room) (i - at) v o) in
@@ -206,7 +208,7 @@ module _ (text : List ℕ) (at : ℕ) where
 
   -- what is read behind the letters
   module _ {i : ℕ} {room : List ℕ} (L : Letters text at i room) where
-    pub letters-only : termText (drop i text) ≡ got (piece [] (drop i text)) → Reads (At i (i - at) true) (termText (drop at text)) text at room
+    pub letters-only : termText (length text) (drop i text) ≡ got (piece [] (drop i text)) → Reads (At i (i - at) true) (termText (length text) (drop at text)) text at room
     letters-only e =
         let w = L .onward in (
           L .whole ∙ rw e (ap (λ (t : List ℕ). got (piece t (drop i text))) (append-nil (take (i - at) (drop at room)))),
@@ -215,8 +217,8 @@ module _ (text : List ℕ) (at : ℕ) where
           λ _. record { letters = L .letters; ended = omega arith },
         )
 
-    pub letters-first : (r : Ended) (room₁ : List ℕ) → Reads r (onRead (onFront (take (i - at) (drop at room))) (termText (drop i text))) text at room₁
-        → Reads r (termText (drop at text)) text at room₁
+    pub letters-first : (r : Ended) (room₁ : List ℕ) → Reads r (onRead (onFront (take (i - at) (drop at room))) (termText (length text) (drop i text))) text at room₁
+        → Reads r (termText (length text) (drop at text)) text at room₁
     letters-first r room₁ h = rw (L .whole) h
 
 pub kept-both : (at : ℕ) (a b c : List ℕ) → Kept at a b → Kept at b c → Kept at a c

@@ -14,9 +14,9 @@ ghost use Rattle.rules.specs.Lexing.{isBackslash, termText, quotedText};
 ghost use Rattle.row.specs.Row.{roomLeast, Kept};
 ghost use Rattle.texts.specs.Texts.{onFront, Letters, Reads};
 
-// Where a text ended in the input, how many bytes it has in the room, and if it is a word: a term of letters only.
+// A refusal and its place; or where a text ended in the input, how many bytes it has in the room, and if it is a word: a term of letters only.
 pub enum Ended {
-    Refused(u8),
+    Refused(u8, usize),
     At { next: usize, len: usize, word: bool },
 }
 
@@ -49,7 +49,7 @@ fn read_letters(table: &[u8; 128], text: &[u8], at: usize, room: &mut [u8]) -> u
 fn read_rest(table: &[u8; 128], text: &[u8], at: usize, from: usize, room: &mut [u8]) -> Ended
     requires { ⌜ (at ≤ from) × (from ≤ length (now text)) × (length (now text) ≤ textMost) × (isText (now text) ≡ true) × (roomLeast ≤ length (now room)) × (now table ≡ classes) ⌝ }
     ensures kept { λ r. ⌜ Kept at (now (room .entry)) (now (room .exit)) ⌝ }
-    ensures reads { λ r. ⌜ Reads r (onRead (onFront (take (from - at) (drop at (now (room .entry))))) (termText (drop from (now (text .entry))))) (now (text .entry)) at (now (room .exit)) ⌝ }
+    ensures reads { λ r. ⌜ Reads r (onRead (onFront (take (from - at) (drop at (now (room .entry))))) (termText (length (now (text .entry))) (drop from (now (text .entry))))) (now (text .entry)) at (now (room .exit)) ⌝ }
 {
     let mut i = from;
     let mut len: usize = from - at;
@@ -70,7 +70,7 @@ fn read_rest(table: &[u8; 128], text: &[u8], at: usize, from: usize, room: &mut 
         }
         let j = i + 1;
         if text.len() <= j {
-            return Ended::Refused(NOTHING_ESCAPED);
+            return Ended::Refused(NOTHING_ESCAPED, i);
         }
         room[at + len] = text[j];
         len += 1;
@@ -87,7 +87,7 @@ fn read_rest(table: &[u8; 128], text: &[u8], at: usize, from: usize, room: &mut 
 pub fn read_term(table: &[u8; 128], text: &[u8], at: usize, room: &mut [u8]) -> Ended
     requires { ⌜ (at ≤ length (now text)) × (length (now text) ≤ textMost) × (isText (now text) ≡ true) × (roomLeast ≤ length (now room)) × (now table ≡ classes) ⌝ }
     ensures kept { λ r. ⌜ Kept at (now (room .entry)) (now (room .exit)) ⌝ }
-    ensures reads { λ r. ⌜ Reads r (termText (drop at (now (text .entry)))) (now (text .entry)) at (now (room .exit)) ⌝ }
+    ensures reads { λ r. ⌜ Reads r (termText (length (now (text .entry))) (drop at (now (text .entry)))) (now (text .entry)) at (now (room .exit)) ⌝ }
 {
     let i = read_letters(table, text, at, room);
     if text.len() <= i {
@@ -111,7 +111,7 @@ pub fn read_term(table: &[u8; 128], text: &[u8], at: usize, room: &mut [u8]) -> 
 pub fn read_quoted(text: &[u8], at: usize, room: &mut [u8]) -> Ended
     requires { ⌜ (at < length (now text)) × (length (now text) ≤ textMost) × (roomLeast ≤ length (now room)) ⌝ }
     ensures kept { λ r. ⌜ Kept at (now (room .entry)) (now (room .exit)) ⌝ }
-    ensures reads { λ r. ⌜ Reads r (quotedText (drop (at + 1) (now (text .entry)))) (now (text .entry)) at (now (room .exit)) ⌝ }
+    ensures reads { λ r. ⌜ Reads r (quotedText (length (now (text .entry))) at (drop (at + 1) (now (text .entry)))) (now (text .entry)) at (now (room .exit)) ⌝ }
 {
     let mut i = at + 1;
     let mut len: usize = 0;
@@ -126,11 +126,11 @@ pub fn read_quoted(text: &[u8], at: usize, room: &mut [u8]) -> Ended
         }
         let j = i + escape(c);
         if text.len() <= j {
-            return Ended::Refused(NOTHING_ESCAPED); // and not OPEN_QUOTE, though the quote is open
+            return Ended::Refused(NOTHING_ESCAPED, i); // and not OPEN_QUOTE, though the quote is open
         }
         room[at + len] = text[j];
         len += 1;
         i = j + 1;
     }
-    Ended::Refused(OPEN_QUOTE)
+    Ended::Refused(OPEN_QUOTE, at)
 }

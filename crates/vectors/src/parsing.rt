@@ -37,7 +37,7 @@ fn answers(
         &mut out,
         &mut room,
     ) {
-        parse::Parsed::Refused(n) => numbers::wide(n) == refusal,
+        parse::Parsed::Refused(n, _) => numbers::wide(n) == refusal,
         parse::Parsed::Bytes(n) => {
             if refusal != 0 {
                 return false;

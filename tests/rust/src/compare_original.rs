@@ -1,6 +1,6 @@
 //! The archive beside the original Rust on random inputs: parsing of texts that the grammar makes,
 //! damaged and stretched to the limits, under random setups; and rewriting of random stored queries.
-//! What document 01 decides alone (refusals 1 to 3, 15 to 21) is found by the crate `plain`.
+//! What document 01 decides alone (refusals 1 to 3, 15 to 21) and the place of every refusal is found by the crate `plain`.
 //!
 //!     compare_original COUNT SEED [texts]    with `texts`, the texts alone
 
@@ -89,15 +89,15 @@ fn lend(r: &mut Random, answer: Result<usize, u32>) -> (usize, Option<u32>) {
 fn parse(r: &mut Random, desk: &mut Desk) -> Result<Vec<u8>, u32> {
     let (setup, text) = texts::case(r);
     let answer = expected(&setup, &text);
-    let (out, short) = lend(r, answer.as_ref().map(Vec::len).map_err(|e| *e));
-    let answer = short.map_or(answer, Err);
+    let (out, short) = lend(r, answer.as_ref().map(Vec::len).map_err(|(e, _)| *e));
+    let answer = short.map_or(answer, |e| Err((e, 0)));
     let lent = gorbihesh::calls::Setup {
         operator: setup.operator,
         analyzer: setup.analyzer,
         field: &setup.field,
         fields: &setup.fields,
     };
-    let archive = desk.parse(lent, &text, out);
+    let archive = desk.parse_placed(lent, &text, out);
     let head = [setup.operator, setup.analyzer];
     let inputs = [
         ("operator, analyzer", &head[..]),
@@ -106,40 +106,35 @@ fn parse(r: &mut Random, desk: &mut Desk) -> Result<Vec<u8>, u32> {
         ("text", &text),
     ];
     hold("parse", &archive, &answer, &inputs);
-    archive
+    archive.map_err(|(refusal, _)| refusal)
 }
 
 /// 3, 1, 2; then the first fault; then the original's answer, which has to have the same fault where it
-/// has no limits.
-fn expected(setup: &Setup, text: &[u8]) -> Result<Vec<u8>, u32> {
+/// has no limits. With the place of each refusal.
+fn expected(setup: &Setup, text: &[u8]) -> Result<Vec<u8>, (u32, u32)> {
     if !limits::setup_is_sound(setup) {
-        return Err(3);
+        return Err((3, 0));
     }
     if text.len() > limits::TEXT {
-        return Err(1);
+        return Err((1, 0));
     }
     if !text.is_ascii() {
-        return Err(2);
+        return Err((2, 0));
     }
     let fields = Fields {
         field: &setup.field,
         analyzer: setup.analyzer,
         entries: setup.entries().expect("a sound setup"),
     };
-    match faults::first(&fields, text) {
-        Some(limit @ 15..=17) => Err(limit),
-        fault => {
-            let answer = answers::parse(setup, text);
-            let original = answer.as_ref().err().copied();
-            hold(
-                "the crate plain beside the original",
-                &fault,
-                &original,
-                &[("text", text)],
-            );
-            answer
-        }
+    let (fault, place) = faults::first(&fields, text).unzip();
+    let place = place.map_or(0, |place| u32::try_from(place).expect("a short text"));
+    if let Some(limit @ 15..=17) = fault {
+        return Err((limit, place));
     }
+    let answer = answers::parse(setup, text);
+    let original = answer.as_ref().err().copied();
+    hold("the crate plain beside the original", &fault, &original, &[("text", text)]);
+    answer.map_err(|refusal| (refusal, place))
 }
 
 /// None where a NaN is made: such a case is outside the comparison.

@@ -30,6 +30,14 @@ impl Desk {
     /// # Errors
     /// The refusal number.
     pub fn parse(&mut self, setup: Setup, text: &[u8], out: usize) -> Result<Vec<u8>, u32> {
+        self.parse_placed(setup, text, out).map_err(|(number, _)| number)
+    }
+
+    /// The stored query, or the refusal and its place.
+    ///
+    /// # Errors
+    /// The refusal number, and the place.
+    pub fn parse_placed(&mut self, setup: Setup, text: &[u8], out: usize) -> Result<Vec<u8>, (u32, u32)> {
         let room = calls::parse_room();
         let (answer, bytes) = self.call(out, room, |o, r| calls::parse(setup, text, o, r))?;
         assert_eq!((answer.count, answer.rounds), (0, 0), "{answer:?}");
@@ -60,7 +68,7 @@ impl Desk {
         room: usize,
         call: impl Fn(&mut [u8], &mut [u8]) -> Answer,
     ) -> Result<(Vec<u8>, u32), u32> {
-        let (answer, bytes) = self.call(out, room, call)?;
+        let (answer, bytes) = self.call(out, room, call).map_err(nowhere)?;
         assert_eq!(answer.count, 0, "{answer:?}");
         Ok((bytes, answer.rounds))
     }
@@ -71,7 +79,8 @@ impl Desk {
     /// The refusal number.
     pub fn select(&mut self, query: &[u8], list: &[u8], rows: usize) -> Result<Vec<u32>, u32> {
         let room = calls::select_room();
-        let (answer, bytes) = self.call(rows, room, |o, r| calls::select(query, list, o, r))?;
+        let answered = self.call(rows, room, |o, r| calls::select(query, list, o, r));
+        let (answer, bytes) = answered.map_err(nowhere)?;
         let (rows, rest) = bytes.as_chunks::<4>();
         assert!(rest.is_empty(), "rows of four bytes");
         assert_eq!(
@@ -88,11 +97,11 @@ impl Desk {
         out_len: usize,
         room_len: usize,
         call: impl Fn(&mut [u8], &mut [u8]) -> Answer,
-    ) -> Result<(Answer, Vec<u8>), u32> {
+    ) -> Result<(Answer, Vec<u8>), (u32, u32)> {
         self.turn = self.turn.wrapping_add(1);
         if room_len > 0 && self.turn.is_multiple_of(SHORT_TURN) {
             let refused = self.call_in(out_len, room_len - 1, 0xEE, &call);
-            assert_eq!(refused.map(|_| ()), Err(32), "a short room");
+            assert_eq!(refused.map(|_| ()), Err((32, 0)), "a short room");
         }
         if self.turn.is_multiple_of(DIRTY_TURN) {
             let more = self.turn as usize / 16 % 9;
@@ -109,7 +118,7 @@ impl Desk {
         room_len: usize,
         dirt: u8,
         call: &impl Fn(&mut [u8], &mut [u8]) -> Answer,
-    ) -> Result<(Answer, Vec<u8>), u32> {
+    ) -> Result<(Answer, Vec<u8>), (u32, u32)> {
         self.out.clear();
         self.out.resize(out_len + FENCE, UNTOUCHED);
         self.room.clear();
@@ -119,7 +128,7 @@ impl Desk {
         self.settle(answer, out_len)
     }
 
-    fn settle(&self, answer: Answer, out_len: usize) -> Result<(Answer, Vec<u8>), u32> {
+    fn settle(&self, answer: Answer, out_len: usize) -> Result<(Answer, Vec<u8>), (u32, u32)> {
         let length = answer.length as usize;
         assert!(length <= out_len, "{answer:?} within {out_len}");
         let (written, rest) = self.out.split_at(length);
@@ -128,6 +137,7 @@ impl Desk {
             "bytes behind the answer: {answer:?}"
         );
         if answer.refusal == 0 {
+            assert_eq!(answer.place, 0, "{answer:?}");
             return Ok((answer, written.to_vec()));
         }
         assert_eq!(
@@ -135,8 +145,14 @@ impl Desk {
             (0, 0, 0),
             "{answer:?}"
         );
-        Err(answer.refusal)
+        Err((answer.refusal, answer.place))
     }
+}
+
+/// The refusal of a call that is handed no text, and so has no place.
+fn nowhere((refusal, place): (u32, u32)) -> u32 {
+    assert_eq!(place, 0, "the place of {refusal}");
+    refusal
 }
 
 /// A fold with no early way out is as fast as the room is long.

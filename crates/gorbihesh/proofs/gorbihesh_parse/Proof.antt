@@ -1,5 +1,5 @@
 -- `gorbihesh::gorbihesh_parse` meets its contract.
-use Rattle.gorbihesh.proofs.Edge.{parse-short, parse-left, parse-refused}
+use Rattle.gorbihesh.proofs.Edge.{parse-short, parse-near, parse-left, parse-refused}
 use native.Mathlib.Omega.{arith}
 use borrow.Author.Needs.{needs}
 use Rattle.gorbihesh.proofs.gorbihesh_parse.Statement.{statement}
@@ -14,14 +14,17 @@ enum-known-number c = search needs
 cast-told : tie.Need-cast-told
 cast-told c = search needs
 
+cast-told-2 : tie.Need-cast-told-2
+cast-told-2 c = omega (arith, parse-near (c .before .before .before .before .before .before .before .parse .ensures) (c .before .number .given .1))
+
 told-requires : tie.Need-told-requires
 told-requires c κs = search needs
 
 enum-known-len : tie.Need-enum-known-len
 enum-known-len c = search needs
 
-cast-told-2 : tie.Need-cast-told-2
-cast-told-2 c = omega (arith, parse-short (c .before .before .before .before .before .before .before .parse .ensures) (c .before .len .given .1))
+cast-told-3 : tie.Need-cast-told-3
+cast-told-3 c = omega (arith, parse-short (c .before .before .before .before .before .before .before .parse .ensures) (c .before .len .given .1))
 
 told-requires-2 : tie.Need-told-requires-2
 told-requires-2 c κs = search needs
@@ -51,9 +54,10 @@ gorbihesh-parse-spec =
     parse-requires
     enum-known-number
     cast-told
+    cast-told-2
     told-requires
     enum-known-len
-    cast-told-2
+    cast-told-3
     told-requires-2
     same-length
     same-length-2

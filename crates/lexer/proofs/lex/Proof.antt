@@ -51,7 +51,7 @@ returns c =
     let args = c .before .before .before .before .before .before .before .before .before .before .before .before .before .before .before .before .args in
     let loop = c .before .before .before .before .before .before .before .before .before .before .before .before .before .loop in
     let token-at = c .before .before .before .before .before .token-at in
-    lexing-refused (args .text .now) (loop .inv) (c .before .before .before .before .before .before .before .before .before .before .before .before .loop-test .taken) (no-space-told (getD (args .text .now) (loop .i) 0) (text-byte (args .text .now) (loop .i) (c .before .before .before .before .before .before .before .before .before .before .before .before .before .before .before .before .pre .2)) (c .before .before .before .before .before .before .before .before .before .class-at .ensures) refl (c .before .before .before .before .before .before .before .before .if1 .left)) (token-at .last .1 .1 .1 .0) (token-at .result) (token-at .ensures .1) _ (c .before .f .given .1)
+    lexing-refused (args .text .now) (loop .inv) (c .before .before .before .before .before .before .before .before .before .before .before .before .loop-test .taken) (no-space-told (getD (args .text .now) (loop .i) 0) (text-byte (args .text .now) (loop .i) (c .before .before .before .before .before .before .before .before .before .before .before .before .before .before .before .before .pre .2)) (c .before .before .before .before .before .before .before .before .before .class-at .ensures) refl (c .before .before .before .before .before .before .before .before .if1 .left)) (token-at .last .1 .1 .1 .0) (token-at .result) (token-at .ensures .1) _ _ (c .before .f .given .1) (c .before .before .before .before .before .before .before .before .before .before .before .before .before .before .before .before .pre .0)
 
 enum-known-kind : tie.Need-enum-known-kind Inv-loop μ-loop
 enum-known-kind c = search needs

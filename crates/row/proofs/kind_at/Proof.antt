@@ -4,7 +4,7 @@ use native.Mathlib.Omega.{arith}
 use borrow.Author.Needs.{needs}
 use Rattle.rules.specs.Lexing.{Token}
 use Rattle.row.specs.Row.{tokenAt}
-use Rattle.row.proofs.Rows.{token-of, token-past}
+use Rattle.row.proofs.Rows.{token-is, token-none}
 use Rattle.row.proofs.kind_at.Tie as tie
 use Rattle.row.proofs.kind_at.Statement.{statement}
 
@@ -19,10 +19,10 @@ shared-slice-read-result c = search needs
 
 returns : tie.Need-returns
 unfolding tokenAt
-returns c = sym (ap (λ (t : Token). t .kind) (token-of (c .before .before .args .room .now) (c .before .before .args .n) (c .before .before .args .i) (omega arith)))
+returns c = sym (ap (λ (t : Token). t .kind) (token-is (c .before .before .args .room .now) (c .before .before .args .n) (c .before .before .args .i) _ (omega arith)))
 
 returns-2 : tie.Need-returns-2
-returns-2 c = sym (ap (λ (t : Token). t .kind) (token-past (c .before .args .room .now) (c .before .args .n) (c .before .args .i) (omega arith)))
+returns-2 c = sym (ap (λ (t : Token). t .kind) (token-none (c .before .args .room .now) (c .before .args .n) (c .before .args .i) _ (omega arith)))
 
 pub kind-at-spec : {M : Type 1} → statement M
 kind-at-spec =

@@ -1,9 +1,9 @@
 -- What was read, or the refusal: laws of `need`, `onRead`, `closed` and `added`, and of the number that an answer gives for it.
 use mathlib.Core.Path.{_≡_, refl, sym}
-use Prim.Native.Nat.{ℕ}
+use Prim.Native.Nat.{ℕ, _≤_}
 use mathlib.Core.Bool.{Bool, true, false}
 use native.Mathlib.Omega.{arith}
-use Rattle.rules.specs.Numbers.{Refusal, longText, notAscii, badSetup, openQuote, nothingEscaped, rangeBracket, wildcard, fuzzyTerm, sloppyPhrase, unexpectedEnd, unexpectedToken, openBracket, badNumeral, noNumeral, longField, manyBrackets, longNumeral, longAnswer, longQuery, malformedQuery, deepQuery, longList, malformedList, manyQueries, shortRoom, number, Read, got, refused, need, onRead}
+use Rattle.rules.specs.Numbers.{Fault, faultNumber, Refusal, longText, notAscii, badSetup, faulty, openQuote, nothingEscaped, rangeBracket, wildcard, fuzzyTerm, sloppyPhrase, unexpectedEnd, unexpectedToken, openBracket, badNumeral, noNumeral, longField, manyBrackets, longNumeral, longAnswer, longQuery, malformedQuery, deepQuery, longList, malformedList, manyQueries, shortRoom, number, Read, got, refused, need, onRead}
 use Rattle.rules.specs.Query.{Kind, Query, Clauses, clause}
 use Rattle.rules.specs.Reading.{numberOf, closed, added}
 use Rattle.rules.proofs.Bools.{clash}
@@ -16,25 +16,29 @@ no-got h = absurd (let z : _≡_ {A = ℕ} 0 1 = cc in omega arith)
 pub got-same : {A : Type 0} {a b : A} → got a ≡ got b → a ≡ b
 got-same h = cc
 
+-- a fault has one of the numbers 4 to 17
+pub fault-number : (f : Fault) → (4 ≤ faultNumber f) × (faultNumber f ≤ 17)
+fault-number openQuote = omega arith
+fault-number nothingEscaped = omega arith
+fault-number rangeBracket = omega arith
+fault-number wildcard = omega arith
+fault-number fuzzyTerm = omega arith
+fault-number sloppyPhrase = omega arith
+fault-number unexpectedEnd = omega arith
+fault-number unexpectedToken = omega arith
+fault-number openBracket = omega arith
+fault-number badNumeral = omega arith
+fault-number noNumeral = omega arith
+fault-number longField = omega arith
+fault-number manyBrackets = omega arith
+fault-number longNumeral = omega arith
+
 -- no refusal has the number of a success
 pub number-some : (r : Refusal) → number r ≡ 0 → ⊥
 number-some longText e = omega arith
 number-some notAscii e = omega arith
 number-some badSetup e = omega arith
-number-some openQuote e = omega arith
-number-some nothingEscaped e = omega arith
-number-some rangeBracket e = omega arith
-number-some wildcard e = omega arith
-number-some fuzzyTerm e = omega arith
-number-some sloppyPhrase e = omega arith
-number-some unexpectedEnd e = omega arith
-number-some unexpectedToken e = omega arith
-number-some openBracket e = omega arith
-number-some badNumeral e = omega arith
-number-some noNumeral e = omega arith
-number-some longField e = omega arith
-number-some manyBrackets e = omega arith
-number-some longNumeral e = omega arith
+number-some (faulty f p) e = omega (arith, fault-number f)
 number-some longAnswer e = omega arith
 number-some longQuery e = omega arith
 number-some malformedQuery e = omega arith

@@ -6,14 +6,14 @@ use Prim.Native.Nat.{ℕ, zero, suc, _+_, _-_, _≤_, _<_}
 use mathlib.Core.List.{List, [], _∷_}
 use mathlib.Core.Bool.{Bool, true, false, not, _||_, cond}
 use native.Mathlib.Omega.{arith}
-use lib.ListN.{length, getD, drop, length-drop}
+use lib.ListN.{length, drop, length-drop}
 use lib.Dec.{leb, eqb}
 use borrow.Author.Tests.{eqb-true, eqb-false, not-true, not-false}
-use Rattle.rules.specs.Numbers.{Refusal, Read, got, refused, need, onRead, andThen, nothingEscaped}
+use Rattle.rules.specs.Numbers.{Refusal, faulty, Read, got, refused, need, onRead, andThen, nothingEscaped}
 use Rattle.rules.specs.Bytes.{ascii, same, isText, some}
 use Rattle.rules.specs.Analysis.{isSpace, endsTerm}
-use Rattle.rules.specs.Lexing.{Token, endKind, termKind, andKind, orKind, notKind, Piece, piece, onText, before, isQuote, isBackslash, isBracket, isWildcard, termText, quotedText, wordKind, Lexed, lexed, wordLexed, termEnd, quotedEnd, termFrom, quotedFrom, signKind, doubled, tokenAt, tokenThen, tokensStep, tokensIn, lex}
-use Rattle.rules.specs.Parsing.{tokenOf}
+use Rattle.rules.specs.Lexing.{Token, endKind, termKind, andKind, orKind, notKind, Piece, piece, onText, startIn, before, isQuote, isBackslash, isBracket, isWildcard, termText, quotedText, wordKind, Lexed, lexed, wordLexed, termEnd, quotedEnd, termFrom, quotedFrom, signKind, doubled, tokenAt, tokenThen, tokensStep, tokensIn, lex}
+use Rattle.rules.specs.Parsing.{tokenOf, startOf}
 use Rattle.rules.proofs.Bools.{clash, split, and-l, and-r, both, neither}
 
 -- ---- what holds of what is read, if anything is
@@ -53,57 +53,57 @@ module _ {A : Type 0} (P : A → Type 0) where
 
 -- ---- a text that is unescaped
 
--- how a term and a quote go on: `stop` tells the byte that ends the text
-pub record Unescaping (F : List ℕ → Read Piece) (stop : ℕ → Bool) : Type 0 where
+-- how a term and a quote go on, in the last bytes of n: `stop` tells the byte that ends the text
+pub record Unescaping (n : ℕ) (F : List ℕ → Read Piece) (stop : ℕ → Bool) : Type 0 where
   pub plain : (c : ℕ) (s : List ℕ) → stop c ≡ false → isBackslash c ≡ false → F (c ∷ s) ≡ before c (F s)
   pub escaped : (c d : ℕ) (s : List ℕ) → stop c ≡ false → isBackslash c ≡ true → F (c ∷ d ∷ s) ≡ before d (F s)
-  pub dangling : (c : ℕ) → stop c ≡ false → isBackslash c ≡ true → F (c ∷ []) ≡ refused nothingEscaped
+  pub dangling : (c : ℕ) → stop c ≡ false → isBackslash c ≡ true → F (c ∷ []) ≡ refused (faulty nothingEscaped (startIn n (c ∷ [])))
 
-term-plain : (c : ℕ) (s : List ℕ) → endsTerm c ≡ false → isBackslash c ≡ false → termText (c ∷ s) ≡ before c (termText s)
+term-plain : (n c : ℕ) (s : List ℕ) → endsTerm c ≡ false → isBackslash c ≡ false → termText n (c ∷ s) ≡ before c (termText n s)
 unfolding termText before
-term-plain c [] h k = simp (h, k)
-term-plain c (d ∷ s) h k = simp (h, k)
+term-plain n c [] h k = simp (h, k)
+term-plain n c (d ∷ s) h k = simp (h, k)
 
-term-escaped : (c d : ℕ) (s : List ℕ) → endsTerm c ≡ false → isBackslash c ≡ true → termText (c ∷ d ∷ s) ≡ before d (termText s)
+term-escaped : (n c d : ℕ) (s : List ℕ) → endsTerm c ≡ false → isBackslash c ≡ true → termText n (c ∷ d ∷ s) ≡ before d (termText n s)
 unfolding termText before
-term-escaped c d s h k = simp (h, k)
+term-escaped n c d s h k = simp (h, k)
 
-term-dangling : (c : ℕ) → endsTerm c ≡ false → isBackslash c ≡ true → termText (c ∷ []) ≡ refused nothingEscaped
+term-dangling : (n c : ℕ) → endsTerm c ≡ false → isBackslash c ≡ true → termText n (c ∷ []) ≡ refused (faulty nothingEscaped (startIn n (c ∷ [])))
 unfolding termText
-term-dangling c h k = simp (h, k)
+term-dangling n c h k = simp (h, k)
 
-pub term-unescapes : Unescaping termText endsTerm
-term-unescapes = record { plain = term-plain; escaped = term-escaped; dangling = term-dangling }
+pub term-unescapes : (n : ℕ) → Unescaping n (termText n) endsTerm
+term-unescapes n = record { plain = term-plain n; escaped = term-escaped n; dangling = term-dangling n }
 
-quoted-plain : (c : ℕ) (s : List ℕ) → isQuote c ≡ false → isBackslash c ≡ false → quotedText (c ∷ s) ≡ before c (quotedText s)
+quoted-plain : (n p c : ℕ) (s : List ℕ) → isQuote c ≡ false → isBackslash c ≡ false → quotedText n p (c ∷ s) ≡ before c (quotedText n p s)
 unfolding quotedText before
-quoted-plain c [] h k = simp (h, k)
-quoted-plain c (d ∷ s) h k = simp (h, k)
+quoted-plain n p c [] h k = simp (h, k)
+quoted-plain n p c (d ∷ s) h k = simp (h, k)
 
-quoted-escaped : (c d : ℕ) (s : List ℕ) → isQuote c ≡ false → isBackslash c ≡ true → quotedText (c ∷ d ∷ s) ≡ before d (quotedText s)
+quoted-escaped : (n p c d : ℕ) (s : List ℕ) → isQuote c ≡ false → isBackslash c ≡ true → quotedText n p (c ∷ d ∷ s) ≡ before d (quotedText n p s)
 unfolding quotedText before
-quoted-escaped c d s h k = simp (h, k)
+quoted-escaped n p c d s h k = simp (h, k)
 
-quoted-dangling : (c : ℕ) → isQuote c ≡ false → isBackslash c ≡ true → quotedText (c ∷ []) ≡ refused nothingEscaped
+quoted-dangling : (n p c : ℕ) → isQuote c ≡ false → isBackslash c ≡ true → quotedText n p (c ∷ []) ≡ refused (faulty nothingEscaped (startIn n (c ∷ [])))
 unfolding quotedText
-quoted-dangling c h k = simp (h, k)
+quoted-dangling n p c h k = simp (h, k)
 
-pub quoted-unescapes : Unescaping quotedText isQuote
-quoted-unescapes = record { plain = quoted-plain; escaped = quoted-escaped; dangling = quoted-dangling }
+pub quoted-unescapes : (n p : ℕ) → Unescaping n (quotedText n p) isQuote
+quoted-unescapes n p = record { plain = quoted-plain n p; escaped = quoted-escaped n p; dangling = quoted-dangling n p }
 
 -- where it ends
-pub term-stop : (c : ℕ) (s : List ℕ) → endsTerm c ≡ true → termText (c ∷ s) ≡ got (piece [] (c ∷ s))
+pub term-stop : (n c : ℕ) (s : List ℕ) → endsTerm c ≡ true → termText n (c ∷ s) ≡ got (piece [] (c ∷ s))
 unfolding termText
-term-stop c [] h = simp h
-term-stop c (d ∷ s) h = simp h
+term-stop n c [] h = simp h
+term-stop n c (d ∷ s) h = simp h
 
-pub quoted-stop : (c : ℕ) (s : List ℕ) → isQuote c ≡ true → quotedText (c ∷ s) ≡ got (piece [] s)
+pub quoted-stop : (n p c : ℕ) (s : List ℕ) → isQuote c ≡ true → quotedText n p (c ∷ s) ≡ got (piece [] s)
 unfolding quotedText
-quoted-stop c [] h = simp h
-quoted-stop c (d ∷ s) h = simp h
+quoted-stop n p c [] h = simp h
+quoted-stop n p c (d ∷ s) h = simp h
 
 -- what holds at the end of a text, and of a text with one byte more, holds of every text that is read
-module _ (F : List ℕ → Read Piece) (stop : ℕ → Bool) (U : Unescaping F stop) (P : List ℕ → Piece → Type 0) (none : Holds (P []) (F []))
+module _ (n : ℕ) (F : List ℕ → Read Piece) (stop : ℕ → Bool) (U : Unescaping n F stop) (P : List ℕ → Piece → Type 0) (none : Holds (P []) (F []))
     (ends : (c : ℕ) (s : List ℕ) → stop c ≡ true → Holds (P (c ∷ s)) (F (c ∷ s)))
     (plain : (c : ℕ) (s : List ℕ) (p : Piece) → P s p → P (c ∷ s) (onText c p))
     (escaped : (c d : ℕ) (s : List ℕ) (p : Piece) → P s p → P (c ∷ d ∷ s) (onText d p)) where
@@ -136,16 +136,16 @@ within-plain k c s (piece t r) h = omega arith
 within-escaped : (k c d : ℕ) (s : List ℕ) (p : Piece) → Within k (length s) p → Within k (length (c ∷ d ∷ s)) (onText d p)
 within-escaped k c d s (piece t r) h = omega arith
 
-term-within : (s : List ℕ) → Holds (Within 0 (length s)) (termText s)
+term-within : (n : ℕ) (s : List ℕ) → Holds (Within 0 (length s)) (termText n s)
 unfolding termText
-term-within =
-    unescaped-holds termText endsTerm term-unescapes (λ s. Within 0 (length s)) (omega arith) (λ c s e. rw (term-stop c s e) (omega arith))
+term-within n =
+    unescaped-holds n (termText n) endsTerm (term-unescapes n) (λ s. Within 0 (length s)) (omega arith) (λ c s e. rw (term-stop n c s e) (omega arith))
     (within-plain 0) (within-escaped 0)
 
-quoted-within : (s : List ℕ) → Holds (Within 1 (length s)) (quotedText s)
+quoted-within : (n p : ℕ) (s : List ℕ) → Holds (Within 1 (length s)) (quotedText n p s)
 unfolding quotedText
-quoted-within =
-    unescaped-holds quotedText isQuote quoted-unescapes (λ s. Within 1 (length s)) tt (λ c s e. rw (quoted-stop c s e) (omega arith))
+quoted-within n p =
+    unescaped-holds n (quotedText n p) isQuote (quoted-unescapes n p) (λ s. Within 1 (length s)) tt (λ c s e. rw (quoted-stop n p c s e) (omega arith))
     (within-plain 1) (within-escaped 1)
 
 -- a term that begins with a byte of its own takes that byte
@@ -157,10 +157,10 @@ unfolding before
 some-before c (got (piece t r)) = omega arith
 some-before c (refused f) = tt
 
-term-some : (c : ℕ) (s : List ℕ) → endsTerm c ≡ false → Holds Some (termText (c ∷ s))
+term-some : (n c : ℕ) (s : List ℕ) → endsTerm c ≡ false → Holds Some (termText n (c ∷ s))
 unfolding termText
-term-some c [] h = rw h (holds-cond Some (isBackslash c) _ _ (λ _. tt) (λ _. omega arith))
-term-some c (d ∷ s) h = rw h (holds-cond Some (isBackslash c) _ _ (λ _. some-before d (termText s)) (λ _. some-before c (termText (d ∷ s))))
+term-some n c [] h = rw h (holds-cond Some (isBackslash c) _ _ (λ _. tt) (λ _. omega arith))
+term-some n c (d ∷ s) h = rw h (holds-cond Some (isBackslash c) _ _ (λ _. some-before d (termText n s)) (λ _. some-before c (termText n (d ∷ s))))
 
 -- ---- a token
 
@@ -217,44 +217,45 @@ word-used m t r h k =
     kept true = k
     kept false = omega arith
 
-term-used : (c : ℕ) (s : List ℕ) → endsTerm c ≡ false → Holds (Used (length s)) (termFrom (c ∷ s))
+term-used : (n c : ℕ) (s : List ℕ) → endsTerm c ≡ false → Holds (Used (length s)) (termFrom n (c ∷ s))
 unfolding termFrom termEnd
-term-used c s h =
+term-used n c s h =
     let W = Within 0 (length (c ∷ s)) in
-    holds-then (λ p. W p × Some p) (Used (length s)) termEnd used (termText (c ∷ s))
-    (holds-both W Some (termText (c ∷ s)) (term-within (c ∷ s)) (term-some c s h))
+    holds-then (λ p. W p × Some p) (Used (length s)) (termEnd n) used (termText n (c ∷ s))
+    (holds-both W Some (termText n (c ∷ s)) (term-within n (c ∷ s)) (term-some n c s h))
   where
-    used : (p : Piece) → Within 0 (length (c ∷ s)) p × Some p → Holds (Used (length s)) (termEnd p)
+    used : (p : Piece) → Within 0 (length (c ∷ s)) p × Some p → Holds (Used (length s)) (termEnd n p)
     used (piece t []) k = word-used (length s) t [] (k .1) (omega arith)
     used (piece t (d ∷ r)) k =
         holds-need (Used (length s)) (not (isWildcard d)) _ _ (word-used (length s) t (d ∷ r) (k .1) (omega arith))
 
-quoted-used : (s : List ℕ) → Holds (Used (length s)) (quotedFrom s)
+quoted-used : (n p : ℕ) (s : List ℕ) → Holds (Used (length s)) (quotedFrom n p s)
 unfolding quotedFrom
-quoted-used s = holds-on (Within 1 (length s)) (Used (length s)) quotedEnd used (quotedText s) (quoted-within s)
+quoted-used n p s = holds-on (Within 1 (length s)) (Used (length s)) quotedEnd used (quotedText n p s) (quoted-within n p s)
   where
     used : (p : Piece) → Within 1 (length s) p → Used (length s) (quotedEnd p)
     used (piece t r) h = omega arith
 
-token-used : (c : ℕ) (s : List ℕ) → isSpace c ≡ false → Holds (Used (length s)) (tokenAt c s)
+token-used : (n c : ℕ) (s : List ℕ) → isSpace c ≡ false → Holds (Used (length s)) (tokenAt n c s)
 unfolding tokenAt
-token-used c s space =
+token-used n c s space =
     let U = Used (length s) in
+    let p = startIn n (c ∷ s) in
     let few : length (drop 1 s) ≤ length s = simp length-drop (omega arith) in
     holds-cond U (not (eqb (signKind c) endKind)) _ _ (λ h. sign (eqb-false (signKind c) endKind (not-true _ h)))
     (λ h. holds-cond U (doubled 0x26 c s) _ _ (λ _. (few, omega arith, omega arith, omega arith))
     (λ _. holds-cond U (doubled 0x7c c s) _ _ (λ _. (few, omega arith, omega arith, omega arith))
-    (λ _. holds-cond U (isQuote c) _ _ (λ _. quoted-used s)
+    (λ _. holds-cond U (isQuote c) _ _ (λ _. quoted-used n p s)
     (λ q. holds-cond U (isBracket c) _ _ (λ _. tt)
     (λ b. holds-cond U (isWildcard c) _ _ (λ _. tt)
-    (λ w. term-used c s (begins-term c space (not-false _ h) q b w)))))))
+    (λ w. term-used n c s (begins-term c space (not-false _ h) q b w)))))))
   where
     sign : (signKind c ≡ endKind → ⊥) → Used (length s) (lexed (signKind c) [] s)
     sign n = (omega arith, omega arith, omega arith, sign-most c)
 
 -- what follows a token is shorter than what begins with it
-pub token-shorter : (c : ℕ) (s : List ℕ) {k : ℕ} {t r : List ℕ} → isSpace c ≡ false → tokenAt c s ≡ got (lexed k t r) → length r ≤ length s
-token-shorter c s h e = holds-of (Used (length s)) (tokenAt c s) (token-used c s h) e .0
+pub token-shorter : (n c : ℕ) (s : List ℕ) {k : ℕ} {t r : List ℕ} → isSpace c ≡ false → tokenAt n c s ≡ got (lexed k t r) → length r ≤ length s
+token-shorter n c s h e = holds-of (Used (length s)) (tokenAt n c s) (token-used n c s h) e .0
 
 -- ---- the answer does not depend on the fuel, once there is as much as there are bytes
 
@@ -274,7 +275,7 @@ module _ (n : ℕ) where
       space h = rw h (e s (omega arith))
 
       word : isSpace c ≡ false → tokensStep n f (c ∷ s) ≡ tokensStep n g (c ∷ s)
-      word h = rw h (then-same f g (n - length (c ∷ s)) (length s) e (tokenAt c s) (token-used c s h))
+      word h = rw h (then-same f g (n - length (c ∷ s)) (length s) e (tokenAt n c s) (token-used n c s h))
 
   pub tokens-enough : (k m : ℕ) (s : List ℕ) → length s ≤ k → length s ≤ m → tokensIn n k s ≡ tokensIn n m s
   unfolding tokensIn tokensStep
@@ -306,14 +307,14 @@ module _ (n : ℕ) where
     unfolding tokensIn tokensStep
     left-space h = rw h
 
-    pub left-refused : {f : Refusal} → isSpace c ≡ false → tokenAt c s ≡ refused f → tokensLeft n (c ∷ s) ≡ refused f
+    pub left-refused : {f : Refusal} → isSpace c ≡ false → tokenAt n c s ≡ refused f → tokensLeft n (c ∷ s) ≡ refused f
     unfolding tokensIn tokensStep
     left-refused h e = simp (h, e)
 
-    pub left-token : {k : ℕ} {t r : List ℕ} → isSpace c ≡ false → tokenAt c s ≡ got (lexed k t r)
+    pub left-token : {k : ℕ} {t r : List ℕ} → isSpace c ≡ false → tokenAt n c s ≡ got (lexed k t r)
         → tokensLeft n (c ∷ s) ≡ onRead (λ ts. record { kind = k; text = t; place = n - length (c ∷ s) } ∷ ts) (tokensLeft n r)
     unfolding tokensIn tokensStep tokenThen
-    left-token {k} {t} {r} h e = simp (h, e) (ap (onRead _) (tokens-enough n (length s) (length r) r (token-shorter c s h e) (omega arith)))
+    left-token {k} {t} {r} h e = simp (h, e) (ap (onRead _) (tokens-enough n (length s) (length r) r (token-shorter n c s h e) (omega arith)))
 
 -- ---- where tokens stand
 
@@ -345,22 +346,18 @@ placed-in n (suc k) (c ∷ s) h =
     let more : List ℕ → Read (List Token) = λ t. tokensIn n k t in
     holds-cond P (isSpace c) _ _
     (λ _. holds-each (Placed n (n - length s)) P (λ ts. sooner p (omega arith)) (tokensIn n k s) (placed-in n k s (omega arith)))
-    (λ w. holds-then (Used (length s)) P _ (placed-token n (length s) more h (λ t l. placed-in n k t (omega arith))) (tokenAt c s) (token-used c s w))
+    (λ w. holds-then (Used (length s)) P _ (placed-token n (length s) more h (λ t l. placed-in n k t (omega arith))) (tokenAt n c s) (token-used n c s w))
 
 -- the tokens of a text
 pub lex-placed : (s : List ℕ) {ts : List Token} → lex s ≡ got ts → Placed (length s) 0 ts
 unfolding lex
 lex-placed s e = sooner 0 (omega arith) (holds-of (Placed (length s) (length s - length s)) (lex s) (placed-in (length s) (length s) s (omega arith)) e)
 
--- the place of the token at i, and the text's length n past the last
-abbrev pub placeOf : ℕ → List Token → ℕ → ℕ
-placeOf n ts i = getD ts i (record { kind = endKind; text = []; place = n }) .place
-
 -- what is known of the token at i: it ends before the next begins, its text is no longer than that, and its kind is one of the twelve
 pub record Standing (n : ℕ) (ts : List Token) (i : ℕ) : Type 0 where
-  pub before-next : tokenOf ts i .place < placeOf n ts (suc i)
-  pub text-within : tokenOf ts i .place + length (tokenOf ts i .text) ≤ placeOf n ts (suc i)
-  pub within : placeOf n ts (suc i) ≤ n
+  pub before-next : tokenOf ts i .place < startOf n ts (suc i)
+  pub text-within : tokenOf ts i .place + length (tokenOf ts i .text) ≤ startOf n ts (suc i)
+  pub within : startOf n ts (suc i) ≤ n
   pub kind-least : 1 ≤ tokenOf ts i .kind
   pub kind-most : tokenOf ts i .kind ≤ 12
 
@@ -369,11 +366,11 @@ module _ {n : ℕ} where
   placed-few (none p h) = omega arith
   placed-few (one p q t l m k a b more) = omega (arith, placed-few more)
 
-  pub placed-first : {p : ℕ} {ts : List Token} → Placed n p ts → p ≤ placeOf n ts 0
+  pub placed-first : {p : ℕ} {ts : List Token} → Placed n p ts → p ≤ startOf n ts 0
   placed-first (none p h) = h
   placed-first (one p q t l m k a b more) = l
 
-  placed-end : {p : ℕ} {ts : List Token} → Placed n p ts → (i : ℕ) → placeOf n ts i ≤ n
+  placed-end : {p : ℕ} {ts : List Token} → Placed n p ts → (i : ℕ) → startOf n ts i ≤ n
   placed-end (none p h) i = omega arith
   placed-end (one p q t l m k a b more) zero = omega (arith, placed-few more)
   placed-end (one p q t l m k a b more) (suc i) = placed-end more i
@@ -431,15 +428,15 @@ ascii-plain c s p h = λ a. let b = text-cons c s a in ascii-on c (b .0) p (h (b
 ascii-escaped : (c d : ℕ) (s : List ℕ) (p : Piece) → Ascii s p → Ascii (c ∷ d ∷ s) (onText d p)
 ascii-escaped c d s p h = λ a. ascii-plain d s p h (text-cons c (d ∷ s) a .1)
 
-term-ascii : (s : List ℕ) → Holds (Ascii s) (termText s)
+term-ascii : (n : ℕ) (s : List ℕ) → Holds (Ascii s) (termText n s)
 unfolding termText isText
-term-ascii =
-    unescaped-holds termText endsTerm term-unescapes Ascii (λ _. (refl, refl)) (λ c s e. rw (term-stop c s e) (λ a. (refl, a))) ascii-plain ascii-escaped
+term-ascii n =
+    unescaped-holds n (termText n) endsTerm (term-unescapes n) Ascii (λ _. (refl, refl)) (λ c s e. rw (term-stop n c s e) (λ a. (refl, a))) ascii-plain ascii-escaped
 
-quoted-ascii : (s : List ℕ) → Holds (Ascii s) (quotedText s)
+quoted-ascii : (n p : ℕ) (s : List ℕ) → Holds (Ascii s) (quotedText n p s)
 unfolding quotedText isText
-quoted-ascii =
-    unescaped-holds quotedText isQuote quoted-unescapes Ascii tt (λ c s e. rw (quoted-stop c s e) (λ a. (refl, text-cons c s a .1))) ascii-plain ascii-escaped
+quoted-ascii n p =
+    unescaped-holds n (quotedText n p) isQuote (quoted-unescapes n p) Ascii tt (λ c s e. rw (quoted-stop n p c s e) (λ a. (refl, text-cons c s a .1))) ascii-plain ascii-escaped
 
 abbrev AsciiToken : Lexed → Type 0
 AsciiToken (lexed k t r) = (isText t ≡ true) × (isText r ≡ true)
@@ -452,24 +449,25 @@ ascii-word t r h k = (kept (eqb (wordKind t) termKind), k)
     kept true = h
     kept false = refl
 
-ascii-end : (p : Piece) → AsciiPiece p → Holds AsciiToken (termEnd p)
+ascii-end : (n : ℕ) (p : Piece) → AsciiPiece p → Holds AsciiToken (termEnd n p)
 unfolding termEnd
-ascii-end (piece t []) h = ascii-word t [] (h .0) (h .1)
-ascii-end (piece t (c ∷ r)) h = holds-need AsciiToken (not (isWildcard c)) _ _ (ascii-word t (c ∷ r) (h .0) (h .1))
+ascii-end n (piece t []) h = ascii-word t [] (h .0) (h .1)
+ascii-end n (piece t (c ∷ r)) h = holds-need AsciiToken (not (isWildcard c)) _ _ (ascii-word t (c ∷ r) (h .0) (h .1))
 
-token-ascii : (c : ℕ) (s : List ℕ) → isText (c ∷ s) ≡ true → Holds AsciiToken (tokenAt c s)
+token-ascii : (n c : ℕ) (s : List ℕ) → isText (c ∷ s) ≡ true → Holds AsciiToken (tokenAt n c s)
 unfolding tokenAt termFrom quotedFrom isText
-token-ascii c s a =
+token-ascii n c s a =
     let T = AsciiToken in
+    let p = startIn n (c ∷ s) in
     let rest = text-cons c s a .1 in
     let less = text-rest s rest in
     holds-cond T (not (eqb (signKind c) endKind)) _ _ (λ _. (refl, rest))
     (λ _. holds-cond T (doubled 0x26 c s) _ _ (λ _. (refl, less))
     (λ _. holds-cond T (doubled 0x7c c s) _ _ (λ _. (refl, less))
-    (λ _. holds-cond T (isQuote c) _ _ (λ _. holds-on (Ascii s) T quotedEnd quoted (quotedText s) (quoted-ascii s))
+    (λ _. holds-cond T (isQuote c) _ _ (λ _. holds-on (Ascii s) T quotedEnd quoted (quotedText n p s) (quoted-ascii n p s))
     (λ _. holds-cond T (isBracket c) _ _ (λ _. tt)
     (λ _. holds-cond T (isWildcard c) _ _ (λ _. tt)
-    (λ _. holds-then (Ascii (c ∷ s)) T termEnd (λ p h. ascii-end p (h a)) (termText (c ∷ s)) (term-ascii (c ∷ s))))))))
+    (λ _. holds-then (Ascii (c ∷ s)) T (termEnd n) (λ q h. ascii-end n q (h a)) (termText n (c ∷ s)) (term-ascii n (c ∷ s))))))))
   where
     quoted : (p : Piece) → Ascii s p → AsciiToken (quotedEnd p)
     quoted (piece t r) h = h (text-cons c s a .1)
@@ -483,7 +481,7 @@ tokens-ascii n zero s a = λ i. refl
 tokens-ascii n (suc k) [] a = λ i. refl
 tokens-ascii n (suc k) (c ∷ s) a =
     holds-cond AsciiTokens (isSpace c) _ _ (λ _. tokens-ascii n k s (text-cons c s a .1))
-    (λ _. holds-then AsciiToken AsciiTokens _ (then (λ t. tokens-ascii n k t)) (tokenAt c s) (token-ascii c s a))
+    (λ _. holds-then AsciiToken AsciiTokens _ (then (λ t. tokens-ascii n k t)) (tokenAt n c s) (token-ascii n c s a))
   where
     then : ((t : List ℕ) → isText t ≡ true → Holds AsciiTokens (tokensIn n k t)) → (l : Lexed) → AsciiToken l
         → Holds AsciiTokens (tokenThen (n - length (c ∷ s)) (λ t. tokensIn n k t) l)

@@ -12,7 +12,7 @@ use Rattle.texts.proofs.read_quoted.Tie as tie
 use Rattle.texts.proofs.read_quoted.Statement.{statement}
 
 abbrev Inv-loop : tie.InvT-loop
-Inv-loop text at room₀ i₀ len₀ room i len = Reading quotedText (quotedText (drop (at + 1) text)) text at room₀ room i len
+Inv-loop text at room₀ i₀ len₀ room i len = Reading (quotedText (length text) at) (quotedText (length text) at (drop (at + 1) text)) text at room₀ room i len
 
 abbrev μ-loop : tie.MeasureT-loop
 μ-loop text at room₀ i₀ len₀ room i len = length text - i
@@ -21,7 +21,7 @@ add-i : tie.Need-add-i Inv-loop μ-loop
 add-i c = omega arith
 
 loop-holds : tie.Need-loop-holds Inv-loop μ-loop
-loop-holds c = reading-none quotedText (c .before .before .args .text .now) (c .before .before .args .at + 1) (c .before .before .args .at) (c .before .before .args .room .now) (omega arith) (omega arith)
+loop-holds c = reading-none (quotedText (length (c .before .before .args .text .now)) (c .before .before .args .at)) (c .before .before .args .text .now) (c .before .before .args .at + 1) (c .before .before .args .at) (c .before .before .args .room .now) (omega arith) (omega arith)
 
 shared-slice-read-c : tie.Need-shared-slice-read-c Inv-loop μ-loop
 shared-slice-read-c c = omega arith
@@ -34,7 +34,7 @@ same-length c = c .before .before .before .loop .inv .as-long
 
 returns : tie.Need-returns Inv-loop μ-loop
 returns c = let t = c .before .before .before .before .before .before .args .text .now in let i = c .before .before .before .loop .i in
-    reading-at quotedText t (c .before .before .before .before .before .before .args .at) (c .before .before .before .loop .inv) (i + 1) (quote-ends t i (c .before .before .loop-test .taken) (eq-eqb (getD t i 0) 0x22 (c .if1 .taken))) (omega arith) (omega arith)
+    reading-at (quotedText (length t) (c .before .before .before .before .before .before .args .at)) t (c .before .before .before .before .before .before .args .at) (c .before .before .before .loop .inv) (i + 1) (quote-ends t i _ (c .before .before .loop-test .taken) (eq-eqb (getD t i 0) 0x22 (c .if1 .taken))) (omega arith) (omega arith)
 
 escape-requires : tie.Need-escape-requires Inv-loop μ-loop
 escape-requires c κs = search needs
@@ -47,7 +47,7 @@ same-length-2 c = c .before .before .before .before .before .loop .inv .as-long
 
 returns-2 : tie.Need-returns-2 Inv-loop μ-loop
 returns-2 c = let t = c .before .before .before .before .before .before .before .before .args .text .now in let i = c .before .before .before .before .before .loop .i in
-    reading-dangling quotedText t (c .before .before .before .before .before .before .before .before .args .at) (c .before .before .before .before .before .loop .inv) isQuote quoted-unescapes (c .before .escape .result) (c .before .before .before .before .loop-test .taken) (ne-eqb (getD t i 0) 0x22 (c .before .before .if1 .left)) (c .before .escape .ensures) (c .if2 .taken)
+    reading-dangling (quotedText (length t) (c .before .before .before .before .before .before .before .before .args .at)) t (c .before .before .before .before .before .before .before .before .args .at) (c .before .before .before .before .before .loop .inv) isQuote (quoted-unescapes _ _) (c .before .escape .result) (c .before .before .before .before .loop-test .taken) (ne-eqb (getD t i 0) 0x22 (c .before .before .if1 .left)) (c .before .escape .ensures) (c .if2 .taken)
 
 shared-slice-read-room : tie.Need-shared-slice-read-room Inv-loop μ-loop
 shared-slice-read-room c = omega arith
@@ -69,14 +69,14 @@ loop-less c = omega (arith, c .before .if2 .left, c .before .before .before .bef
 
 loop-again : tie.Need-loop-again Inv-loop μ-loop
 loop-again c = let t = c .before .before .before .before .before .before .before .before .before .args .text .now in let i = c .before .before .before .before .before .before .loop .i in
-    reading-turn quotedText t (c .before .before .before .before .before .before .before .before .before .args .at) (c .before .before .before .before .before .before .loop .inv) isQuote quoted-unescapes (c .before .before .escape .result) (c .before .before .before .before .before .loop-test .taken) (ne-eqb (getD t i 0) 0x22 (c .before .before .before .if1 .left)) (c .before .before .escape .ensures) (c .before .if2 .left) (c .before .before .before .before .before .before .before .before .before .pre .1) (c .before .before .before .before .before .before .before .before .before .pre .2)
+    reading-turn (quotedText (length t) (c .before .before .before .before .before .before .before .before .before .args .at)) t (c .before .before .before .before .before .before .before .before .before .args .at) (c .before .before .before .before .before .before .loop .inv) isQuote (quoted-unescapes _ _) (c .before .before .escape .result) (c .before .before .before .before .before .loop-test .taken) (ne-eqb (getD t i 0) 0x22 (c .before .before .before .if1 .left)) (c .before .before .escape .ensures) (c .before .if2 .left) (c .before .before .before .before .before .before .before .before .before .pre .1) (c .before .before .before .before .before .before .before .before .before .pre .2)
 
 same-length-3 : tie.Need-same-length-3 Inv-loop μ-loop
 same-length-3 c = c .before .loop .inv .as-long
 
 returns-3 : tie.Need-returns-3 Inv-loop μ-loop
 returns-3 c = let t = c .before .before .before .before .args .text .now in let i = c .before .loop .i in
-    reading-fault quotedText t (c .before .before .before .before .args .at) (c .before .loop .inv) openQuote (quote-over t i (c .loop-test .left))
+    reading-fault (quotedText (length t) (c .before .before .before .before .args .at)) t (c .before .before .before .before .args .at) (c .before .loop .inv) openQuote _ (quote-over t i _ (c .loop-test .left)) (c .before .before .before .before .pre .0)
 
 pub read-quoted-spec : {M : Type 1} → statement M
 read-quoted-spec =

@@ -16,7 +16,7 @@ use Rattle.texts.proofs.read_rest.Statement.{statement}
 use Rattle.texts.proofs.read_rest.Tie as tie
 
 abbrev Inv-loop : tie.InvT-loop
-Inv-loop table text at from room₀ i₀ len₀ room i len = Reading termText (onRead (onFront (take (from - at) (drop at room₀))) (termText (drop from text))) text at room₀ room i len
+Inv-loop table text at from room₀ i₀ len₀ room i len = Reading (termText (length text)) (onRead (onFront (take (from - at) (drop at room₀))) (termText (length text) (drop from text))) text at room₀ room i len
 
 abbrev μ-loop : tie.MeasureT-loop
 μ-loop table text at from room₀ i₀ len₀ room i len = length text - i
@@ -25,7 +25,7 @@ sub-len : tie.Need-sub-len Inv-loop μ-loop
 sub-len c = search needs
 
 loop-holds : tie.Need-loop-holds Inv-loop μ-loop
-loop-holds c = reading-on termText (c .before .before .args .text .now) (c .before .before .args .from) (c .before .before .args .at) (c .before .before .args .room .now) (omega arith) (omega arith)
+loop-holds c = reading-on (termText (length (c .before .before .args .text .now))) (c .before .before .args .text .now) (c .before .before .args .from) (c .before .before .args .at) (c .before .before .args .room .now) (omega arith) (omega arith)
 
 shared-slice-read-c : tie.Need-shared-slice-read-c Inv-loop μ-loop
 shared-slice-read-c c = omega arith
@@ -38,7 +38,7 @@ same-length c = c .before .before .before .before .loop .inv .as-long
 
 returns : tie.Need-returns Inv-loop μ-loop
 returns c = let t = c .before .before .before .before .before .before .before .args .text .now in let i = c .before .before .before .before .loop .i in
-    reading-at termText t (c .before .before .before .before .before .before .before .args .at) (c .before .before .before .before .loop .inv) i (term-ends t i (c .before .before .before .loop-test .taken) (end-told (getD t i 0) (text-byte t i (c .before .before .before .before .before .before .before .pre .3)) (c .before .class-at .ensures) (c .before .before .before .before .before .before .before .pre .5) (c .if1 .taken))) (omega arith) (omega arith)
+    reading-at (termText (length t)) t (c .before .before .before .before .before .before .before .args .at) (c .before .before .before .before .loop .inv) i (term-ends t i (c .before .before .before .loop-test .taken) (end-told (getD t i 0) (text-byte t i (c .before .before .before .before .before .before .before .pre .3)) (c .before .class-at .ensures) (c .before .before .before .before .before .before .before .pre .5) (c .if1 .taken))) (omega arith) (omega arith)
 
 add-room : tie.Need-add-room Inv-loop μ-loop
 add-room c = omega (arith, c .before .before .before .before .before .loop .inv .behind, c .before .before .before .before .loop-test .taken, c .before .before .before .before .before .before .before .before .pre .2)
@@ -58,7 +58,7 @@ loop-less c = omega (arith, c .before .before .before .before .loop-test .taken)
 loop-again : tie.Need-loop-again Inv-loop μ-loop
 loop-again c = let t = c .before .before .before .before .before .before .before .before .args .text .now in let i = c .before .before .before .before .before .loop .i in
     let e : i + 0 ≡ i = omega arith in
-    rw e at (reading-turn termText t (c .before .before .before .before .before .before .before .before .args .at) (c .before .before .before .before .before .loop .inv) endsTerm term-unescapes 0 (c .before .before .before .before .loop-test .taken) (no-end-told (getD t i 0) (text-byte t i (c .before .before .before .before .before .before .before .before .pre .3)) (c .before .before .class-at .ensures) (c .before .before .before .before .before .before .before .before .pre .5) (c .before .if1 .left)) (rw (ne-eqb _ _ (c .if2 .taken))) (rw e (c .before .before .before .before .loop-test .taken)) (c .before .before .before .before .before .before .before .before .pre .2) (c .before .before .before .before .before .before .before .before .pre .4))
+    rw e at (reading-turn (termText (length t)) t (c .before .before .before .before .before .before .before .before .args .at) (c .before .before .before .before .before .loop .inv) endsTerm (term-unescapes _) 0 (c .before .before .before .before .loop-test .taken) (no-end-told (getD t i 0) (text-byte t i (c .before .before .before .before .before .before .before .before .pre .3)) (c .before .before .class-at .ensures) (c .before .before .before .before .before .before .before .before .pre .5) (c .before .if1 .left)) (rw (ne-eqb _ _ (c .if2 .taken))) (rw e (c .before .before .before .before .loop-test .taken)) (c .before .before .before .before .before .before .before .before .pre .2) (c .before .before .before .before .before .before .before .before .pre .4))
 
 add-j : tie.Need-add-j Inv-loop μ-loop
 add-j c = omega (arith, c .before .before .before .before .loop-test .taken, c .before .before .before .before .before .before .before .before .pre .2)
@@ -68,7 +68,7 @@ same-length-2 c = c .before .before .before .before .before .before .loop .inv .
 
 returns-2 : tie.Need-returns-2 Inv-loop μ-loop
 returns-2 c = let t = c .before .before .before .before .before .before .before .before .before .args .text .now in let i = c .before .before .before .before .before .before .loop .i in
-    reading-dangling termText t (c .before .before .before .before .before .before .before .before .before .args .at) (c .before .before .before .before .before .before .loop .inv) endsTerm term-unescapes 1 (c .before .before .before .before .before .loop-test .taken) (no-end-told (getD t i 0) (text-byte t i (c .before .before .before .before .before .before .before .before .before .pre .3)) (c .before .before .before .class-at .ensures) (c .before .before .before .before .before .before .before .before .before .pre .5) (c .before .before .if1 .left)) (rw (eq-eqb _ _ (c .before .if2 .left))) (c .if3 .taken)
+    reading-dangling (termText (length t)) t (c .before .before .before .before .before .before .before .before .before .args .at) (c .before .before .before .before .before .before .loop .inv) endsTerm (term-unescapes _) 1 (c .before .before .before .before .before .loop-test .taken) (no-end-told (getD t i 0) (text-byte t i (c .before .before .before .before .before .before .before .before .before .pre .3)) (c .before .before .before .class-at .ensures) (c .before .before .before .before .before .before .before .before .before .pre .5) (c .before .before .if1 .left)) (rw (eq-eqb _ _ (c .before .if2 .left))) (c .if3 .taken)
 
 shared-slice-read-room : tie.Need-shared-slice-read-room Inv-loop μ-loop
 shared-slice-read-room c = omega arith
@@ -90,14 +90,14 @@ loop-less-2 c = omega (arith, c .before .if3 .left, c .before .before .before .b
 
 loop-again-2 : tie.Need-loop-again-2 Inv-loop μ-loop
 loop-again-2 c = let t = c .before .before .before .before .before .before .before .before .before .before .args .text .now in let i = c .before .before .before .before .before .before .before .loop .i in
-    reading-turn termText t (c .before .before .before .before .before .before .before .before .before .before .args .at) (c .before .before .before .before .before .before .before .loop .inv) endsTerm term-unescapes 1 (c .before .before .before .before .before .before .loop-test .taken) (no-end-told (getD t i 0) (text-byte t i (c .before .before .before .before .before .before .before .before .before .before .pre .3)) (c .before .before .before .before .class-at .ensures) (c .before .before .before .before .before .before .before .before .before .before .pre .5) (c .before .before .before .if1 .left)) (rw (eq-eqb _ _ (c .before .before .if2 .left))) (c .before .if3 .left) (c .before .before .before .before .before .before .before .before .before .before .pre .2) (c .before .before .before .before .before .before .before .before .before .before .pre .4)
+    reading-turn (termText (length t)) t (c .before .before .before .before .before .before .before .before .before .before .args .at) (c .before .before .before .before .before .before .before .loop .inv) endsTerm (term-unescapes _) 1 (c .before .before .before .before .before .before .loop-test .taken) (no-end-told (getD t i 0) (text-byte t i (c .before .before .before .before .before .before .before .before .before .before .pre .3)) (c .before .before .before .before .class-at .ensures) (c .before .before .before .before .before .before .before .before .before .before .pre .5) (c .before .before .before .if1 .left)) (rw (eq-eqb _ _ (c .before .before .if2 .left))) (c .before .if3 .left) (c .before .before .before .before .before .before .before .before .before .before .pre .2) (c .before .before .before .before .before .before .before .before .before .before .pre .4)
 
 same-length-3 : tie.Need-same-length-3 Inv-loop μ-loop
 same-length-3 c = c .before .loop .inv .as-long
 
 returns-3 : tie.Need-returns-3 Inv-loop μ-loop
 returns-3 c = let t = c .before .before .before .before .args .text .now in let i = c .before .loop .i in
-    reading-at termText t (c .before .before .before .before .args .at) (c .before .loop .inv) i (term-over t i (c .loop-test .left)) (omega arith) (omega arith)
+    reading-at (termText (length t)) t (c .before .before .before .before .args .at) (c .before .loop .inv) i (term-over t i (c .loop-test .left)) (omega arith) (omega arith)
 
 pub read-rest-spec : {M : Type 1} → statement M
 read-rest-spec =

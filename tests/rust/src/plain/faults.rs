@@ -1,5 +1,5 @@
-//! The first fault of a text: document 01's lexing and grammar walked with nothing built, for the
-//! refusals 4 to 17. The original has no limits, so 15 to 17 are found here alone.
+//! The first fault of a text and its place: document 01's lexing and grammar walked with nothing built, for the
+//! refusals 4 to 17. The original has no limits and tells no place, so 15 to 17 and all places are found here alone.
 
 use crate::words;
 
@@ -38,9 +38,15 @@ enum Token {
     Not,
 }
 
+/// A refusal and where it points.
+pub type Fault = (u32, usize);
+
+/// A token and the place of its first byte.
+type Placed = (usize, Token);
+
 /// The refusal of an ASCII text, or none.
 #[must_use]
-pub fn first(fields: &Fields, text: &[u8]) -> Option<u32> {
+pub fn first(fields: &Fields, text: &[u8]) -> Option<Fault> {
     let tokens = match lex(text) {
         Ok(tokens) => tokens,
         Err(fault) => return Some(fault),
@@ -48,56 +54,63 @@ pub fn first(fields: &Fields, text: &[u8]) -> Option<u32> {
     let mut walk = Walk {
         fields,
         tokens: &tokens,
+        end: text.len(),
         at: 0,
         open: 0,
     };
     match walk.query(fields.field) {
         Err(fault) => Some(fault),
-        Ok(_) if walk.at < tokens.len() => Some(11),
+        Ok(_) if walk.at < tokens.len() => Some((11, tokens[walk.at].0)),
         Ok(_) => None,
     }
 }
 
-fn lex(text: &[u8]) -> Result<Vec<Token>, u32> {
+fn lex(text: &[u8]) -> Result<Vec<Placed>, Fault> {
     let mut tokens = Vec::new();
     let mut at = 0;
     while let Some(&b) = text.get(at) {
+        let start = at;
         let doubled = text.get(at + 1) == Some(&b);
-        match b {
-            9..=13 | b' ' => at += 1,
-            b'+' | b'-' | b'!' | b'(' | b')' | b':' | b'^' | b'~' => {
-                tokens.push(if b == b'!' {
-                    Token::Not
-                } else {
-                    Token::Sign(b)
-                });
+        let token = match b {
+            9..=13 | b' ' => {
                 at += 1;
+                continue;
+            }
+            b'+' | b'-' | b'(' | b')' | b':' | b'^' | b'~' => {
+                at += 1;
+                Token::Sign(b)
+            }
+            b'!' => {
+                at += 1;
+                Token::Not
             }
             b'&' | b'|' if doubled => {
-                tokens.push(if b == b'&' { Token::And } else { Token::Or });
                 at += 2;
+                if b == b'&' { Token::And } else { Token::Or }
             }
-            b'[' | b']' | b'{' | b'}' => return Err(6),
-            b'*' | b'?' => return Err(7),
-            b'"' => tokens.push(Token::Quoted(quoted(text, &mut at)?)),
-            _ => tokens.push(word(text, &mut at)?),
-        }
+            b'[' | b']' | b'{' | b'}' => return Err((6, at)),
+            b'*' | b'?' => return Err((7, at)),
+            b'"' => Token::Quoted(quoted(text, &mut at)?),
+            _ => word(text, &mut at)?,
+        };
+        tokens.push((start, token));
     }
     Ok(tokens)
 }
 
 /// The byte after a backslash.
-fn escaped(text: &[u8], at: &mut usize) -> Result<u8, u32> {
-    let b = *text.get(*at + 1).ok_or(5_u32)?;
+fn escaped(text: &[u8], at: &mut usize) -> Result<u8, Fault> {
+    let b = *text.get(*at + 1).ok_or((5, *at))?;
     *at += 2;
     Ok(b)
 }
 
-fn quoted(text: &[u8], at: &mut usize) -> Result<Vec<u8>, u32> {
+fn quoted(text: &[u8], at: &mut usize) -> Result<Vec<u8>, Fault> {
     let mut inside = Vec::new();
+    let opening = *at;
     *at += 1;
     loop {
-        match *text.get(*at).ok_or(4_u32)? {
+        match *text.get(*at).ok_or((4, opening))? {
             b'"' => break,
             b'\\' => inside.push(escaped(text, at)?),
             b => {
@@ -110,12 +123,12 @@ fn quoted(text: &[u8], at: &mut usize) -> Result<Vec<u8>, u32> {
     Ok(inside)
 }
 
-fn word(text: &[u8], at: &mut usize) -> Result<Token, u32> {
+fn word(text: &[u8], at: &mut usize) -> Result<Token, Fault> {
     let mut inside = Vec::new();
     while let Some(&b) = text.get(*at) {
         match b {
             9..=13 | b' ' => break,
-            b'*' | b'?' => return Err(7),
+            b'*' | b'?' => return Err((7, *at)),
             b'!' | b'(' | b')' | b':' | b'^' | b'"' | b'~' | b'[' | b']' | b'{' | b'}' => break,
             b'\\' => inside.push(escaped(text, at)?),
             b => {
@@ -134,14 +147,24 @@ fn word(text: &[u8], at: &mut usize) -> Result<Token, u32> {
 
 struct Walk<'a> {
     fields: &'a Fields<'a>,
-    tokens: &'a [Token],
+    tokens: &'a [Placed],
+    end: usize,
     at: usize,
     open: usize,
 }
 
 impl<'a> Walk<'a> {
+    fn token(&self, at: usize) -> Option<&'a Token> {
+        self.tokens.get(at).map(|(_, token)| token)
+    }
+
     fn peek(&self) -> Option<&'a Token> {
-        self.tokens.get(self.at)
+        self.token(self.at)
+    }
+
+    /// A refusal of the token at the hand, or of the end.
+    fn refuse(&self, number: u32) -> Fault {
+        (number, self.tokens.get(self.at).map_or(self.end, |(place, _)| *place))
     }
 
     fn eat(&mut self, tokens: &[Token]) -> bool {
@@ -151,7 +174,7 @@ impl<'a> Walk<'a> {
     }
 
     /// A query: whether any clause of it is kept.
-    fn query(&mut self, field: &[u8]) -> Result<bool, u32> {
+    fn query(&mut self, field: &[u8]) -> Result<bool, Fault> {
         let mut kept = false;
         while self.peek().is_some_and(|t| *t != Token::Sign(b')')) {
             if kept {
@@ -163,12 +186,12 @@ impl<'a> Walk<'a> {
         Ok(kept)
     }
 
-    fn clause(&mut self, field: &[u8]) -> Result<bool, u32> {
-        let colon = self.tokens.get(self.at + 1) == Some(&Token::Sign(b':'));
+    fn clause(&mut self, field: &[u8]) -> Result<bool, Fault> {
+        let colon = self.token(self.at + 1) == Some(&Token::Sign(b':'));
         match self.peek() {
             Some(Token::Term(name)) if colon => {
                 if name.len() > 32 {
-                    return Err(15);
+                    return Err(self.refuse(15));
                 }
                 self.at += 2;
                 self.body(name)
@@ -177,47 +200,49 @@ impl<'a> Walk<'a> {
         }
     }
 
-    fn body(&mut self, field: &[u8]) -> Result<bool, u32> {
-        let token = self.peek().ok_or(10_u32)?;
+    fn body(&mut self, field: &[u8]) -> Result<bool, Fault> {
+        let token = self.peek().ok_or_else(|| self.refuse(10))?;
+        let refused = self.refuse(11);
+        let bracket = self.refuse(16);
         self.at += 1;
         let tilde = self.peek() == Some(&Token::Sign(b'~'));
         let kept = match token {
-            Token::Term(_) if tilde => return Err(8),
-            Token::Quoted(_) if tilde => return Err(9),
+            Token::Term(_) if tilde => return Err(self.refuse(8)),
+            Token::Quoted(_) if tilde => return Err(self.refuse(9)),
             Token::Term(text) | Token::Quoted(text) => self.fields.has_words(field, text),
+            Token::Sign(b'(') if self.open == 24 => return Err(bracket),
             Token::Sign(b'(') => self.bracket(field)?,
-            _ => return Err(11),
+            _ => return Err(refused),
         };
         self.boost()?;
         Ok(kept)
     }
 
-    fn bracket(&mut self, field: &[u8]) -> Result<bool, u32> {
-        if self.open == 24 {
-            return Err(16);
-        }
+    fn bracket(&mut self, field: &[u8]) -> Result<bool, Fault> {
         self.open += 1;
         let kept = self.query(field)?;
         self.open -= 1;
         if self.eat(&[Token::Sign(b')')]) {
             Ok(kept)
         } else {
-            Err(12)
+            Err(self.refuse(12))
         }
     }
 
-    fn boost(&mut self) -> Result<(), u32> {
+    fn boost(&mut self) -> Result<(), Fault> {
         if !self.eat(&[Token::Sign(b'^')]) {
             return Ok(());
         }
         let Some(Token::Term(numeral)) = self.peek() else {
-            return Err(14);
+            return Err(self.refuse(14));
         };
-        self.at += 1;
         match numeral.len() {
-            0..=40 if is_numeral(numeral) => Ok(()),
-            0..=40 => Err(13),
-            _ => Err(17),
+            0..=40 if is_numeral(numeral) => {
+                self.at += 1;
+                Ok(())
+            }
+            0..=40 => Err(self.refuse(13)),
+            _ => Err(self.refuse(17)),
         }
     }
 }

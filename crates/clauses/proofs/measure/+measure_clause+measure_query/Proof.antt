@@ -7,7 +7,7 @@ use Rattle.row.specs.Row.{tokensOf, nameFrom}
 use Rattle.clauses.specs.Leaves.{leafAt}
 use Rattle.rules.specs.Parsing.{closedAt, queryFound}
 use Rattle.rules.specs.Setup.{Setup}
-use Rattle.rules.specs.Numbers.{onRead, andThen, refused, longField, manyBrackets, unexpectedEnd, unexpectedToken}
+use Rattle.rules.specs.Numbers.{onRead, andThen, refused, faulty, longField, manyBrackets, unexpectedEnd, unexpectedToken}
 use borrow.Author.Tests.{eqb-true, eqb-false, eq-eqb, not-true, not-false}
 use Prim.Native.Nat.{ℕ, _<_, _+_, _-_, _*_}
 use lib.Dec.{eqb}
@@ -136,24 +136,24 @@ measure-clause-returns-3 t c =
     let args = c .before .before .before .before .before .before .before .before .before .before .before .before .args in
     let from = c .before .before .before .before .before .before .before .from in
     let S1 = rw (from .given .1) at (c .before .before .before .before .before .before .before .before .before .clause-start .ensures) in
-    ((λ st T. meant-start S1 st (args .default .now) (args .p .depth) _ (refused manyBrackets) (λ k h. body-deep st (tokensOf (args .room .now) (args .p .n)) _ (nameFrom (args .room .now) (args .default .now) (from .given .0 .0)) (args .p .depth) (from .given .0 .1 .1 .0) _ (c .before .before .before .before .before .kind-at .ensures) (c .before .before .before .before .if1 .left) (c .before .before .if3 .taken) (c .if4 .left)) (manyBrackets, refl, refl)), omega arith)
+    ((λ st T. meant-start S1 st (args .default .now) (args .p .depth) _ (refused (faulty manyBrackets (from .given .0 .1 .1 .0))) (λ k h. body-deep st (tokensOf (args .room .now) (args .p .n)) _ (nameFrom (args .room .now) (args .default .now) (from .given .0 .0)) (args .p .depth) (from .given .0 .1 .1 .0) _ (c .before .before .before .before .before .kind-at .ensures) (c .before .before .before .before .if1 .left) (c .before .before .if3 .taken) (c .if4 .left)) (manyBrackets, refl, refl)), omega arith)
 
 measure-clause-returns-4 : (t : ℕ) → measure-clause-lts.Need-returns-4 (measure-clause-calls t) (measure-clause-at t) measure-clause.Post
 measure-clause-returns-4 t c =
     let args = c .before .before .before .before .before .before .before .before .before .before .before .args in
     let from = c .before .before .before .before .before .before .from in
     let S1 = rw (from .given .1) at (c .before .before .before .before .before .before .before .before .clause-start .ensures) in
-    ((λ st T. meant-start S1 st (args .default .now) (args .p .depth) _ (refused unexpectedEnd) (λ k h. body-end st (tokensOf (args .room .now) (args .p .n)) _ (nameFrom (args .room .now) (args .default .now) (from .given .0 .0)) (args .p .depth) (from .given .0 .1 .1 .0) _ (c .before .before .before .before .kind-at .ensures) (c .before .before .before .if1 .left) (c .before .if3 .left) (eqb-false _ _ (c .before .before .if2 .left)) (c .if5 .taken)) (unexpectedEnd, refl, refl)), omega arith)
+    ((λ st T. meant-start S1 st (args .default .now) (args .p .depth) _ (refused (faulty unexpectedEnd (from .given .0 .1 .1 .0))) (λ k h. body-end st (tokensOf (args .room .now) (args .p .n)) _ (nameFrom (args .room .now) (args .default .now) (from .given .0 .0)) (args .p .depth) (from .given .0 .1 .1 .0) _ (c .before .before .before .before .kind-at .ensures) (c .before .before .before .if1 .left) (c .before .if3 .left) (eqb-false _ _ (c .before .before .if2 .left)) (c .if5 .taken)) (unexpectedEnd, refl, refl)), omega arith)
 
 measure-clause-returns-5 : (t : ℕ) → measure-clause-lts.Need-returns-5 (measure-clause-calls t) (measure-clause-at t) measure-clause.Post
-measure-clause-returns-5 t c = let E = rw (c .enum-told .given .1) at (c .before .before .clause-start .ensures) in ((λ st T. record { answer = refused longField; says = λ k h. E st _ _ _; means = (longField, refl, refl) }), omega arith)
+measure-clause-returns-5 t c = let E = rw (c .enum-told .given .1) at (c .before .before .clause-start .ensures) in ((λ st T. record { answer = refused (faulty longField _); says = λ k h. E st _ _ _; means = (longField, refl, refl) }), omega arith)
 
 measure-clause-returns-6 : (t : ℕ) → measure-clause-lts.Need-returns-6 (measure-clause-calls t) (measure-clause-at t) measure-clause.Post
 measure-clause-returns-6 t c =
     let args = c .before .before .before .before .before .before .before .before .before .before .before .args in
     let from = c .before .before .before .before .before .before .from in
     let S1 = rw (from .given .1) at (c .before .before .before .before .before .before .before .before .clause-start .ensures) in
-    ((λ st T. meant-start S1 st (args .default .now) (args .p .depth) _ (refused unexpectedToken) (λ k h. body-other st (tokensOf (args .room .now) (args .p .n)) _ (nameFrom (args .room .now) (args .default .now) (from .given .0 .0)) (args .p .depth) (from .given .0 .1 .1 .0) _ (c .before .before .before .before .kind-at .ensures) (c .before .before .before .if1 .left) (c .before .if3 .left) (eqb-false _ _ (c .before .before .if2 .left)) (c .if5 .left)) (unexpectedToken, refl, refl)), omega arith)
+    ((λ st T. meant-start S1 st (args .default .now) (args .p .depth) _ (refused (faulty unexpectedToken (from .given .0 .1 .1 .0))) (λ k h. body-other st (tokensOf (args .room .now) (args .p .n)) _ (nameFrom (args .room .now) (args .default .now) (from .given .0 .0)) (args .p .depth) (from .given .0 .1 .1 .0) _ (c .before .before .before .before .kind-at .ensures) (c .before .before .before .if1 .left) (c .before .if3 .left) (eqb-false _ _ (c .before .before .if2 .left)) (c .if5 .left)) (unexpectedToken, refl, refl)), omega arith)
 
 abbrev measure-query-Inv-loop : measure-query-lts.InvT-loop
 measure-query-Inv-loop room default p at i₀ s₀ i s =

@@ -22,6 +22,9 @@ is-at-requires c κs = (c .before .before .pre .0 .few, c .before .before .pre .
 leaf-fault-requires : tie.Need-leaf-fault-requires
 leaf-fault-requires c κs = search needs
 
+add-t15 : tie.Need-add-t15
+add-t15 c = search needs
+
 returns : tie.Need-returns
 returns c = ((λ st o T. (_, leaf-faulty (c .before .before .before .before .before .args .plain) st (tokensOf (c .before .before .before .before .before .args .room .now) (c .before .before .before .before .before .args .n)) (nameFrom (c .before .before .before .before .before .args .room .now) (c .before .before .before .before .before .args .default .now) (c .before .before .before .before .before .args .from)) (c .before .before .before .before .before .args .i) (sym (c .before .before .is-at .ensures) ∙ c .before .if1 .taken), c .leaf-fault .ensures)), omega arith)
 
@@ -90,6 +93,7 @@ measure-leaf-spec =
     add-is-at
     is-at-requires
     leaf-fault-requires
+    add-t15
     returns
     field-part-requires
     text-at-requires

@@ -19,7 +19,7 @@ same-length : tie.Need-same-length
 same-length c = search needs
 
 returns : tie.Need-returns
-returns c = (c .before .before .before .before .before .read-quoted .ensures .0, quoted-no (c .before .before .before .before .before .before .before .before .before .args .text .now) (c .before .before .before .before .before .before .before .before .before .args .at) _ (drop (c .before .before .before .before .before .before .before .before .before .args .at + 1) (c .before .before .before .before .before .before .before .before .before .args .text .now)) (c .before .before .before .before .before .read-quoted .result) (c .before .before .before .before .before .read-quoted .ensures .1) _ (c .before .f .given .1))
+returns c = (c .before .before .before .before .before .read-quoted .ensures .0, quoted-no (c .before .before .before .before .before .before .before .before .before .args .text .now) (c .before .before .before .before .before .before .before .before .before .args .at) _ (drop (c .before .before .before .before .before .before .before .before .before .args .at + 1) (c .before .before .before .before .before .before .before .before .before .args .text .now)) (c .before .before .before .before .before .read-quoted .result) (c .before .before .before .before .before .read-quoted .ensures .1) _ _ (c .before .f .given .1))
 
 same-length-2 : tie.Need-same-length-2
 same-length-2 c = search needs

@@ -55,7 +55,7 @@ same-length-2 : tie.Need-same-length-2
 same-length-2 c = search needs
 
 returns-2 : tie.Need-returns-2
-returns-2 c = (c .before .before .before .before .before .read-term .ensures .0, term-no (c .before .before .before .before .before .before .before .before .before .args .text .now) (c .before .before .before .before .before .before .before .before .before .args .at) _ (drop (c .before .before .before .before .before .before .before .before .before .args .at) (c .before .before .before .before .before .before .before .before .before .args .text .now)) (c .before .before .before .before .before .read-term .result) (c .before .before .before .before .before .read-term .ensures .1) _ (c .before .f .given .1))
+returns-2 c = (c .before .before .before .before .before .read-term .ensures .0, term-no (c .before .before .before .before .before .before .before .before .before .args .text .now) (c .before .before .before .before .before .before .before .before .before .args .at) _ (drop (c .before .before .before .before .before .before .before .before .before .args .at) (c .before .before .before .before .before .before .before .before .before .args .text .now)) (c .before .before .before .before .before .read-term .result) (c .before .before .before .before .before .read-term .ensures .1) _ _ (c .before .f .given .1))
 
 same-length-3 : tie.Need-same-length-3
 same-length-3 c = search needs

@@ -37,7 +37,7 @@ part-rewrite-end c =
     let args = c .before .before .before .before .before .before .before .before .before .before .before .before .before .before .before .args in
     let parse-lines = c .before .before .before .before .before .before .before .before .parse-lines in
     let n = c .before .before .n in
-    answering.parsed-length (writtenIn (now (args .input))) (now (args .first)) (now (args .room)) (omega (arith, pre .2)) (answering.parse-bytes (writtenIn (now (args .input))) (now (args .first)) (now (args .room)) (omega (arith, pre .2)) (n .given .0 .0) (parse-lines .last .1 .0) (parse-lines .last .1 .1 .0) (n .given .1) (parse-lines .ensures)) .0
+    answering.parsed-length (writtenIn (now (args .input))) (now (args .first)) (now (args .room)) (omega (arith, pre .2)) (answering.parse-bytes (writtenIn (now (args .input))) (now (args .first)) (now (args .room)) (omega (arith, pre .2)) (n .given .0 .0) (parse-lines .last .1 .0) (parse-lines .last .1 .1 .0) (n .given .1) (parse-lines .ensures .0)) .0
 
 rewrite-requires : tie.Need-rewrite-requires
 rewrite-requires c κs = search needs
@@ -60,12 +60,13 @@ returns c = (
       (writtenIn (now (c .before .before .before .before .before .before .before .before .before .before .before .before .before .before .before .args .input)))
       (now (c .before .before .before .before .before .before .before .before .before .before .before .before .before .before .before .args .first))
       (now (c .before .before .before .before .before .before .before .before .before .before .before .before .before .before .before .args .room))
-      (omega (arith, c .before .before .before .before .before .before .before .before .before .before .before .before .before .before .before .pre .2)) (c .before .before .e .given .0 .0)
+      (omega (arith, c .before .before .before .before .before .before .before .before .before .before .before .before .before .before .before .pre .2)) (c .before .before .e .given .0 .0) (c .before .before .e .given .0 .1 .0)
       (c .before .before .before .before .before .before .before .before .parse-lines .last .1 .0) (c .before .before .before .before .before .before .before .before .parse-lines .last .1 .1 .0) (c .before .before .e .given .1)
-      (c .before .before .before .before .before .before .before .before .parse-lines .ensures))
-      (c .refused .ensures .0) in
-      answering.makes-refused (U .0) (U .1) (c .before .before .before .before .before .before .before .before .parse-lines .last .1 .0) (now (c .before .before .before .before .before .before .before .before .before .before .before .before .before .before .before .args .second)) (c .refused .result .written) (c .refused .result .rewritten) (c .refused .result .rounds) (omega (arith, c .refused .ensures .1)) (omega (arith, c .refused .ensures .2)) (omega (arith, c .refused .ensures .1)) (omega (arith, c .refused .ensures .2)) (omega (arith, c .refused .ensures .3)),
-  answering.parse-room (writtenIn (now (c .before .before .before .before .before .before .before .before .before .before .before .before .before .before .before .args .input))) (now (c .before .before .before .before .before .before .before .before .before .before .before .before .before .before .before .args .first)) (now (c .before .before .before .before .before .before .before .before .before .before .before .before .before .before .before .args .room)) (omega (arith, c .before .before .before .before .before .before .before .before .before .before .before .before .before .before .before .pre .2)) (c .before .before .before .before .before .before .before .before .parse-lines .result) (c .before .before .before .before .before .before .before .before .parse-lines .last .1 .0) (c .before .before .before .before .before .before .before .before .parse-lines .last .1 .1 .0) (c .before .before .before .before .before .before .before .before .parse-lines .ensures),
+      (c .before .before .before .before .before .before .before .before .parse-lines .ensures .0))
+      (c .refused .ensures .0) (c .refused .ensures .1) in
+      let near = rw (c .before .before .e .given .1) at (c .before .before .before .before .before .before .before .before .parse-lines .ensures .1) in
+      answering.makes-refused (U .0) (U .1) (omega (arith, c .refused .ensures .1, near)) (c .before .before .before .before .before .before .before .before .parse-lines .last .1 .0) (now (c .before .before .before .before .before .before .before .before .before .before .before .before .before .before .before .args .second)) (c .refused .result .written) (c .refused .result .rewritten) (c .refused .result .rounds) (omega (arith, c .refused .ensures .2)) (omega (arith, c .refused .ensures .3)) (omega (arith, c .refused .ensures .2)) (omega (arith, c .refused .ensures .3)) (omega (arith, c .refused .ensures .4)),
+  answering.parse-room (writtenIn (now (c .before .before .before .before .before .before .before .before .before .before .before .before .before .before .before .args .input))) (now (c .before .before .before .before .before .before .before .before .before .before .before .before .before .before .before .args .first)) (now (c .before .before .before .before .before .before .before .before .before .before .before .before .before .before .before .args .room)) (omega (arith, c .before .before .before .before .before .before .before .before .before .before .before .before .before .before .before .pre .2)) (c .before .before .before .before .before .before .before .before .parse-lines .result) (c .before .before .before .before .before .before .before .before .parse-lines .last .1 .0) (c .before .before .before .before .before .before .before .before .parse-lines .last .1 .1 .0) (c .before .before .before .before .before .before .before .before .parse-lines .ensures .0),
 )
 
 same-length-3 : tie.Need-same-length-3
@@ -82,7 +83,7 @@ returns-2 c =
     let args = c .before .before .before .before .before .before .before .before .before .before .before .before .before .before .before .before .before .before .before .before .before .before .before .args in
     let parse-lines = c .before .before .before .before .before .before .before .before .before .before .before .before .before .before .before .before .parse-lines in
     let n = c .before .before .before .before .before .before .before .before .before .before .n in
-    let P = answering.parse-bytes (writtenIn (now (args .input))) (now (args .first)) (now (args .room)) (omega (arith, c .before .before .before .before .before .before .before .before .before .before .before .before .before .before .before .before .before .before .before .before .before .before .before .pre .2)) (n .given .0 .0) (parse-lines .last .1 .0) (parse-lines .last .1 .1 .0) (n .given .1) (parse-lines .ensures) in
+    let P = answering.parse-bytes (writtenIn (now (args .input))) (now (args .first)) (now (args .room)) (omega (arith, c .before .before .before .before .before .before .before .before .before .before .before .before .before .before .before .before .before .before .before .before .before .before .before .pre .2)) (n .given .0 .0) (parse-lines .last .1 .0) (parse-lines .last .1 .1 .0) (n .given .1) (parse-lines .ensures .0) in
     let e = answering.parsed-cut (writtenIn (now (c .before .before .before .before .before .before .before .before .before .before .before .before .before .before .before .before .before .before .before .before .before .before .before .args .input))) (now (c .before .before .before .before .before .before .before .before .before .before .before .before .before .before .before .before .before .before .before .before .before .before .before .args .first)) (now (c .before .before .before .before .before .before .before .before .before .before .before .before .before .before .before .before .before .before .before .before .before .before .before .args .room)) (omega (arith, c .before .before .before .before .before .before .before .before .before .before .before .before .before .before .before .before .before .before .before .before .before .before .before .pre .2)) P in
     let t = answering.parsed-there (writtenIn (now (c .before .before .before .before .before .before .before .before .before .before .before .before .before .before .before .before .before .before .before .before .before .before .before .args .input))) (now (c .before .before .before .before .before .before .before .before .before .before .before .before .before .before .before .before .before .before .before .before .before .before .before .args .first)) (now (c .before .before .before .before .before .before .before .before .before .before .before .before .before .before .before .before .before .before .before .before .before .before .before .args .room)) (omega (arith, c .before .before .before .before .before .before .before .before .before .before .before .before .before .before .before .before .before .before .before .before .before .before .before .pre .2)) P in
     let l = answering.parsed-length (writtenIn (now (c .before .before .before .before .before .before .before .before .before .before .before .before .before .before .before .before .before .before .before .before .before .before .before .args .input))) (now (c .before .before .before .before .before .before .before .before .before .before .before .before .before .before .before .before .before .before .before .before .before .before .before .args .first)) (now (c .before .before .before .before .before .before .before .before .before .before .before .before .before .before .before .before .before .before .before .before .before .before .before .args .room)) (omega (arith, c .before .before .before .before .before .before .before .before .before .before .before .before .before .before .before .before .before .before .before .before .before .before .before .pre .2)) P in
@@ -95,7 +96,7 @@ returns-2 c =
     (c .before .before .before .before .before .before .before .before .before .before .before .before .before .before .before .before .parse-lines .result)
     (c .before .before .before .before .before .before .before .before .before .before .before .before .before .before .before .before .parse-lines .last .1 .0)
     (c .before .before .before .before .before .before .before .before .before .before .before .before .before .before .before .before .parse-lines .last .1 .1 .0)
-    (c .before .before .before .before .before .before .before .before .before .before .before .before .before .before .before .before .parse-lines .ensures) in
+    (c .before .before .before .before .before .before .before .before .before .before .before .before .before .before .before .before .parse-lines .ensures .0) in
     let k = ap length z ∙ length-replicate (length (now (c .before .before .before .before .before .before .before .before .before .before .before .before .before .before .before .before .before .before .before .before .before .before .before .args .room))) 0 in (
       answering.makes-rewritten
           (now (c .before .before .before .before .before .before .before .before .before .before .before .before .before .before .before .before .before .before .before .before .before .before .before .args .input)) (P .is)

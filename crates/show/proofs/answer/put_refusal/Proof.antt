@@ -21,12 +21,30 @@ slice-aggregate-put-2 c = search needs
 put-requires-2 : tie.Need-put-requires-2
 put-requires-2 c κs = search needs
 
+put-decimal-requires-2 : tie.Need-put-decimal-requires-2
+put-decimal-requires-2 c κs = search needs
+
+slice-aggregate-put-3 : tie.Need-slice-aggregate-put-3
+slice-aggregate-put-3 c = search needs
+
+put-requires-3 : tie.Need-put-requires-3
+put-requires-3 c κs = search needs
+
 same-length : tie.Need-same-length
 same-length c = search needs
 
 returns : tie.Need-returns
 unfolding ascii refusalText
-returns c = laying.lays-then (laying.lays-then (c .before .before .before .before .before .before .before .before .before .before .before .put .ensures) (c .before .before .before .before .before .before .before .put-decimal .ensures)) (c .before .before .put2 .ensures)
+returns c =
+    laying.lays-then
+    (laying.lays-then
+    (laying.lays-then
+    (laying.lays-then
+    (c .before .before .before .before .before .before .before .before .before .before .before .before .before .before .before .before .before .before .before .before .put .ensures)
+    (c .before .before .before .before .before .before .before .before .before .before .before .before .before .before .before .before .put-decimal .ensures))
+    (c .before .before .before .before .before .before .before .before .before .before .before .put2 .ensures))
+    (c .before .before .before .before .before .before .before .put-decimal2 .ensures))
+    (c .before .before .put3 .ensures)
 
 pub put-refusal-spec : {M : Type 1} → statement M
 put-refusal-spec =
@@ -37,5 +55,8 @@ put-refusal-spec =
     put-decimal-requires
     slice-aggregate-put-2
     put-requires-2
+    put-decimal-requires-2
+    slice-aggregate-put-3
+    put-requires-3
     same-length
     returns)

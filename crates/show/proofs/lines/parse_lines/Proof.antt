@@ -46,7 +46,7 @@ returns c =
     let args = c .before .before .before .before .before .before .before .before .before .before .before .before .before .before .before .before .args in
     let line-operator = c .before .before .before .before .before .before .before .before .before .line-operator in
     let behind2 = c .before .before .before .before .before .before .before .before .behind2 in
-    c .before .before .before .before .parse .ensures .is ∙ cutting.lines-parsed (now (args .input)) (now (c .before .before .before .before .before .before .before .before .before .before .before .before .before2 .result)) (now (behind2 .result)) _ (now (c .before .before .before .before .before .before .before .before .before .before .before3 .result)) (now (args .out)) (now (args .room)) (line-operator .result) (c .before .before .before .before .before .before .before .before .before .before .before .before .before2 .ensures) (line-operator .ensures) (behind2 .ensures) refl (c .before .before .before .before .before .before .before .before .before .before .before3 .ensures ∙ ap (front inLine) (c .before .before .before .before .before .before .before .before .before .before .before .behind .ensures))
+    (c .before .before .before .before .parse .ensures .is ∙ cutting.lines-parsed (now (args .input)) (now (c .before .before .before .before .before .before .before .before .before .before .before .before .before2 .result)) (now (behind2 .result)) _ (now (c .before .before .before .before .before .before .before .before .before .before .before3 .result)) (now (args .out)) (now (args .room)) (line-operator .result) (c .before .before .before .before .before .before .before .before .before .before .before .before .before2 .ensures) (line-operator .ensures) (behind2 .ensures) refl (c .before .before .before .before .before .before .before .before .before .before .before3 .ensures ∙ ap (front inLine) (c .before .before .before .before .before .before .before .before .before .before .before .behind .ensures)), c .before .before .before .before .parse .ensures .near)
 
 pub parse-lines-spec : {M : Type 1} → statement M
 parse-lines-spec =
