@@ -1,40 +1,48 @@
--- `boost::numeral::fault` meets its contract. Assumes nothing.
-use Rattle.rules.specs.Numerals.{numeralBits}
-use mathlib.Core.Path.{sym, _∙_}
-use Rattle.boost.proofs.Plain.{number-of-refused, number-of-bits}
+use native.Mathlib.Omega.{arith}
 use borrow.Author.Needs.{needs}
 use Rattle.boost.proofs.numeral.fault.Statement.{statement}
 use Rattle.boost.proofs.numeral.fault.Tie as tie
+use Rattle.boost.proofs.numeral.fault.Reads as reads
+use Rattle.boost.proofs.numeral.fault.Lts as lts
+use Rattle.boost.proofs.numeral.sign_len.Reads as sign-len-reads
+use Rattle.boost.proofs.numeral.unsigned_fault.Reads as unsigned-fault-reads
 
-is-plain-requires : tie.Need-is-plain-requires
-is-plain-requires c κs = search needs
-
+-- src/numeral.rt:278:9
 returns : tie.Need-returns
-returns c = c .before .is-plain .ensures (c .if2 .taken)
+returns c = search needs
 
-numeral-requires : tie.Need-numeral-requires
-numeral-requires c κs = search needs
+-- src/numeral.rt:280:9
+sign-len-requires : tie.Need-sign-len-requires
+sign-len-requires c κs = search needs
 
-enum-known-e : tie.Need-enum-known-e
-enum-known-e c = search needs
+-- src/numeral.rt:281:20
+sub-unsigned-fault : tie.Need-sub-unsigned-fault
+sub-unsigned-fault c = search needs
 
-enum-told : tie.Need-enum-told
-enum-told c = search needs
+-- src/numeral.rt:281:20
+part-unsigned-fault-start : tie.Need-part-unsigned-fault-start
+part-unsigned-fault-start c = search needs
 
+-- src/numeral.rt:281:20
+part-unsigned-fault-end : tie.Need-part-unsigned-fault-end
+part-unsigned-fault-end c = search needs
+
+-- src/numeral.rt:281:5
+unsigned-fault-requires : tie.Need-unsigned-fault-requires
+unsigned-fault-requires c κs = search needs
+
+-- src/numeral.rt:274:1
 returns-2 : tie.Need-returns-2
-returns-2 c = number-of-refused (numeralBits (c .before .before .before .before .before .before .args .text .now)) _ (sym (c .before .e .given .1) ∙ c .before .before .before .numeral .ensures)
-
-returns-3 : tie.Need-returns-3
-returns-3 c = number-of-bits (numeralBits (c .before .before .before .before .before .args .text .now)) _ (sym (c .enum-told .given .1) ∙ c .before .before .numeral .ensures)
+returns-2 c = search needs
 
 pub fault-spec : {M : Type 1} → statement M
 fault-spec =
     tie.close
     (tie.spec
-    is-plain-requires
     returns
-    numeral-requires
-    enum-known-e
-    enum-told
-    returns-2
-    returns-3)
+    sign-len-requires
+    sub-unsigned-fault
+    part-unsigned-fault-start
+    part-unsigned-fault-end
+    unsigned-fault-requires
+    returns-2)

@@ -1,0 +1,58 @@
+use native.Mathlib.Omega.{arith}
+use borrow.Author.Needs.{needs}
+use Rattle.boost.proofs.numeral.digits_of.Statement.{statement}
+use Rattle.boost.proofs.numeral.digits_of.Tie as tie
+use Rattle.boost.proofs.numeral.digits_of.Reads as reads
+use Rattle.boost.proofs.numeral.digits_of.Lts as lts
+use Rattle.boost.proofs.digits.read.Reads as read-reads
+use Rattle.boost.proofs.numeral.is_point.Reads as is-point-reads
+
+-- src/numeral.rt:114:9
+read-requires : tie.Need-read-requires
+read-requires c κs = search needs
+
+-- src/numeral.rt:116:8
+is-point-requires : tie.Need-is-point-requires
+is-point-requires c κs = search needs
+
+-- src/numeral.rt:117:40
+add-read : tie.Need-add-read
+add-read c = search needs
+
+-- src/numeral.rt:117:13
+read-requires-2 : tie.Need-read-requires-2
+read-requires-2 c κs = search needs
+
+-- src/numeral.rt:120:22
+sub-t6 : tie.Need-sub-t6
+sub-t6 c = search needs
+
+-- src/numeral.rt:120:22
+sub-t7 : tie.Need-sub-t7
+sub-t7 c = search needs
+
+-- src/numeral.rt:120:21
+cast-t8 : tie.Need-cast-t8
+cast-t8 c = search needs
+
+-- src/numeral.rt:118:9
+returns : tie.Need-returns
+returns c = search needs
+
+-- src/numeral.rt:110:1
+returns-2 : tie.Need-returns-2
+returns-2 c = search needs
+
+pub digits-of-spec : {M : Type 1} → statement M
+digits-of-spec =
+    tie.close
+    (tie.spec
+    read-requires
+    is-point-requires
+    add-read
+    read-requires-2
+    sub-t6
+    sub-t7
+    cast-t8
+    returns
+    returns-2)

@@ -1,0 +1,21 @@
+use native.Mathlib.Omega.{arith}
+use borrow.Author.Needs.{needs}
+use Rattle.boost.proofs.numeral.is_minus.Statement.{statement}
+use Rattle.boost.proofs.numeral.is_minus.Tie as tie
+use Rattle.boost.proofs.numeral.is_minus.Reads as reads
+use Rattle.boost.proofs.numeral.is_minus.Lts as lts
+
+-- src/numeral.rt:201:16
+shared-slice-read-result : tie.Need-shared-slice-read-result
+shared-slice-read-result c = search needs
+
+-- src/numeral.rt:201:9
+returns : tie.Need-returns
+returns c = search needs
+
+-- src/numeral.rt:197:1
+returns-2 : tie.Need-returns-2
+returns-2 c = search needs
+
+pub is-minus-spec : {M : Type 1} → statement M
+is-minus-spec = tie.close (tie.spec shared-slice-read-result returns returns-2)

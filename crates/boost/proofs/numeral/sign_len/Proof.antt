@@ -1,0 +1,35 @@
+use native.Mathlib.Omega.{arith}
+use borrow.Author.Needs.{needs}
+use Rattle.boost.proofs.numeral.sign_len.Statement.{statement}
+use Rattle.boost.proofs.numeral.sign_len.Tie as tie
+use Rattle.boost.proofs.numeral.sign_len.Reads as reads
+use Rattle.boost.proofs.numeral.sign_len.Lts as lts
+
+-- src/numeral.rt:211:12
+shared-slice-read-if2 : tie.Need-shared-slice-read-if2
+shared-slice-read-if2 c = search needs
+
+-- src/numeral.rt:212:13
+returns : tie.Need-returns
+returns c = search needs
+
+-- src/numeral.rt:214:12
+shared-slice-read-if3 : tie.Need-shared-slice-read-if3
+shared-slice-read-if3 c = search needs
+
+-- src/numeral.rt:215:13
+returns-2 : tie.Need-returns-2
+returns-2 c = search needs
+
+-- src/numeral.rt:217:9
+returns-3 : tie.Need-returns-3
+returns-3 c = search needs
+
+-- src/numeral.rt:207:1
+returns-4 : tie.Need-returns-4
+returns-4 c = search needs
+
+pub sign-len-spec : {M : Type 1} → statement M
+sign-len-spec =
+    tie.close
+    (tie.spec shared-slice-read-if2 returns shared-slice-read-if3 returns-2 returns-3 returns-4)

@@ -1,0 +1,43 @@
+use native.Mathlib.Omega.{arith}
+use borrow.Author.Needs.{needs}
+use Rattle.boost.proofs.numeral.unsigned_fault.Statement.{statement}
+use Rattle.boost.proofs.numeral.unsigned_fault.Tie as tie
+use Rattle.boost.proofs.numeral.unsigned_fault.Reads as reads
+use Rattle.boost.proofs.numeral.unsigned_fault.Lts as lts
+use Rattle.boost.proofs.numeral.digits_fault.Reads as digits-fault-reads
+use Rattle.boost.proofs.numeral.word_fault.Reads as word-fault-reads
+
+-- src/numeral.rt:265:19
+shared-slice-read-if2 : tie.Need-shared-slice-read-if2
+shared-slice-read-if2 c = search needs
+
+-- src/numeral.rt:266:13
+word-fault-requires : tie.Need-word-fault-requires
+word-fault-requires c κs = search needs
+
+-- src/numeral.rt:266:13
+returns : tie.Need-returns
+returns c = search needs
+
+-- src/numeral.rt:268:9
+digits-fault-requires : tie.Need-digits-fault-requires
+digits-fault-requires c κs = search needs
+
+-- src/numeral.rt:268:9
+returns-2 : tie.Need-returns-2
+returns-2 c = search needs
+
+-- src/numeral.rt:260:1
+returns-3 : tie.Need-returns-3
+returns-3 c = search needs
+
+pub unsigned-fault-spec : {M : Type 1} → statement M
+unsigned-fault-spec =
+    tie.close
+    (tie.spec
+    shared-slice-read-if2
+    word-fault-requires
+    returns
+    digits-fault-requires
+    returns-2
+    returns-3)
