@@ -50,3 +50,10 @@ module _ (x v p m : ℕ) (E : x ≡ v * B ^ (p / 16)) (M : m ≡ 2 ^ (p % 16)) w
 
   pub placed-room : v < forty → p ≤ 150 → x * m + 0 * B ^ (p / 16) < limit
   placed-room h k = lt-of-le-of-lt (le-of-eq placed) (lt-of-lt-of-le (mul-lt-mul-of-pos-right h (pow-pos p)) (le-trans (mul-le-mul-left forty (pow-mono k)) eighteen))
+
+-- a factor of less than a word
+pub bits-factor : (p m : ℕ) → m ≡ 2 ^ (p % 16) → (m ≤ 2 ^ 47) × (0 < m)
+bits-factor p m e = (le-trans (le-of-eq e) (pow-mono (go p)), subst (λ (x : ℕ). 0 < x) (sym e) (pow-pos (p % 16)))
+  where
+    go : (p : ℕ) → p % 16 ≤ 47
+    go p = omega arith

@@ -24,6 +24,13 @@ ten-pos k = lt-of-lt-of-le (lit< tt) (ten-mono 0 k zero-le)
 pub five-pos : (k : ℕ) → 0 < 5 ^ k
 five-pos k = lt-of-lt-of-le (lit< tt) (five-mono 0 k zero-le)
 
+-- a number that no smaller one is
+pub more : (n k : ℕ) → k ≤ n → (n ≡ k → ⊥) → suc k ≤ n
+more n k h e = omega arith
+
+pub least : (n k : ℕ) → n ≤ k → k ≤ n → n ≡ k
+least n k h l = omega arith
+
 -- ten is five times two
 pub ten-five : (n : ℕ) → 10 ^ n ≡ 5 ^ n * 2 ^ n
 ten-five zero = refl

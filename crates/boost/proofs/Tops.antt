@@ -161,7 +161,7 @@ module _ (w : ℕ) (below : Bool) (c : ℕ) (h : w < 2 ^ 63) (s : (2 ^ 24 ≤ w)
       same = g ∙ ap (λ (x : ℕ). halved x more) e ∙ ap (halved (w / 2 ^ drops)) f
 
 -- the machine's shift
-shifted-one : (k : ℕ) → k < 40 → 1 * 2 ^ k % 2 ^ 64 ≡ 2 ^ k
+pub shifted-one : (k : ℕ) → k < 40 → 1 * 2 ^ k % 2 ^ 64 ≡ 2 ^ k
 shifted-one k h = ap (λ (x : ℕ). x % 2 ^ 64) (one-mul (2 ^ k)) ∙ mod-eq-of-lt (pow-lt (go k h))
   where
     go : (k : ℕ) → k < 40 → k < 64

@@ -1,3 +1,8 @@
+use Prim.Native.Nat.{_+_}
+use mathlib.Core.Logic.{inl, inr}
+use lib.ListN.{drop}
+use Rattle.rules.specs.Numerals.{exponent, afterDigits, isMinus, afterSign}
+use Rattle.boost.proofs.Grammar.{scaled-as, digits-e, digits-other, digits-end}
 use native.Mathlib.Omega.{arith}
 use borrow.Author.Needs.{needs}
 use Rattle.boost.proofs.numeral.after_digits.Statement.{statement}
@@ -20,7 +25,8 @@ after-e-requires c κs = search needs
 
 -- src/numeral.rt:90:13
 returns : tie.Need-returns
-returns c = search needs
+returns c = λ d f. scaled-as (c .after-e .result) d f (afterDigits d f (drop (c .before .before .before .before .before .args .end) (c .before .before .before .before .before .args .s .now))) (exponent (isMinus (drop (c .before .before .before .before .before .args .end + 1) (c .before .before .before .before .before .args .s .now))) d f (afterSign (drop (c .before .before .before .before .before .args .end + 1) (c .before .before .before .before .before .args .s .now))))
+      (digits-e d f (c .before .before .before .before .before .args .s .now) (c .before .before .before .before .before .args .end) (c .before .before .before .if1 .taken) (inl (c .before .if2 .taken))) (c .after-e .ensures d f)
 
 -- src/numeral.rt:93:31
 add-after-e-2 : tie.Need-add-after-e-2
@@ -32,15 +38,16 @@ after-e-requires-2 c κs = search needs
 
 -- src/numeral.rt:93:13
 returns-2 : tie.Need-returns-2
-returns-2 c = search needs
+returns-2 c = λ d f. scaled-as (c .after-e2 .result) d f (afterDigits d f (drop (c .before .before .before .before .before .before .args .end) (c .before .before .before .before .before .before .args .s .now))) (exponent (isMinus (drop (c .before .before .before .before .before .before .args .end + 1) (c .before .before .before .before .before .before .args .s .now))) d f (afterSign (drop (c .before .before .before .before .before .before .args .end + 1) (c .before .before .before .before .before .before .args .s .now))))
+      (digits-e d f (c .before .before .before .before .before .before .args .s .now) (c .before .before .before .before .before .before .args .end) (c .before .before .before .before .if1 .taken) (inr (c .before .if3 .taken))) (c .after-e2 .ensures d f)
 
 -- src/numeral.rt:95:9
 returns-3 : tie.Need-returns-3
-returns-3 c = search needs
+returns-3 c = λ d f. digits-other d f (c .before .before .before .before .before .args .s .now) (c .before .before .before .before .before .args .end) (c .before .before .before .if1 .taken) (c .before .if2 .left) (c .if3 .left)
 
 -- src/numeral.rt:83:1
 returns-4 : tie.Need-returns-4
-returns-4 c = search needs
+returns-4 c = λ d f. digits-end d f (c .before .before .args .s .now) (c .before .before .args .end) (c .if1 .left)
 
 pub after-digits-spec : {M : Type 1} → statement M
 after-digits-spec =

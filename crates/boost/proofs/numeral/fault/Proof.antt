@@ -1,3 +1,6 @@
+use mathlib.Core.Path.{refl}
+use Rattle.rules.specs.Numerals.{isMinus}
+use Rattle.boost.proofs.Words.{too-long-fault, fault-by-sign}
 use native.Mathlib.Omega.{arith}
 use borrow.Author.Needs.{needs}
 use Rattle.boost.proofs.numeral.fault.Statement.{statement}
@@ -9,7 +12,7 @@ use Rattle.boost.proofs.numeral.unsigned_fault.Reads as unsigned-fault-
 
 -- src/numeral.rt:278:9
 returns : tie.Need-returns
-returns c = search needs
+returns c = too-long-fault (c .before .before .args .text .now) (c .if1 .taken)
 
 -- src/numeral.rt:280:9
 sign-len-requires : tie.Need-sign-len-requires
@@ -33,7 +36,7 @@ unsigned-fault-requires c κs = search needs
 
 -- src/numeral.rt:274:1
 returns-2 : tie.Need-returns-2
-returns-2 c = search needs
+returns-2 c = fault-by-sign (c .before .before .before .before .before .args .text .now) (isMinus (c .before .before .before .before .before .args .text .now)) (c .before .before .sign-len .result) (c .before .before .before .if1 .left) refl (c .before .before .sign-len .ensures .1) (c .unsigned-fault .result) (c .unsigned-fault .ensures (isMinus (c .before .before .before .before .before .args .text .now)))
 
 pub fault-spec : {M : Type 1} → statement M
 fault-spec =

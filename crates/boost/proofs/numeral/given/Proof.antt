@@ -1,3 +1,4 @@
+use Rattle.boost.proofs.Grammar.{given-minus, given-plus}
 use native.Mathlib.Omega.{arith}
 use borrow.Author.Needs.{needs}
 use Rattle.boost.proofs.numeral.given.Statement.{statement}
@@ -11,11 +12,11 @@ add-t4 c = search needs
 
 -- src/numeral.rt:41:9
 returns : tie.Need-returns
-returns c = search needs
+returns c = given-minus (c .before .args .minus) (c .before .args .p) (c .if1 .taken)
 
 -- src/numeral.rt:36:1
 returns-2 : tie.Need-returns-2
-returns-2 c = search needs
+returns-2 c = given-plus (c .before .args .minus) (c .before .args .p) (c .if1 .left)
 
 pub given-spec : {M : Type 1} → statement M
 given-spec = tie.close (tie.spec add-t4 returns returns-2)

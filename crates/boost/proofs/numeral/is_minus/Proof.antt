@@ -1,3 +1,4 @@
+use Rattle.boost.proofs.Words.{minus-byte, minus-none}
 use native.Mathlib.Omega.{arith}
 use borrow.Author.Needs.{needs}
 use Rattle.boost.proofs.numeral.is_minus.Statement.{statement}
@@ -11,11 +12,11 @@ shared-slice-read-result c = search needs
 
 -- src/numeral.rt:201:9
 returns : tie.Need-returns
-returns c = search needs
+returns c = minus-byte (c .before .before .args .text .now) (c .before .if1 .taken)
 
 -- src/numeral.rt:197:1
 returns-2 : tie.Need-returns-2
-returns-2 c = search needs
+returns-2 c = minus-none (c .before .args .text .now) (c .if1 .left)
 
 pub is-minus-spec : {M : Type 1} → statement M
 is-minus-spec = tie.close (tie.spec shared-slice-read-result returns returns-2)

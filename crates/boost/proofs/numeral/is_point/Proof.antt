@@ -1,3 +1,4 @@
+use Rattle.boost.proofs.Grammar.{point-byte, point-end}
 use native.Mathlib.Omega.{arith}
 use borrow.Author.Needs.{needs}
 use Rattle.boost.proofs.numeral.is_point.Statement.{statement}
@@ -11,11 +12,11 @@ shared-slice-read-result c = search needs
 
 -- src/numeral.rt:104:9
 returns : tie.Need-returns
-returns c = search needs
+returns c = point-byte (c .before .before .args .s .now) (c .before .before .args .at) (c .before .if1 .taken)
 
 -- src/numeral.rt:100:1
 returns-2 : tie.Need-returns-2
-returns-2 c = search needs
+returns-2 c = point-end (c .before .args .s .now) (c .before .args .at) (c .if1 .left)
 
 pub is-point-spec : {M : Type 1} → statement M
 is-point-spec = tie.close (tie.spec shared-slice-read-result returns returns-2)

@@ -1,3 +1,6 @@
+use mathlib.Core.Path.{sym}
+use Rattle.boost.proofs.Grammar.{sign-minus, sign-plus, sign-none}
+use Rattle.boost.proofs.Words.{after-none}
 use native.Mathlib.Omega.{arith}
 use borrow.Author.Needs.{needs}
 use Rattle.boost.proofs.numeral.sign_len.Statement.{statement}
@@ -11,7 +14,7 @@ shared-slice-read-if2 c = search needs
 
 -- src/numeral.rt:212:13
 returns : tie.Need-returns
-returns c = search needs
+returns c = (omega (arith, c .before .before .if1 .taken), sym (sign-minus (c .before .before .before .args .text .now) 0 (c .before .before .if1 .taken) (c .if2 .taken) .left))
 
 -- src/numeral.rt:214:12
 shared-slice-read-if3 : tie.Need-shared-slice-read-if3
@@ -19,15 +22,15 @@ shared-slice-read-if3 c = search needs
 
 -- src/numeral.rt:215:13
 returns-2 : tie.Need-returns-2
-returns-2 c = search needs
+returns-2 c = (omega (arith, c .before .before .before .before .if1 .taken), sym (sign-plus (c .before .before .before .before .before .args .text .now) 0 (c .before .before .before .before .if1 .taken) (c .before .before .if2 .left) (c .if3 .taken) .left))
 
 -- src/numeral.rt:217:9
 returns-3 : tie.Need-returns-3
-returns-3 c = search needs
+returns-3 c = (omega arith, sym (sign-none (c .before .before .before .before .before .args .text .now) 0 (c .before .before .before .before .if1 .taken) (c .before .before .if2 .left) (c .if3 .left) .left))
 
 -- src/numeral.rt:207:1
 returns-4 : tie.Need-returns-4
-returns-4 c = search needs
+returns-4 c = (omega arith, after-none (c .before .args .text .now) (c .if1 .left))
 
 pub sign-len-spec : {M : Type 1} → statement M
 sign-len-spec =

@@ -1,3 +1,4 @@
+use Rattle.boost.proofs.Words.{digits-refusal, nothing-fault}
 use native.Mathlib.Omega.{arith}
 use borrow.Author.Needs.{needs}
 use Rattle.boost.proofs.numeral.unsigned_fault.Statement.{statement}
@@ -25,11 +26,11 @@ digits-fault-requires c κs = search needs
 
 -- src/numeral.rt:268:9
 returns-2 : tie.Need-returns-2
-returns-2 c = search needs
+returns-2 c = λ m. digits-refusal m (c .before .before .before .before .before .args .s .now) (c .digits-fault .result) (c .before .before .before .if1 .taken) (c .before .if2 .left) (c .digits-fault .ensures m)
 
 -- src/numeral.rt:260:1
 returns-3 : tie.Need-returns-3
-returns-3 c = search needs
+returns-3 c = λ m. nothing-fault m (c .before .before .args .s .now) (c .if1 .left)
 
 pub unsigned-fault-spec : {M : Type 1} → statement M
 unsigned-fault-spec =

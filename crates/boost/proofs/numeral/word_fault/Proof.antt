@@ -1,3 +1,6 @@
+use mathlib.Core.Path.{sym, _∙_}
+use Rattle.rules.specs.Numerals.{unsigned}
+use Rattle.boost.proofs.Words.{word-refused, word-taken}
 use native.Mathlib.Omega.{arith}
 use borrow.Author.Needs.{needs}
 use Rattle.boost.proofs.numeral.word_fault.Statement.{statement}
@@ -20,11 +23,11 @@ enum-told c = search needs
 
 -- src/numeral.rt:234:1
 returns : tie.Need-returns
-returns c = search needs
+returns c = λ m. word-refused m (unsigned (c .before .before .before .before .before .args .s .now)) _ (sym (c .before .e .given .1) ∙ c .before .before .before .word .ensures)
 
 -- src/numeral.rt:234:1
 returns-2 : tie.Need-returns-2
-returns-2 c = search needs
+returns-2 c = λ m. word-taken m (unsigned (c .before .before .before .before .args .s .now)) _ (sym (c .enum-told .given .1) ∙ c .before .before .word .ensures)
 
 pub word-fault-spec : {M : Type 1} → statement M
 word-fault-spec = tie.close (tie.spec word-requires enum-known-e enum-told returns returns-2)

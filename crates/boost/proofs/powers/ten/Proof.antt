@@ -1,3 +1,6 @@
+use Prim.Native.Nat.{zero-le}
+use Rattle.boost.proofs.Tens.{more, least}
+use mathlib.Core.Path.{_≡_, sym, ap}
 use Prim.Native.Nat.{ℕ, _^_}
 use mathlib.Core.Path.{sym, ap}
 use native.Mathlib.Omega.{arith}
@@ -53,7 +56,7 @@ returns-11 c = sym (ap (λ (x : ℕ). 10 ^ x) (c .match .keys11))
 
 -- src/powers.rt:11:1
 returns-12 : tie.Need-returns-12
-returns-12 c = sym (ap (λ (x : ℕ). 10 ^ x) (omega (arith, c .before .pre, c .match .rest .1, c .match .rest .0 .1, c .match .rest .0 .0 .1, c .match .rest .0 .0 .0 .1, c .match .rest .0 .0 .0 .0 .1, c .match .rest .0 .0 .0 .0 .0 .1, c .match .rest .0 .0 .0 .0 .0 .0 .1, c .match .rest .0 .0 .0 .0 .0 .0 .0 .1, c .match .rest .0 .0 .0 .0 .0 .0 .0 .0 .1, c .match .rest .0 .0 .0 .0 .0 .0 .0 .0 .0 .1, c .match .rest .0 .0 .0 .0 .0 .0 .0 .0 .0 .0 .1)))
+returns-12 c = sym (ap (λ (x : ℕ). 10 ^ x) (least (c .before .args .n) 11 (c .before .pre) (more (c .before .args .n) 10 (more (c .before .args .n) 9 (more (c .before .args .n) 8 (more (c .before .args .n) 7 (more (c .before .args .n) 6 (more (c .before .args .n) 5 (more (c .before .args .n) 4 (more (c .before .args .n) 3 (more (c .before .args .n) 2 (more (c .before .args .n) 1 (more (c .before .args .n) 0 (zero-le) (c .match .rest .0 .0 .0 .0 .0 .0 .0 .0 .0 .0 .1)) (c .match .rest .0 .0 .0 .0 .0 .0 .0 .0 .0 .1)) (c .match .rest .0 .0 .0 .0 .0 .0 .0 .0 .1)) (c .match .rest .0 .0 .0 .0 .0 .0 .0 .1)) (c .match .rest .0 .0 .0 .0 .0 .0 .1)) (c .match .rest .0 .0 .0 .0 .0 .1)) (c .match .rest .0 .0 .0 .0 .1)) (c .match .rest .0 .0 .0 .1)) (c .match .rest .0 .0 .1)) (c .match .rest .0 .1)) (c .match .rest .1))))
 
 pub ten-spec : {M : Type 1} → statement M
 ten-spec =
