@@ -3,7 +3,7 @@ use mathlib.Core.Path.{_≡_, refl, sym, ap, _∙_, subst}
 use mathlib.Core.List.{List}
 use mathlib.Core.Bool.{Bool, true, false, not, _||_}
 use Prim.Native.Nat.{ℕ, zero, suc, _+_, _-_, _*_, _/_, _%_, _^_, _≤_, _<_, zero-le}
-use native.Mathlib.Nat.{le-trans, le-of-eq, lt-of-le-of-lt, lt-of-lt-of-le, mul-one, mul-comm, mul-assoc, mul-le-mul-left, pow-suc, pow-le-pow-right, div-one, mod-one, mul-div-mul-right, zero-mul, add-zero}
+use native.Mathlib.Nat.{le-trans, le-of-eq, lt-of-le-of-lt, lt-of-lt-of-le, mul-one, mul-comm, mul-assoc, mul-le-mul-left, pow-suc, pow-le-pow-right, div-one, mod-one, mul-div-mul-right, zero-mul, add-zero, mod-eq-of-lt}
 use native.Mathlib.Omega.{arith}
 use lib.Dec.{eqb, lit<, lit≤}
 use lib.Pow.{pow-add, pow-pos}
@@ -39,6 +39,10 @@ ten-five (suc n) = pow-suc 10 n ∙ ap (λ (x : ℕ). x * 10) (ten-five n) ∙ s
     sum : (a b : ℕ) → a * b * 10 ≡ a * 5 * (b * 2)
     sum a b = let e : a * 5 * b ≡ a * b * 5 = mul-assoc a 5 b ∙ ap (λ (x : ℕ). a * x) (mul-comm 5 b) ∙ sym (mul-assoc a b 5) in let f : a * 5 * (b * 2) ≡ a * 5 * b * 2 = sym (mul-assoc (a * 5) b 2) in omega arith
 
+-- the machine's shift
+pub shifted-five : (n r : ℕ) → n ≤ 14 → r ≡ 5 ^ n → r * 2 ^ n % 2 ^ 64 ≡ 10 ^ n
+shifted-five n r h e = ap (λ (x : ℕ). x % 2 ^ 64) (ap (λ (x : ℕ). x * 2 ^ n) e ∙ sym (ten-five n)) ∙ mod-eq-of-lt (lt-of-le-of-lt (ten-mono n 14 h) (lit< tt))
+
 -- a power of the sum of two
 join : (b i j k : ℕ) → i + j ≡ k → b ^ i * b ^ j ≡ b ^ k
 join b i j k e = sym (pow-add b i j) ∙ ap (λ (x : ℕ). b ^ x) e
@@ -69,8 +73,8 @@ tens-last xs ys n j g h = record { row = g .row; is = sym (mul-one (value ys)) �
     go : (j : ℕ) → j ≤ 0 → j ≡ 0
     go j h = omega arith
 
-pub ten-factor : (c m : ℕ) → c ≤ 11 → m ≡ 10 ^ c → (m ≤ 2 ^ 47) × (0 < m)
-ten-factor c m h e = (le-trans (le-of-eq e) (le-trans (ten-mono c 11 h) (lit≤ tt)), subst (λ (x : ℕ). 0 < x) (sym e) (ten-pos c))
+pub ten-factor : (c m : ℕ) → c ≤ 14 → m ≡ 10 ^ c → (m ≤ 2 ^ 47) × (0 < m)
+ten-factor c m h e = (le-trans (le-of-eq e) (le-trans (ten-mono c 14 h) (lit≤ tt)), subst (λ (x : ℕ). 0 < x) (sym e) (ten-pos c))
 
 -- ---- `fives`
 pub record Fives (xs ys : List ℕ) (n j len : ℕ) (b : Bool) : Type 0 where

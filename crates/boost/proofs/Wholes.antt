@@ -10,9 +10,10 @@ use lib.ListN.{length, drop, getD}
 use Rattle.rules.specs.Bytes.{isEmpty}
 use Rattle.rules.specs.Analysis.{front, after}
 use Rattle.rules.specs.Numerals.{Numeral, bad, isDigit, digitsOn, afterDigits, afterWhole}
-use Rattle.boost.specs.Numeral.{isPoint, byDigits}
+use Rattle.boost.specs.declared.numeral.Scale.{Scale}
+use Rattle.boost.specs.Numeral.{isPoint, byDigits, Scaling, DigitsOf}
 use Rattle.boost.specs.Digits.{shortMost, Reading, numberOf, Held}
-use Rattle.boost.proofs.Grammar.{cons-at, no-length, some-length, point-within}
+use Rattle.boost.proofs.Grammar.{scaled-as, cons-at, no-length, some-length, point-within}
 use Rattle.boost.proofs.Scales.{number-whole, number-both}
 
 digits-none : (w : ℕ) → digitsOn w [] ≡ w
@@ -158,3 +159,12 @@ module _ (s : List ℕ) (v point : ℕ) (g : Reading s 0 0 v point) where
 
         room : (p n k end l : ℕ) → end ≡ p + 1 + n → k ≡ n → end ≤ l → p + k < l
         room p n k end l a b c = omega arith
+
+-- ---- what follows the digits, of all that the text holds
+pub scaled-by : (s : List ℕ) (point places v end : ℕ) (x y : Scale) → DigitsOf s point places v end → ((d f : ℕ) → Scaling x d f (afterDigits d f (drop end s))) → (point + places ≡ 0 → ⊥) → x ≡ y → Scaling y (numberOf s point places) places (byDigits s)
+scaled-by s point places v end x y g h n e =
+    subst (λ (z : Scale). Scaling z (numberOf s point places) places (byDigits s)) e
+    (scaled-as x (numberOf s point places) places (byDigits s) (afterDigits (numberOf s point places) places (drop end s)) (g .some (some-of (point + places) n)) (h (numberOf s point places) places))
+  where
+    some-of : (k : ℕ) → (k ≡ 0 → ⊥) → 0 < k
+    some-of k n = omega arith

@@ -1,32 +1,14 @@
-// Powers of ten and of five. Each by a match: a table would be laid out anew at every call.
+// Powers of five and of ten. Five's by a match: a table would be laid out anew at every call.
 ghost use mathlib.Core.Path.{_≡_};
 ghost use Prim.Native.Nat.{_^_, _≤_};
 
-// The largest power of ten that is given here, and the largest of five.
-pub const TENS_MOST: u32 = 11;
+// The largest powers that a row is multiplied and divided by at once.
+pub const TENS_MOST: u32 = 14;
 
 pub const FIVES_MOST: u32 = 20;
 
-// 10^n.
-pub fn ten(n: u32) -> u64
-    requires { ⌜ n ≤ 11 ⌝ }
-    ensures { λ r. ⌜ r ≡ 10 ^ n ⌝ }
-{
-    match n {
-        0 => 1,
-        1 => 10,
-        2 => 100,
-        3 => 1000,
-        4 => 10000,
-        5 => 100000,
-        6 => 1000000,
-        7 => 10000000,
-        8 => 100000000,
-        9 => 1000000000,
-        10 => 10000000000,
-        _ => 100000000000,
-    }
-}
+// 5^20.
+pub const ALL_FIVES: u64 = 95367431640625;
 
 // 5^n.
 pub fn five(n: u32) -> u64
@@ -58,5 +40,10 @@ pub fn five(n: u32) -> u64
     }
 }
 
-// 5^20: what a long division takes at once.
-pub const ALL_FIVES: u64 = 95367431640625;
+// 10^n, which is 5^n times 2^n.
+pub fn ten(n: u32) -> u64
+    requires { ⌜ n ≤ 14 ⌝ }
+    ensures { λ r. ⌜ r ≡ 10 ^ n ⌝ }
+{
+    five(n) << n
+}

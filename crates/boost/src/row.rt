@@ -84,7 +84,7 @@ pub fn used(row: &Words, len: usize) -> usize
 
 // At most as many tens as there is a power of.
 fn some_tens(n: u32) -> u32
-    ensures { λ r. ⌜ (r ≤ n) × (r ≤ 11) × (0 < n → 0 < r) ⌝ }
+    ensures { λ r. ⌜ (r ≤ n) × (r ≤ 14) × (0 < n → 0 < r) ⌝ }
 {
     if n < TENS_MOST { n } else { TENS_MOST }
 }

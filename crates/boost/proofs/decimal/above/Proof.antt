@@ -1,3 +1,4 @@
+-- `boost::decimal::above` meets its contract. Assumes nothing.
 use Prim.Native.Nat.{ℕ, _*_, _^_}
 use mathlib.Core.Path.{sym, ap, _∙_}
 use Rattle.rules.specs.Numerals.{nearest}
@@ -6,36 +7,25 @@ use native.Mathlib.Omega.{arith}
 use borrow.Author.Needs.{needs}
 use Rattle.boost.proofs.decimal.above.Statement.{statement}
 use Rattle.boost.proofs.decimal.above.Tie as tie
-use Rattle.boost.proofs.decimal.above.Reads as reads
-use Rattle.boost.proofs.decimal.above.Lts as lts
-use Rattle.boost.proofs.decimal.above_by_row.Reads as above-by-row-reads
-use Rattle.boost.proofs.quick.multiple.Reads as multiple-reads
 
--- src/decimal.rt:94:43
 cast-multiple : tie.Need-cast-multiple
 cast-multiple c = omega (arith, c .before .if2 .taken)
 
--- src/decimal.rt:94:13
 multiple-requires : tie.Need-multiple-requires
 multiple-requires c κs = (c .before .if2 .taken, c .before .before .before .if1 .taken)
 
--- src/decimal.rt:94:13
 returns : tie.Need-returns
 returns c = c .multiple .ensures ∙ ap (λ (x : ℕ). nearest (x * 10 ^ c .before .before .before .before .before .before .args .n) 1) (sym (held-is (c .before .before .before .before .before .before .args .s .now) (c .before .before .before .before .before .before .args .d .point) (c .before .before .before .before .before .before .args .d .places) (c .before .before .before .before .before .before .args .d .value) (c .before .before .before .before .before .before .pre .0) (omega (arith, c .before .before .if2 .taken))))
 
--- src/decimal.rt:96:9
 above-by-row-requires : tie.Need-above-by-row-requires
 above-by-row-requires c κs = (c .before .before .before .before .pre .0, (c .before .before .before .before .pre .1 .0, (c .before .before .before .before .pre .1 .1 .0, much-digits (c .before .before .before .before .args .s .now) (c .before .before .before .before .args .d .point) (c .before .before .before .before .args .d .places) (c .before .before .before .before .args .d .value) (c .before .before .before .before .args .n) (c .before .before .before .before .pre .0) (c .if2 .left))))
 
--- src/decimal.rt:96:9
 returns-2 : tie.Need-returns-2
 returns-2 c = search needs
 
--- src/decimal.rt:98:5
 above-by-row-requires-2 : tie.Need-above-by-row-requires-2
 above-by-row-requires-2 c κs = (c .before .before .pre .0, (c .before .before .pre .1 .0, (c .before .before .pre .1 .1 .0, much-tens (c .before .before .args .s .now) (c .before .before .args .d .point) (c .before .before .args .d .places) (c .before .before .args .d .value) (c .before .before .args .n) (c .before .before .pre .0) (c .before .before .pre .1 .1 .1) (c .if1 .left))))
 
--- src/decimal.rt:85:1
 returns-3 : tie.Need-returns-3
 returns-3 c = search needs
 

@@ -1,37 +1,25 @@
-use native.Mathlib.Nat.{le-refl}
+-- `boost::decimal::above_by_row` meets its contract. Assumes nothing.
 use Prim.Native.Nat.{zero-le}
 use mathlib.Core.Logic.{inl}
 use Rattle.boost.specs.Row.{value}
 use Rattle.boost.specs.Digits.{numberOf}
 use Rattle.boost.proofs.Scales.{above-room, above-enough, above-row}
-use native.Mathlib.Omega.{arith}
-use borrow.Author.Needs.{needs}
+use native.Mathlib.Nat.{le-refl}
 use Rattle.boost.proofs.decimal.above_by_row.Statement.{statement}
 use Rattle.boost.proofs.decimal.above_by_row.Tie as tie
-use Rattle.boost.proofs.decimal.above_by_row.Reads as reads
-use Rattle.boost.proofs.decimal.above_by_row.Lts as lts
-use Rattle.boost.proofs.digits.number.Reads as number-reads
-use Rattle.boost.proofs.row.tens.Reads as tens-reads
-use Rattle.boost.proofs.row.used.Reads as used-reads
-use Rattle.boost.proofs.top.pattern.Reads as pattern-reads
 
--- src/decimal.rt:48:19
 number-requires : tie.Need-number-requires
 number-requires c κs = (c .before .pre .0, (c .before .pre .1 .0, zero-le))
 
--- src/decimal.rt:49:5
 tens-requires : tie.Need-tens-requires
 tens-requires c κs = (c .before .number .ensures .row, above-room (numberOf (c .before .before .before .args .s .now) (c .before .before .before .args .d .point) (c .before .before .before .args .d .places)) (c .before .before .before .args .n) (value (c .before .number .result)) (c .before .number .ensures .is) (c .before .number .ensures .small) (c .before .before .before .pre .1 .1 .0))
 
--- src/decimal.rt:50:9
 used-requires : tie.Need-used-requires
 used-requires c κs = (c .before .tens .ensures .row, le-refl 18)
 
--- src/decimal.rt:51:5
 pattern-requires : tie.Need-pattern-requires
 pattern-requires c κs = (c .before .before .before .tens .ensures .row, (c .before .used .ensures .within, (c .before .used .ensures .top, (inl (above-enough (numberOf (c .before .before .before .before .before .before .before .args .s .now) (c .before .before .before .before .before .before .before .args .d .point) (c .before .before .before .before .before .before .before .args .d .places)) (c .before .before .before .before .before .before .before .args .n) (c .before .before .before .before .before .number .result) (c .before .before .before .tens .last .0) (c .before .used .result) (c .before .before .before .before .before .number .ensures .is) (c .before .before .before .tens .ensures) (c .before .used .ensures) (c .before .before .before .before .before .before .before .pre .1 .1 .1)), le-refl 150))))
 
--- src/decimal.rt:41:1
 returns : tie.Need-returns
 returns c = above-row (numberOf (c .before .before .before .before .before .before .before .before .args .s .now) (c .before .before .before .before .before .before .before .before .args .d .point) (c .before .before .before .before .before .before .before .before .args .d .places)) (c .before .before .before .before .before .before .before .before .args .n) (c .before .before .before .before .before .before .number .result) (c .before .before .before .before .tens .last .0) (c .before .before .used .result) (c .before .before .before .before .before .before .number .ensures .is) (c .before .before .before .before .tens .ensures) (c .before .before .used .ensures) (c .pattern .result) (c .pattern .ensures)
 

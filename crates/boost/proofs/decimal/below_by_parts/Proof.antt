@@ -1,3 +1,4 @@
+-- `boost::decimal::below_by_parts` meets its contract. Assumes nothing.
 use Prim.Native.Nat.{ℕ, _^_}
 use mathlib.Core.Path.{sym, ap, _∙_}
 use Rattle.rules.specs.Numerals.{nearest}
@@ -6,32 +7,22 @@ use native.Mathlib.Omega.{arith}
 use borrow.Author.Needs.{needs}
 use Rattle.boost.proofs.decimal.below_by_parts.Statement.{statement}
 use Rattle.boost.proofs.decimal.below_by_parts.Tie as tie
-use Rattle.boost.proofs.decimal.below_by_parts.Reads as reads
-use Rattle.boost.proofs.decimal.below_by_parts.Lts as lts
-use Rattle.boost.proofs.decimal.below_by_row.Reads as below-by-row-reads
-use Rattle.boost.proofs.wide.quotient.Reads as quotient-reads
 
--- src/decimal.rt:63:13
 quotient-requires : tie.Need-quotient-requires
 quotient-requires c κs = (omega (arith, c .if2 .taken), c .before .before .if1 .taken)
 
--- src/decimal.rt:63:13
 returns : tie.Need-returns
 returns c = c .quotient .ensures ∙ ap (λ (x : ℕ). nearest x (10 ^ c .before .before .before .before .before .args .n)) (sym (held-is (c .before .before .before .before .before .args .s .now) (c .before .before .before .before .before .args .d .point) (c .before .before .before .before .before .args .d .places) (c .before .before .before .before .before .args .d .value) (c .before .before .before .before .before .pre .0) (c .before .if2 .taken)))
 
--- src/decimal.rt:65:9
 below-by-row-requires : tie.Need-below-by-row-requires
 below-by-row-requires c κs = search needs
 
--- src/decimal.rt:65:9
 returns-2 : tie.Need-returns-2
 returns-2 c = search needs
 
--- src/decimal.rt:67:5
 below-by-row-requires-2 : tie.Need-below-by-row-requires-2
 below-by-row-requires-2 c κs = search needs
 
--- src/decimal.rt:55:1
 returns-3 : tie.Need-returns-3
 returns-3 c = search needs
 

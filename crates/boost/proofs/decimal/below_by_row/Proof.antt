@@ -1,3 +1,4 @@
+-- `boost::decimal::below_by_row` meets its contract. Assumes nothing.
 use Prim.Native.Nat.{zero-le, _-_, _*_, _%_, _^_}
 use mathlib.Core.Logic.{inr}
 use mathlib.Core.Path.{refl, _∙_}
@@ -7,53 +8,48 @@ use Rattle.boost.proofs.Tops.{shifted-one}
 use Rattle.boost.proofs.Rooms.{bits-factor, placed, placed-room}
 use Rattle.boost.proofs.Scales.{below-row}
 use native.Mathlib.Omega.{arith}
-use borrow.Author.Needs.{needs}
 use Rattle.boost.proofs.decimal.below_by_row.Statement.{statement}
 use Rattle.boost.proofs.decimal.below_by_row.Tie as tie
-use Rattle.boost.proofs.decimal.below_by_row.Reads as reads
-use Rattle.boost.proofs.decimal.below_by_row.Lts as lts
-use Rattle.boost.proofs.digits.number.Reads as number-reads
-use Rattle.boost.proofs.row.fives.Reads as fives-reads
-use Rattle.boost.proofs.row.scale.Reads as scale-reads
-use Rattle.boost.proofs.top.pattern.Reads as pattern-reads
 
--- src/decimal.rt:32:18
 sub-places : tie.Need-sub-places
 sub-places c = omega (arith, c .before .pre .1 .1)
 
--- src/decimal.rt:33:16
 cast-from : tie.Need-cast-from
 cast-from c = omega (arith, c .before .pre .1 .1)
 
--- src/decimal.rt:34:19
 number-requires : tie.Need-number-requires
 number-requires c κs = (c .before .pre .0, (c .before .pre .1 .0, omega (arith, c .before .pre .1 .1)))
 
--- src/decimal.rt:35:48
 cast-scale : tie.Need-cast-scale
 cast-scale c = omega arith
 
--- src/decimal.rt:35:39
 shl-scale : tie.Need-shl-scale
 shl-scale c = omega arith
 
--- src/decimal.rt:35:5
 scale-requires : tie.Need-scale-requires
-scale-requires c κs = (c .before .number .ensures .row, (omega (arith, c .before .before .before .pre .1 .1), (c .before .number .ensures .none, (bits-factor (150 - c .before .before .before .args .n) (1 * 2 ^ ((150 - c .before .before .before .args .n) % 16) % 2 ^ 64) (shifted-one ((150 - c .before .before .before .args .n) % 16) (omega arith)),
-      placed-room (value (c .before .number .result)) (numberOf (c .before .before .before .args .s .now) (c .before .before .before .args .d .point) (c .before .before .before .args .d .places)) (150 - c .before .before .before .args .n) (1 * 2 ^ ((150 - c .before .before .before .args .n) % 16) % 2 ^ 64) (c .before .number .ensures .is) (shifted-one ((150 - c .before .before .before .args .n) % 16) (omega arith)) (c .before .number .ensures .small) (omega arith)))))
+scale-requires c κs = (
+  c .before .number .ensures .row,
+  (
+    omega (arith, c .before .before .before .pre .1 .1),
+    (
+      c .before .number .ensures .none,
+      (
+        bits-factor (150 - c .before .before .before .args .n) (1 * 2 ^ ((150 - c .before .before .before .args .n) % 16) % 2 ^ 64) (shifted-one ((150 - c .before .before .before .args .n) % 16) (omega arith)),
+        placed-room (value (c .before .number .result)) (numberOf (c .before .before .before .args .s .now) (c .before .before .before .args .d .point) (c .before .before .before .args .d .places)) (150 - c .before .before .before .args .n) (1 * 2 ^ ((150 - c .before .before .before .args .n) % 16) % 2 ^ 64) (c .before .number .ensures .is) (shifted-one ((150 - c .before .before .before .args .n) % 16) (omega arith)) (c .before .number .ensures .small) (omega arith),
+      ),
+    ),
+  ),
+)
 
--- src/decimal.rt:36:9
 fives-requires : tie.Need-fives-requires
 fives-requires c κs = c .before .scale .ensures .row
 
--- src/decimal.rt:37:5
 pattern-requires : tie.Need-pattern-requires
 pattern-requires c κs = (c .before .fives .ensures .row, (c .before .fives .ensures .within, (c .before .fives .ensures .top, (inr refl, zero-le))))
 
--- src/decimal.rt:26:1
 returns : tie.Need-returns
 returns c = below-row (numberOf (c .before .before .before .before .before .before .before .before .args .s .now) (c .before .before .before .before .before .before .before .before .args .d .point) (c .before .before .before .before .before .before .before .before .args .d .places)) (c .before .before .before .before .before .before .before .before .args .n) (c .before .before .before .before .scale .last .0) (c .before .before .fives .last .0) (c .before .before .fives .result .len) (c .before .before .fives .result .left) (c .pattern .result) (c .before .before .before .before .before .before .before .before .pre .1 .1)
-      (c .before .before .before .before .scale .ensures .is ∙ placed (value (c .before .before .before .before .before .before .number .result)) (numberOf (c .before .before .before .before .before .before .before .before .args .s .now) (c .before .before .before .before .before .before .before .before .args .d .point) (c .before .before .before .before .before .before .before .before .args .d .places)) (150 - c .before .before .before .before .before .before .before .before .args .n) (1 * 2 ^ ((150 - c .before .before .before .before .before .before .before .before .args .n) % 16) % 2 ^ 64) (c .before .before .before .before .before .before .number .ensures .is) (shifted-one ((150 - c .before .before .before .before .before .before .before .before .args .n) % 16) (omega arith))) (c .before .before .fives .ensures) (c .pattern .ensures)
+    (c .before .before .before .before .scale .ensures .is ∙ placed (value (c .before .before .before .before .before .before .number .result)) (numberOf (c .before .before .before .before .before .before .before .before .args .s .now) (c .before .before .before .before .before .before .before .before .args .d .point) (c .before .before .before .before .before .before .before .before .args .d .places)) (150 - c .before .before .before .before .before .before .before .before .args .n) (1 * 2 ^ ((150 - c .before .before .before .before .before .before .before .before .args .n) % 16) % 2 ^ 64) (c .before .before .before .before .before .before .number .ensures .is) (shifted-one ((150 - c .before .before .before .before .before .before .before .before .args .n) % 16) (omega arith))) (c .before .before .fives .ensures) (c .pattern .ensures)
 
 pub below-by-row-spec : {M : Type 1} → statement M
 below-by-row-spec =

@@ -1,25 +1,19 @@
+-- `boost::digits::is_digit_at` meets its contract. Assumes nothing.
 use lib.ListN.{getD}
 use Rattle.boost.proofs.Runs.{digit-here, digit-not, digit-low, stop-byte, stop-end}
-use native.Mathlib.Omega.{arith}
 use borrow.Author.Needs.{needs}
 use Rattle.boost.proofs.digits.is_digit_at.Statement.{statement}
 use Rattle.boost.proofs.digits.is_digit_at.Tie as tie
-use Rattle.boost.proofs.digits.is_digit_at.Reads as reads
-use Rattle.boost.proofs.digits.is_digit_at.Lts as lts
 
--- src/digits.rt:43:17
 shared-slice-read-b : tie.Need-shared-slice-read-b
 shared-slice-read-b c = search needs
 
--- src/digits.rt:45:13
 returns : tie.Need-returns
 returns c = digit-not (c .before .before .before .args .s .now) (c .before .before .before .args .i) (stop-byte (c .before .before .before .args .s .now) (c .before .before .before .args .i) (c .before .before .if1 .taken) (digit-low (getD (c .before .before .before .args .s .now) (c .before .before .before .args .i) 0) (c .if2 .taken)))
 
--- src/digits.rt:47:9
 returns-2 : tie.Need-returns-2
 returns-2 c = digit-here (c .before .before .before .args .s .now) (c .before .before .before .args .i) (c .before .before .if1 .taken) (c .if2 .left)
 
--- src/digits.rt:39:1
 returns-3 : tie.Need-returns-3
 returns-3 c = digit-not (c .before .args .s .now) (c .before .args .i) (stop-end (c .before .args .s .now) (c .before .args .i) (c .if1 .left))
 

@@ -1,21 +1,15 @@
+-- `boost::digits::more_at` meets its contract. Assumes nothing.
 use Rattle.boost.proofs.Runs.{more-not, more-here}
-use native.Mathlib.Omega.{arith}
 use borrow.Author.Needs.{needs}
 use Rattle.boost.proofs.digits.more_at.Statement.{statement}
 use Rattle.boost.proofs.digits.more_at.Tie as tie
-use Rattle.boost.proofs.digits.more_at.Reads as reads
-use Rattle.boost.proofs.digits.more_at.Lts as lts
-use Rattle.boost.proofs.digits.is_digit_at.Reads as is-digit-at-reads
 
--- src/digits.rt:98:9
 returns : tie.Need-returns
 returns c = more-not (c .before .before .args .s .now) (c .before .before .args .i) (c .before .before .args .p) (c .if1 .taken)
 
--- src/digits.rt:100:5
 is-digit-at-requires : tie.Need-is-digit-at-requires
 is-digit-at-requires c κs = search needs
 
--- src/digits.rt:94:1
 returns-2 : tie.Need-returns-2
 returns-2 c = more-here (c .before .before .before .args .s .now) (c .before .before .before .args .i) (c .before .before .before .args .p) (c .is-digit-at .result) (c .before .if1 .left) (c .is-digit-at .ensures)
 

@@ -1,56 +1,43 @@
+-- `boost::numeral::after_e` meets its contract. Assumes nothing.
 use Prim.Native.Nat.{_+_}
 use mathlib.Core.Bool.{true, false}
 use lib.ListN.{drop}
 use Rattle.rules.specs.Numerals.{exponent, isMinus, afterSign}
 use Rattle.boost.proofs.Grammar.{scaled-as, sign-minus, sign-plus, sign-none, after-e-signed, after-e-end}
-use native.Mathlib.Omega.{arith}
 use borrow.Author.Needs.{needs}
 use Rattle.boost.proofs.numeral.after_e.Statement.{statement}
 use Rattle.boost.proofs.numeral.after_e.Tie as tie
-use Rattle.boost.proofs.numeral.after_e.Reads as reads
-use Rattle.boost.proofs.numeral.after_e.Lts as lts
-use Rattle.boost.proofs.numeral.exponent_digits.Reads as exponent-digits-reads
 
--- src/numeral.rt:70:17
 shared-slice-read-c : tie.Need-shared-slice-read-c
 shared-slice-read-c c = search needs
 
--- src/numeral.rt:72:45
 add-exponent-digits : tie.Need-add-exponent-digits
 add-exponent-digits c = search needs
 
--- src/numeral.rt:72:13
 exponent-digits-requires : tie.Need-exponent-digits-requires
 exponent-digits-requires c κs = search needs
 
--- src/numeral.rt:72:13
 returns : tie.Need-returns
 returns c = λ d f. scaled-as (c .exponent-digits .result) d f (exponent (isMinus (drop (c .before .before .before .before .before .args .at) (c .before .before .before .before .before .args .s .now))) d f (afterSign (drop (c .before .before .before .before .before .args .at) (c .before .before .before .before .before .args .s .now)))) (exponent true d f (drop (c .before .before .before .before .before .args .at + 1) (c .before .before .before .before .before .args .s .now)))
-      (after-e-signed d f (drop (c .before .before .before .before .before .args .at) (c .before .before .before .before .before .args .s .now)) (drop (c .before .before .before .before .before .args .at + 1) (c .before .before .before .before .before .args .s .now)) true (sign-minus (c .before .before .before .before .before .args .s .now) (c .before .before .before .before .before .args .at) (c .before .before .before .if1 .taken) (c .before .if2 .taken))) (c .exponent-digits .ensures d f)
+    (after-e-signed d f (drop (c .before .before .before .before .before .args .at) (c .before .before .before .before .before .args .s .now)) (drop (c .before .before .before .before .before .args .at + 1) (c .before .before .before .before .before .args .s .now)) true (sign-minus (c .before .before .before .before .before .args .s .now) (c .before .before .before .before .before .args .at) (c .before .before .before .if1 .taken) (c .before .if2 .taken))) (c .exponent-digits .ensures d f)
 
--- src/numeral.rt:75:46
 add-exponent-digits-2 : tie.Need-add-exponent-digits-2
 add-exponent-digits-2 c = search needs
 
--- src/numeral.rt:75:13
 exponent-digits-requires-2 : tie.Need-exponent-digits-requires-2
 exponent-digits-requires-2 c κs = search needs
 
--- src/numeral.rt:75:13
 returns-2 : tie.Need-returns-2
 returns-2 c = λ d f. scaled-as (c .exponent-digits2 .result) d f (exponent (isMinus (drop (c .before .before .before .before .before .before .args .at) (c .before .before .before .before .before .before .args .s .now))) d f (afterSign (drop (c .before .before .before .before .before .before .args .at) (c .before .before .before .before .before .before .args .s .now)))) (exponent false d f (drop (c .before .before .before .before .before .before .args .at + 1) (c .before .before .before .before .before .before .args .s .now)))
-      (after-e-signed d f (drop (c .before .before .before .before .before .before .args .at) (c .before .before .before .before .before .before .args .s .now)) (drop (c .before .before .before .before .before .before .args .at + 1) (c .before .before .before .before .before .before .args .s .now)) false (sign-plus (c .before .before .before .before .before .before .args .s .now) (c .before .before .before .before .before .before .args .at) (c .before .before .before .before .if1 .taken) (c .before .before .if2 .left) (c .before .if3 .taken))) (c .exponent-digits2 .ensures d f)
+    (after-e-signed d f (drop (c .before .before .before .before .before .before .args .at) (c .before .before .before .before .before .before .args .s .now)) (drop (c .before .before .before .before .before .before .args .at + 1) (c .before .before .before .before .before .before .args .s .now)) false (sign-plus (c .before .before .before .before .before .before .args .s .now) (c .before .before .before .before .before .before .args .at) (c .before .before .before .before .if1 .taken) (c .before .before .if2 .left) (c .before .if3 .taken))) (c .exponent-digits2 .ensures d f)
 
--- src/numeral.rt:77:9
 exponent-digits-requires-3 : tie.Need-exponent-digits-requires-3
 exponent-digits-requires-3 c κs = search needs
 
--- src/numeral.rt:77:9
 returns-3 : tie.Need-returns-3
 returns-3 c = λ d f. scaled-as (c .exponent-digits3 .result) d f (exponent (isMinus (drop (c .before .before .before .before .before .before .args .at) (c .before .before .before .before .before .before .args .s .now))) d f (afterSign (drop (c .before .before .before .before .before .before .args .at) (c .before .before .before .before .before .before .args .s .now)))) (exponent false d f (drop (c .before .before .before .before .before .before .args .at) (c .before .before .before .before .before .before .args .s .now)))
-      (after-e-signed d f (drop (c .before .before .before .before .before .before .args .at) (c .before .before .before .before .before .before .args .s .now)) (drop (c .before .before .before .before .before .before .args .at) (c .before .before .before .before .before .before .args .s .now)) false (sign-none (c .before .before .before .before .before .before .args .s .now) (c .before .before .before .before .before .before .args .at) (c .before .before .before .before .if1 .taken) (c .before .before .if2 .left) (c .before .if3 .left))) (c .exponent-digits3 .ensures d f)
+    (after-e-signed d f (drop (c .before .before .before .before .before .before .args .at) (c .before .before .before .before .before .before .args .s .now)) (drop (c .before .before .before .before .before .before .args .at) (c .before .before .before .before .before .before .args .s .now)) false (sign-none (c .before .before .before .before .before .before .args .s .now) (c .before .before .before .before .before .before .args .at) (c .before .before .before .before .if1 .taken) (c .before .before .if2 .left) (c .before .if3 .left))) (c .exponent-digits3 .ensures d f)
 
--- src/numeral.rt:65:1
 returns-4 : tie.Need-returns-4
 returns-4 c = λ d f. after-e-end d f (c .before .before .args .s .now) (c .before .before .args .at) (c .if1 .left)
 

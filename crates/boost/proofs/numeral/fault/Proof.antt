@@ -1,40 +1,29 @@
+-- `boost::numeral::fault` meets its contract. Assumes nothing.
 use mathlib.Core.Path.{refl}
 use Rattle.rules.specs.Numerals.{isMinus}
 use Rattle.boost.proofs.Words.{too-long-fault, fault-by-sign}
-use native.Mathlib.Omega.{arith}
 use borrow.Author.Needs.{needs}
 use Rattle.boost.proofs.numeral.fault.Statement.{statement}
 use Rattle.boost.proofs.numeral.fault.Tie as tie
-use Rattle.boost.proofs.numeral.fault.Reads as reads
-use Rattle.boost.proofs.numeral.fault.Lts as lts
-use Rattle.boost.proofs.numeral.sign_len.Reads as sign-len-reads
-use Rattle.boost.proofs.numeral.unsigned_fault.Reads as unsigned-fault-reads
 
--- src/numeral.rt:278:9
 returns : tie.Need-returns
 returns c = too-long-fault (c .before .before .args .text .now) (c .if1 .taken)
 
--- src/numeral.rt:280:9
 sign-len-requires : tie.Need-sign-len-requires
 sign-len-requires c κs = search needs
 
--- src/numeral.rt:281:20
 sub-unsigned-fault : tie.Need-sub-unsigned-fault
 sub-unsigned-fault c = search needs
 
--- src/numeral.rt:281:20
 part-unsigned-fault-start : tie.Need-part-unsigned-fault-start
 part-unsigned-fault-start c = search needs
 
--- src/numeral.rt:281:20
 part-unsigned-fault-end : tie.Need-part-unsigned-fault-end
 part-unsigned-fault-end c = search needs
 
--- src/numeral.rt:281:5
 unsigned-fault-requires : tie.Need-unsigned-fault-requires
 unsigned-fault-requires c κs = search needs
 
--- src/numeral.rt:274:1
 returns-2 : tie.Need-returns-2
 returns-2 c = fault-by-sign (c .before .before .before .before .before .args .text .now) (isMinus (c .before .before .before .before .before .args .text .now)) (c .before .before .sign-len .result) (c .before .before .before .if1 .left) refl (c .before .before .sign-len .ensures .1) (c .unsigned-fault .result) (c .unsigned-fault .ensures (isMinus (c .before .before .before .before .before .args .text .now)))
 

@@ -1,20 +1,15 @@
+-- `boost::numeral::is_minus` meets its contract. Assumes nothing.
 use Rattle.boost.proofs.Words.{minus-byte, minus-none}
-use native.Mathlib.Omega.{arith}
 use borrow.Author.Needs.{needs}
 use Rattle.boost.proofs.numeral.is_minus.Statement.{statement}
 use Rattle.boost.proofs.numeral.is_minus.Tie as tie
-use Rattle.boost.proofs.numeral.is_minus.Reads as reads
-use Rattle.boost.proofs.numeral.is_minus.Lts as lts
 
--- src/numeral.rt:201:16
 shared-slice-read-result : tie.Need-shared-slice-read-result
 shared-slice-read-result c = search needs
 
--- src/numeral.rt:201:9
 returns : tie.Need-returns
 returns c = minus-byte (c .before .before .args .text .now) (c .before .if1 .taken)
 
--- src/numeral.rt:197:1
 returns-2 : tie.Need-returns-2
 returns-2 c = minus-none (c .before .args .text .now) (c .if1 .left)
 

@@ -1,20 +1,15 @@
+-- `boost::numeral::is_point` meets its contract. Assumes nothing.
 use Rattle.boost.proofs.Grammar.{point-byte, point-end}
-use native.Mathlib.Omega.{arith}
 use borrow.Author.Needs.{needs}
 use Rattle.boost.proofs.numeral.is_point.Statement.{statement}
 use Rattle.boost.proofs.numeral.is_point.Tie as tie
-use Rattle.boost.proofs.numeral.is_point.Reads as reads
-use Rattle.boost.proofs.numeral.is_point.Lts as lts
 
--- src/numeral.rt:104:16
 shared-slice-read-result : tie.Need-shared-slice-read-result
 shared-slice-read-result c = search needs
 
--- src/numeral.rt:104:9
 returns : tie.Need-returns
 returns c = point-byte (c .before .before .args .s .now) (c .before .before .args .at) (c .before .if1 .taken)
 
--- src/numeral.rt:100:1
 returns-2 : tie.Need-returns-2
 returns-2 c = point-end (c .before .args .s .now) (c .before .args .at) (c .if1 .left)
 

@@ -1,3 +1,4 @@
+-- `boost::numeral::sign_len` meets its contract. Assumes nothing.
 use mathlib.Core.Path.{sym}
 use Rattle.boost.proofs.Grammar.{sign-minus, sign-plus, sign-none}
 use Rattle.boost.proofs.Words.{after-none}
@@ -5,30 +6,22 @@ use native.Mathlib.Omega.{arith}
 use borrow.Author.Needs.{needs}
 use Rattle.boost.proofs.numeral.sign_len.Statement.{statement}
 use Rattle.boost.proofs.numeral.sign_len.Tie as tie
-use Rattle.boost.proofs.numeral.sign_len.Reads as reads
-use Rattle.boost.proofs.numeral.sign_len.Lts as lts
 
--- src/numeral.rt:211:12
 shared-slice-read-if2 : tie.Need-shared-slice-read-if2
 shared-slice-read-if2 c = search needs
 
--- src/numeral.rt:212:13
 returns : tie.Need-returns
 returns c = (omega (arith, c .before .before .if1 .taken), sym (sign-minus (c .before .before .before .args .text .now) 0 (c .before .before .if1 .taken) (c .if2 .taken) .left))
 
--- src/numeral.rt:214:12
 shared-slice-read-if3 : tie.Need-shared-slice-read-if3
 shared-slice-read-if3 c = search needs
 
--- src/numeral.rt:215:13
 returns-2 : tie.Need-returns-2
 returns-2 c = (omega (arith, c .before .before .before .before .if1 .taken), sym (sign-plus (c .before .before .before .before .before .args .text .now) 0 (c .before .before .before .before .if1 .taken) (c .before .before .if2 .left) (c .if3 .taken) .left))
 
--- src/numeral.rt:217:9
 returns-3 : tie.Need-returns-3
 returns-3 c = (omega arith, sym (sign-none (c .before .before .before .before .before .args .text .now) 0 (c .before .before .before .before .if1 .taken) (c .before .before .if2 .left) (c .if3 .left) .left))
 
--- src/numeral.rt:207:1
 returns-4 : tie.Need-returns-4
 returns-4 c = (omega arith, after-none (c .before .args .text .now) (c .if1 .left))
 

@@ -1,34 +1,24 @@
+-- `boost::numeral::unsigned_fault` meets its contract. Assumes nothing.
 use Rattle.boost.proofs.Words.{digits-refusal, nothing-fault}
-use native.Mathlib.Omega.{arith}
 use borrow.Author.Needs.{needs}
 use Rattle.boost.proofs.numeral.unsigned_fault.Statement.{statement}
 use Rattle.boost.proofs.numeral.unsigned_fault.Tie as tie
-use Rattle.boost.proofs.numeral.unsigned_fault.Reads as reads
-use Rattle.boost.proofs.numeral.unsigned_fault.Lts as lts
-use Rattle.boost.proofs.numeral.digits_fault.Reads as digits-fault-reads
-use Rattle.boost.proofs.numeral.word_fault.Reads as word-fault-reads
 
--- src/numeral.rt:265:19
 shared-slice-read-if2 : tie.Need-shared-slice-read-if2
 shared-slice-read-if2 c = search needs
 
--- src/numeral.rt:266:13
 word-fault-requires : tie.Need-word-fault-requires
 word-fault-requires c κs = search needs
 
--- src/numeral.rt:266:13
 returns : tie.Need-returns
 returns c = search needs
 
--- src/numeral.rt:268:9
 digits-fault-requires : tie.Need-digits-fault-requires
 digits-fault-requires c κs = search needs
 
--- src/numeral.rt:268:9
 returns-2 : tie.Need-returns-2
 returns-2 c = λ m. digits-refusal m (c .before .before .before .before .before .args .s .now) (c .digits-fault .result) (c .before .before .before .if1 .taken) (c .before .if2 .left) (c .digits-fault .ensures m)
 
--- src/numeral.rt:260:1
 returns-3 : tie.Need-returns-3
 returns-3 c = λ m. nothing-fault m (c .before .before .args .s .now) (c .if1 .left)
 

@@ -1,37 +1,27 @@
+-- `boost::numeral::without_sign` meets its contract. Assumes nothing.
 use Rattle.boost.specs.Numeral.{byDigits}
 use Rattle.rules.specs.Numerals.{unsigned}
 use Rattle.boost.proofs.Grammar.{carry}
 use Rattle.boost.proofs.Words.{digit-first, nothing}
-use native.Mathlib.Omega.{arith}
 use borrow.Author.Needs.{needs}
 use Rattle.boost.proofs.numeral.without_sign.Statement.{statement}
 use Rattle.boost.proofs.numeral.without_sign.Tie as tie
-use Rattle.boost.proofs.numeral.without_sign.Reads as reads
-use Rattle.boost.proofs.numeral.without_sign.Lts as lts
-use Rattle.boost.proofs.numeral.digits_first.Reads as digits-first-reads
-use Rattle.boost.proofs.numeral.word.Reads as word-reads
 
--- src/numeral.rt:189:19
 shared-slice-read-if2 : tie.Need-shared-slice-read-if2
 shared-slice-read-if2 c = search needs
 
--- src/numeral.rt:190:13
 word-requires : tie.Need-word-requires
 word-requires c κs = search needs
 
--- src/numeral.rt:190:13
 returns : tie.Need-returns
 returns c = search needs
 
--- src/numeral.rt:192:9
 digits-first-requires : tie.Need-digits-first-requires
 digits-first-requires c κs = search needs
 
--- src/numeral.rt:192:9
 returns-2 : tie.Need-returns-2
 returns-2 c = carry (c .before .before .before .before .before .args .minus) (unsigned (c .before .before .before .before .before .args .s .now)) (byDigits (c .before .before .before .before .before .args .s .now)) (c .digits-first .result) (digit-first (c .before .before .before .before .before .args .s .now) (c .before .before .before .if1 .taken) (c .before .if2 .left)) (c .digits-first .ensures)
 
--- src/numeral.rt:184:1
 returns-3 : tie.Need-returns-3
 returns-3 c = nothing (c .before .before .args .minus) (c .before .before .args .s .now) (c .if1 .left)
 

@@ -1,3 +1,4 @@
+-- `boost::row::divide` meets its contract. Assumes nothing.
 use lib.Dec.{lit<}
 use Prim.Native.Nat.{ℕ, _+_, _*_}
 use mathlib.Core.Path.{ap}
@@ -6,10 +7,6 @@ use native.Mathlib.Omega.{arith}
 use borrow.Author.Needs.{needs}
 use Rattle.boost.proofs.row.divide.Statement.{statement}
 use Rattle.boost.proofs.row.divide.Tie as tie
-use Rattle.boost.proofs.row.divide.Reads as reads
-use Rattle.boost.proofs.row.divide.Lts as lts
-use Rattle.boost.proofs.row.low.Reads as low-reads
-use Rattle.boost.proofs.row.wide.Reads as wide-reads
 
 abbrev Inv-loop : tie.InvT-loop
 Inv-loop row₀ len f rest₀ i₀ row rest i = Dividing row₀ len f row rest i
@@ -17,64 +14,49 @@ Inv-loop row₀ len f rest₀ i₀ row rest i = Dividing row₀ len f row rest i
 abbrev μ-loop : tie.MeasureT-loop
 μ-loop row₀ len f rest₀ i₀ row rest i = i
 
--- src/row.rt:60:5
 loop-holds : tie.Need-loop-holds Inv-loop μ-loop
 loop-holds c = dividing-first (c .args .row .now) (c .args .len) (c .args .f) (c .pre .0) (c .pre .1 .1 .0)
 
--- src/row.rt:61:9
 sub-i : tie.Need-sub-i Inv-loop μ-loop
 sub-i c = omega arith
 
--- src/row.rt:62:17
 mul-t : tie.Need-mul-t Inv-loop μ-loop
 mul-t c = let p = rest-fits (c .before .loop .rest) 0 (c .before .before .args .f) (c .before .loop .inv .small) (c .before .before .pre .1 .1 .1) (lit< tt) in omega (arith, p .0)
 
--- src/row.rt:62:36
 mul-wide : tie.Need-mul-wide Inv-loop μ-loop
 mul-wide c = omega (arith, c .before .loop .inv .within, c .before .before .pre .1 .0)
 
--- src/row.rt:62:36
 element-copy-out-wide : tie.Need-element-copy-out-wide Inv-loop μ-loop
 element-copy-out-wide c = omega (arith, c .before .loop .inv .within, c .before .before .pre .1 .0)
 
--- src/row.rt:62:31
 wide-requires : tie.Need-wide-requires Inv-loop μ-loop
 wide-requires c κs = search needs
 
--- src/row.rt:62:17
 add-t : tie.Need-add-t Inv-loop μ-loop
 add-t c = let p = rest-fits (c .before .before .before .loop .rest) (c .wide .result) (c .before .before .before .before .args .f) (c .before .before .before .loop .inv .small) (c .before .before .before .before .pre .1 .1 .1) (c .wide .ensures .1) in omega (arith, p .1)
 
--- src/row.rt:63:22
 div-low : tie.Need-div-low Inv-loop μ-loop
 div-low c = c .before .before .before .before .pre .1 .1 .0
 
--- src/row.rt:63:18
 low-requires : tie.Need-low-requires Inv-loop μ-loop
 low-requires c κs = search needs
 
--- src/row.rt:63:9
 mul-row : tie.Need-mul-row Inv-loop μ-loop
 mul-row c = omega (arith, c .before .before .before .before .loop .inv .within, c .before .before .before .before .before .pre .1 .0)
 
--- src/row.rt:63:9
 element-write-row : tie.Need-element-write-row Inv-loop μ-loop
 element-write-row c = omega (arith, c .before .before .before .before .loop .inv .within, c .before .before .before .before .before .pre .1 .0)
 
--- src/row.rt:64:16
 rem-rest : tie.Need-rem-rest Inv-loop μ-loop
 rem-rest c = c .before .before .before .before .before .pre .1 .1 .0
 
--- src/row.rt:60:5
 loop-less : tie.Need-loop-less Inv-loop μ-loop
 loop-less c = omega arith
 
--- src/row.rt:60:5
 loop-again : tie.Need-loop-again Inv-loop μ-loop
 loop-again c = dividing-next (c .before .before .before .before .before .args .row .now) (c .before .before .before .before .before .args .len) (c .before .before .before .before .before .args .f) (c .before .before .before .before .loop .row) (c .before .before .before .before .loop .rest) (c .before .before .before .before .loop .i) (c .before .before .before .before .loop .rest * 0x1_0000 + c .before .wide .result) (c .low .result) (c .before .before .before .before .loop .inv) (c .before .before .before .before .before .pre .1 .0) (c .before .before .before .loop-test .taken) (c .before .before .before .before .before .pre .1 .1 .0) (c .before .before .before .before .before .pre .1 .1 .1)
-      (ap (λ (x : ℕ). c .before .before .before .before .loop .rest * 0x1_0000 + x) (c .before .wide .ensures .0)) (c .low .ensures)
+    (ap (λ (x : ℕ). c .before .before .before .before .loop .rest * 0x1_0000 + x) (c .before .wide .ensures .0)) (c .low .ensures)
 
--- src/row.rt:52:1
 returns : tie.Need-returns Inv-loop μ-loop
 returns c = dividing-last (c .before .before .args .row .now) (c .before .before .args .len) (c .before .before .args .f) (c .before .loop .row) (c .before .loop .rest) (c .before .loop .i) (c .before .loop .inv) (c .loop-test .left)
 

@@ -1,3 +1,4 @@
+-- `boost::row::tens` meets its contract. Assumes nothing.
 use Prim.Native.Nat.{zero-le}
 use mathlib.Core.Path.{refl}
 use Rattle.boost.proofs.Rows.{upTo-none}
@@ -6,11 +7,6 @@ use native.Mathlib.Omega.{arith}
 use borrow.Author.Needs.{needs}
 use Rattle.boost.proofs.row.tens.Statement.{statement}
 use Rattle.boost.proofs.row.tens.Tie as tie
-use Rattle.boost.proofs.row.tens.Reads as reads
-use Rattle.boost.proofs.row.tens.Lts as lts
-use Rattle.boost.proofs.powers.ten.Reads as ten-reads
-use Rattle.boost.proofs.row.scale.Reads as scale-reads
-use Rattle.boost.proofs.row.some_tens.Reads as some-tens-reads
 
 abbrev Inv-loop : tie.InvT-loop
 Inv-loop row₀ n j₀ row j = Tens row₀ row n j
@@ -18,36 +14,39 @@ Inv-loop row₀ n j₀ row j = Tens row₀ row n j
 abbrev μ-loop : tie.MeasureT-loop
 μ-loop row₀ n j₀ row j = j
 
--- src/row.rt:99:5
 loop-holds : tie.Need-loop-holds Inv-loop μ-loop
 loop-holds c = record { row = c .pre .0; is = refl }
 
--- src/row.rt:100:13
 some-tens-requires : tie.Need-some-tens-requires Inv-loop μ-loop
 some-tens-requires c κs = search needs
 
--- src/row.rt:101:23
 ten-requires : tie.Need-ten-requires Inv-loop μ-loop
 ten-requires c κs = c .before .some-tens .ensures .1
 
--- src/row.rt:101:9
 scale-requires : tie.Need-scale-requires Inv-loop μ-loop
-scale-requires c κs = (c .before .before .before .before .loop .inv .row, (zero-le, (upTo-none (c .before .before .before .before .loop .row), (ten-factor (c .before .before .some-tens .result) (c .ten .result) (c .before .before .some-tens .ensures .1) (c .ten .ensures),
-      tens-room (c .before .before .before .before .before .args .row .now) (c .before .before .before .before .loop .row) (c .before .before .before .before .before .args .n) (c .before .before .before .before .loop .j) (c .before .before .some-tens .result) (c .ten .result) (c .before .before .before .before .loop .inv) (c .before .before .before .before .before .pre .1) (c .before .before .some-tens .ensures .0) (c .ten .ensures)))))
+scale-requires c κs = (
+  c .before .before .before .before .loop .inv .row,
+  (
+    zero-le,
+    (
+      upTo-none (c .before .before .before .before .loop .row),
+      (
+        ten-factor (c .before .before .some-tens .result) (c .ten .result) (c .before .before .some-tens .ensures .1) (c .ten .ensures),
+        tens-room (c .before .before .before .before .before .args .row .now) (c .before .before .before .before .loop .row) (c .before .before .before .before .before .args .n) (c .before .before .before .before .loop .j) (c .before .before .some-tens .result) (c .ten .result) (c .before .before .before .before .loop .inv) (c .before .before .before .before .before .pre .1) (c .before .before .some-tens .ensures .0) (c .ten .ensures),
+      ),
+    ),
+  ),
+)
 
--- src/row.rt:102:9
 sub-j : tie.Need-sub-j Inv-loop μ-loop
 sub-j c = c .before .before .before .some-tens .ensures .0
 
--- src/row.rt:99:5
 loop-less : tie.Need-loop-less Inv-loop μ-loop
 loop-less c = let p = c .before .before .before .some-tens .ensures .2 (c .before .before .before .before .loop-test .taken) in omega (arith, c .before .before .before .some-tens .ensures .0)
 
--- src/row.rt:99:5
 loop-again : tie.Need-loop-again Inv-loop μ-loop
 loop-again c = tens-next (c .before .before .before .before .before .before .args .row .now) (c .before .before .before .before .before .loop .row) (c .scale .last .0) (c .before .before .before .before .before .before .args .n) (c .before .before .before .before .before .loop .j) (c .before .before .before .some-tens .result) (c .before .ten .result) (c .before .before .before .before .before .loop .inv) (c .before .before .before .some-tens .ensures .0) (c .before .ten .ensures) (c .scale .ensures)
 
--- src/row.rt:93:1
 returns : tie.Need-returns Inv-loop μ-loop
 returns c = tens-last (c .before .before .args .row .now) (c .before .loop .row) (c .before .before .args .n) (c .before .loop .j) (c .before .loop .inv) (c .loop-test .left)
 

@@ -1,49 +1,34 @@
+-- `boost::top::pattern` meets its contract. Assumes nothing.
 use Rattle.boost.proofs.Tops.{enough, pattern-is}
 use native.Mathlib.Omega.{arith}
 use borrow.Author.Needs.{needs}
 use Rattle.boost.proofs.top.pattern.Statement.{statement}
 use Rattle.boost.proofs.top.pattern.Tie as tie
-use Rattle.boost.proofs.top.pattern.Reads as reads
-use Rattle.boost.proofs.top.pattern.Lts as lts
-use Rattle.boost.proofs.row.used.Reads as used-reads
-use Rattle.boost.proofs.top.highest.Reads as highest-reads
-use Rattle.boost.proofs.top.rounded.Reads as rounded-reads
-use Rattle.boost.proofs.top.under.Reads as under-reads
-use Rattle.boost.proofs.top.with_rest.Reads as with-rest-reads
 
--- src/top.rt:115:9
 under-requires : tie.Need-under-requires
 under-requires c κs = search needs
 
--- src/top.rt:116:9
 highest-requires : tie.Need-highest-requires
 highest-requires c κs = (c .before .pre .0, (omega (arith, c .under .ensures), c .before .pre .1 .0, omega (arith, c .under .ensures)))
 
--- src/top.rt:117:16
 used-requires : tie.Need-used-requires
 used-requires c κs = (c .before .before .pre .0, omega (arith, c .before .under .ensures, c .before .before .pre .1 .0))
 
--- src/top.rt:118:16
 with-rest-requires : tie.Need-with-rest-requires
 with-rest-requires c κs = search needs
 
--- src/top.rt:118:56
 cast-rounded : tie.Need-cast-rounded
 cast-rounded c = omega (arith, c .before .before .before .under .ensures, c .before .before .before .before .pre .1 .0)
 
--- src/top.rt:118:43
 mul-rounded : tie.Need-mul-rounded
 mul-rounded c = omega (arith, c .before .before .before .under .ensures, c .before .before .before .before .pre .1 .0)
 
--- src/top.rt:118:39
 add-rounded : tie.Need-add-rounded
 add-rounded c = omega (arith, c .before .before .before .under .ensures, c .before .before .before .before .pre .1 .0, c .before .before .before .before .pre .1 .1 .1 .1)
 
--- src/top.rt:118:5
 rounded-requires : tie.Need-rounded-requires
 rounded-requires c κs = (omega (arith, c .before .before .highest .ensures .small), (enough (c .before .before .before .before .args .row .now) (c .before .before .before .under .result) (c .before .before .before .before .args .len) (c .before .before .highest .result) (c .before .used .result) (c .before .before .before .before .pre .0) (c .before .before .highest .ensures) (c .before .used .ensures) (c .before .before .before .before .pre .1 .1 .0) (c .before .before .before .under .ensures) (c .before .before .before .before .args .c) (c .before .before .before .before .pre .1 .1 .1 .0), omega (arith, c .before .before .before .under .ensures, c .before .before .before .before .pre .1 .0, c .before .before .before .before .pre .1 .1 .1 .1)))
 
--- src/top.rt:107:1
 returns : tie.Need-returns
 returns c = pattern-is (c .before .before .before .before .before .args .row .now) (c .before .before .before .before .under .result) (c .before .before .before .before .before .args .len) (c .before .before .before .highest .result) (c .before .before .used .result) (c .before .before .before .before .before .pre .0) (c .before .before .before .highest .ensures) (c .before .before .used .ensures) (c .before .before .before .before .before .args .left) (c .before .with-rest .result) (c .before .before .before .before .before .args .c) (c .rounded .result) (c .before .with-rest .ensures) (c .rounded .ensures)
 

@@ -1,18 +1,13 @@
+-- `boost::top::with_rest` meets its contract. Assumes nothing.
 use lib.Dec.{eqb}
 use mathlib.Core.Bool.{Bool, not, _||_}
 use mathlib.Core.Path.{sym, ap}
-use native.Mathlib.Omega.{arith}
-use borrow.Author.Needs.{needs}
 use Rattle.boost.proofs.top.with_rest.Statement.{statement}
 use Rattle.boost.proofs.top.with_rest.Tie as tie
-use Rattle.boost.proofs.top.with_rest.Reads as reads
-use Rattle.boost.proofs.top.with_rest.Lts as lts
 
--- src/top.rt:55:9
 returns : tie.Need-returns
 returns c = sym (ap (λ (x : Bool). x || not (eqb (c .before .args .rest) 0)) (c .if1 .taken))
 
--- src/top.rt:51:1
 returns-2 : tie.Need-returns-2
 returns-2 c = sym (ap (λ (x : Bool). x || not (eqb (c .before .args .rest) 0)) (c .if1 .left))
 

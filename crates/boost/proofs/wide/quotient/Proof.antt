@@ -1,3 +1,4 @@
+-- `boost::wide::quotient` meets its contract. Assumes nothing.
 use mathlib.Core.Logic.{inl}
 use Prim.Native.Nat.{_-_, _*_, _^_, _%_}
 use lib.Count.{leadingZeros}
@@ -6,58 +7,43 @@ use native.Mathlib.Omega.{arith}
 use borrow.Author.Needs.{needs}
 use Rattle.boost.proofs.wide.quotient.Statement.{statement}
 use Rattle.boost.proofs.wide.quotient.Tie as tie
-use Rattle.boost.proofs.wide.quotient.Reads as reads
-use Rattle.boost.proofs.wide.quotient.Lts as lts
-use Rattle.boost.proofs.powers.five.Reads as five-reads
-use Rattle.boost.proofs.top.rounded.Reads as rounded-reads
-use Rattle.boost.proofs.top.with_rest.Reads as with-rest-reads
 
--- src/wide.rt:19:9
 returns : tie.Need-returns
 returns c = quotient-zero (c .before .args .d) (c .before .args .n) (c .if1 .taken)
 
--- src/wide.rt:21:9
 five-requires : tie.Need-five-requires
 five-requires c κs = search needs
 
--- src/wide.rt:23:19
 sub-m : tie.Need-sub-m
 sub-m c = let r = z-range (c .before .before .args .d) (omega arith) (c .before .before .pre .0) in omega arith
 
--- src/wide.rt:23:19
 cast-m : tie.Need-cast-m
 cast-m c = let r = z-range (c .before .before .args .d) (omega arith) (c .before .before .pre .0) in omega arith
 
--- src/wide.rt:23:13
 shl-m : tie.Need-shl-m
 shl-m c = let r = z-range (c .before .before .args .d) (omega arith) (c .before .before .pre .0) in omega arith
 
--- src/wide.rt:24:46
 rem-with-rest : tie.Need-rem-with-rest
 rem-with-rest c = t-pos (c .before .before .args .d) (c .before .before .args .n) (c .five .result) (c .before .before .args .d * 2 ^ (leadingZeros 64 (c .before .before .args .d) - 1) % 2 ^ 64) (omega arith) (c .before .before .pre .0) (c .before .before .pre .1) (c .five .ensures) (moved-is (c .before .before .args .d) (omega arith) (c .before .before .pre .0))
 
--- src/wide.rt:24:9
 with-rest-requires : tie.Need-with-rest-requires
 with-rest-requires c κs = search needs
 
--- src/wide.rt:25:25
 div-rounded : tie.Need-div-rounded
 div-rounded c = t-pos (c .before .before .before .args .d) (c .before .before .before .args .n) (c .before .five .result) (c .before .before .before .args .d * 2 ^ (leadingZeros 64 (c .before .before .before .args .d) - 1) % 2 ^ 64) (omega arith) (c .before .before .before .pre .0) (c .before .before .before .pre .1) (c .before .five .ensures) (moved-is (c .before .before .before .args .d) (omega arith) (c .before .before .before .pre .0))
 
--- src/wide.rt:25:39
 sub-rounded : tie.Need-sub-rounded
 sub-rounded c = let r = z-range (c .before .before .before .args .d) (omega arith) (c .before .before .before .pre .0) in omega arith
 
--- src/wide.rt:25:39
 sub-rounded-2 : tie.Need-sub-rounded-2
 sub-rounded-2 c = let r = z-range (c .before .before .before .args .d) (omega arith) (c .before .before .before .pre .0) in omega (arith, c .before .before .before .pre .1)
 
--- src/wide.rt:25:5
 rounded-requires : tie.Need-rounded-requires
-rounded-requires c κs = (w-hi (c .before .before .before .args .d) (c .before .before .before .args .n) (c .before .five .result) (c .before .before .before .args .d * 2 ^ (leadingZeros 64 (c .before .before .before .args .d) - 1) % 2 ^ 64) (omega arith) (c .before .before .before .pre .0) (c .before .before .before .pre .1) (c .before .five .ensures) (moved-is (c .before .before .before .args .d) (omega arith) (c .before .before .before .pre .0)),
-      (inl (w-lo (c .before .before .before .args .d) (c .before .before .before .args .n) (c .before .five .result) (c .before .before .before .args .d * 2 ^ (leadingZeros 64 (c .before .before .before .args .d) - 1) % 2 ^ 64) (omega arith) (c .before .before .before .pre .0) (c .before .before .before .pre .1) (c .before .five .ensures) (moved-is (c .before .before .before .args .d) (omega arith) (c .before .before .before .pre .0))), omega arith))
+rounded-requires c κs = (
+  w-hi (c .before .before .before .args .d) (c .before .before .before .args .n) (c .before .five .result) (c .before .before .before .args .d * 2 ^ (leadingZeros 64 (c .before .before .before .args .d) - 1) % 2 ^ 64) (omega arith) (c .before .before .before .pre .0) (c .before .before .before .pre .1) (c .before .five .ensures) (moved-is (c .before .before .before .args .d) (omega arith) (c .before .before .before .pre .0)),
+  (inl (w-lo (c .before .before .before .args .d) (c .before .before .before .args .n) (c .before .five .result) (c .before .before .before .args .d * 2 ^ (leadingZeros 64 (c .before .before .before .args .d) - 1) % 2 ^ 64) (omega arith) (c .before .before .before .pre .0) (c .before .before .before .pre .1) (c .before .five .ensures) (moved-is (c .before .before .before .args .d) (omega arith) (c .before .before .before .pre .0))), omega arith),
+)
 
--- src/wide.rt:13:1
 returns-2 : tie.Need-returns-2
 returns-2 c = quotient-is (c .before .before .before .before .args .d) (c .before .before .before .before .args .n) (c .before .before .five .result) (c .before .before .before .before .args .d * 2 ^ (leadingZeros 64 (c .before .before .before .before .args .d) - 1) % 2 ^ 64) (omega arith) (c .before .before .before .before .pre .0) (c .before .before .before .before .pre .1) (c .before .before .five .ensures) (moved-is (c .before .before .before .before .args .d) (omega arith) (c .before .before .before .before .pre .0)) (c .before .with-rest .result) (c .rounded .result) (c .before .with-rest .ensures) (c .rounded .ensures)
 
