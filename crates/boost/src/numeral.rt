@@ -2,7 +2,7 @@
 // The sign is carried to where the pattern is made. A text is tested for the words only where it begins with no digit, sign or point.
 // Each step stands at one place of the code, so that a short numeral is read with no call.
 ghost use mathlib.Core.Path.{_≡_};
-ghost use mathlib.Core.Bool.{Bool};
+ghost use mathlib.Core.Bool.{Bool, true, false};
 ghost use Prim.Native.Nat.{ℕ, _<_, _≤_};
 ghost use lib.ListN.{length, drop, getD};
 ghost use Rattle.rules.specs.Bytes.{same};
@@ -219,11 +219,17 @@ fn sign_len(text: &[u8]) -> usize
     0
 }
 
+fn is_long(text: &[u8]) -> bool
+    ensures { λ r. ⌜ (r ≡ true → 40 < length (now (text .entry))) × (r ≡ false → length (now (text .entry)) ≤ 40) ⌝ }
+{
+    NUMERAL_MOST < text.len()
+}
+
 // The 32-bit float that the text stands for: 17 where it has over 40 bytes, 13 where it is no numeral.
 pub fn numeral(text: &[u8]) -> Answer
     ensures { λ r. ⌜ r ≡ answerOf (numeralBits (now (text .entry))) ⌝ }
 {
-    if NUMERAL_MOST < text.len() {
+    if is_long(text) {
         return Answer::Refused(LONG_NUMERAL);
     }
     let from = sign_len(text);
@@ -274,7 +280,7 @@ fn unsigned_fault(s: &[u8]) -> u8
 pub fn fault(text: &[u8]) -> u8
     ensures { λ r. ⌜ r ≡ refusalOf (numeralBits (now (text .entry))) ⌝ }
 {
-    if NUMERAL_MOST < text.len() {
+    if is_long(text) {
         return LONG_NUMERAL;
     }
     let from = sign_len(text);
