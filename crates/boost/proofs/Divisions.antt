@@ -1,8 +1,8 @@
 -- Two divisions one after the other are one division: its floor, and whether it leaves a remainder. Assumes nothing.
-use mathlib.Core.Path.{_≡_, refl, sym, ap, _∙_}
+use mathlib.Core.Path.{_≡_, refl, ap, _∙_}
 use mathlib.Core.Logic.{_⊎_, inl, inr, _↔_}
-use mathlib.Core.Bool.{Bool, true, false, not, _||_}
-use Prim.Native.Nat.{ℕ, zero, suc, _+_, _*_, _/_, _%_, _≤_, _<_}
+use mathlib.Core.Bool.{true, false, not, _||_}
+use Prim.Native.Nat.{ℕ, zero, suc, _+_, _*_, _/_, _%_, _<_}
 use native.Mathlib.Nat.{mul-comm, zero-mul, div-div-eq-div-mul, suc-mul, mul-mod-left, mul-div-cancel}
 use native.Mathlib.Omega.{arith}
 use lib.Arith.{mod-mul}

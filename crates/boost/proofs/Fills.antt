@@ -3,15 +3,15 @@ use mathlib.Core.Path.{_≡_, refl, sym, ap, _∙_, subst}
 use mathlib.Core.List.{List, [], _∷_}
 use mathlib.Core.Bool.{Bool, true, _&&_}
 use Prim.Native.Nat.{ℕ, zero, suc, _+_, _*_, _^_, _≤_, _<_}
-use native.Mathlib.Nat.{le-trans, lt-of-lt-of-le, zero-mul, zero-lt-suc}
+use native.Mathlib.Nat.{lt-of-lt-of-le, zero-mul, zero-lt-suc}
 use native.Mathlib.Omega.{arith}
 use lib.Dec.{T, eqb, eqb→eq, lit<}
-use lib.ListN.{length, drop, getD}
+use lib.ListN.{length, getD}
 use lib.Ieee.Fits.{and-l, and-r}
 use Rattle.rules.specs.Analysis.{front}
 use Rattle.rules.specs.Numerals.{isDigit, digitsOn}
-use Rattle.boost.specs.Row.{upTo, value, Row}
-use Rattle.boost.specs.Digits.{Holds, Filled, numberOf, Held, NumberRow}
+use Rattle.boost.specs.Row.{upTo, value}
+use Rattle.boost.specs.Digits.{Holds, Filled, Held, NumberRow}
 use Rattle.boost.proofs.Rows.{B, upTo-none, upTo-suc}
 use Rattle.boost.proofs.Tens.{ten-mono}
 use Rattle.boost.proofs.Scales.{number-whole, number-both, held-few}

@@ -3,13 +3,13 @@ use mathlib.Core.Path.{_≡_, refl, sym, ap, _∙_, subst}
 use mathlib.Core.Logic.{_⊎_, inl, inr}
 use mathlib.Core.Bool.{Bool, true, false, _||_, cond}
 use Prim.Native.Nat.{ℕ, zero, suc, _+_, _-_, _*_, _/_, _%_, _^_, _≤_, _<_, compare}
-use native.Mathlib.Nat.{zero-add, eq-zero-or-pos, le-trans, le-of-eq, lt-of-lt-of-le, mul-assoc, add-mul, mod-lt, mul-pos, div-add-mod', le-div-iff-mul-le, div-lt-iff-lt-mul, mul-div-mul-right}
+use native.Mathlib.Nat.{zero-add, le-trans, le-of-eq, lt-of-lt-of-le, mul-assoc, add-mul, mod-lt, mul-pos, div-add-mod', le-div-iff-mul-le, div-lt-iff-lt-mul, mul-div-mul-right}
 use native.Mathlib.Omega.{arith}
 use lib.Dec.{ltb, eqb}
 use lib.Pow.{pow-add, pow-pos}
 use lib.Ieee.{binary32, size, toBits, units}
-use lib.Ieee.Digits.{size-le, size-reaches}
-use lib.Ieee.Fits.{round-is, nearest-le, kept-lt}
+use lib.Ieee.Digits.{size-le}
+use lib.Ieee.Fits.{round-is, nearest-le}
 use lib.Ieee.Nearest.{closest, nearest-ge}
 use borrow.Author.Tests.{ltb-true, ltb-false}
 use Rattle.rules.specs.Numerals.{infinity, nearest}

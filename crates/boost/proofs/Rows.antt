@@ -1,16 +1,16 @@
 -- What the proofs of the functions on rows of words cite: the loops' invariants, one turn of each, and their ends. Assumes nothing.
 use mathlib.Core.Path.{_≡_, refl, sym, ap, _∙_, subst}
-use mathlib.Core.Logic.{_⊎_, inl, inr}
+use mathlib.Core.Logic.{inl, inr}
 use mathlib.Core.List.{List}
 use Prim.Native.Nat.{ℕ, zero, suc, _+_, _-_, _*_, _/_, _%_, _^_, _≤_, _<_, zero-le}
-use native.Mathlib.Nat.{le-refl, le-trans, le-of-eq, le-suc, lt-of-lt-of-le, lt-of-le-of-lt, ne-of-lt, ne-of-gt, mod-lt, zero-lt-suc, mul-comm, mul-assoc, add-mul, mul-add, suc-mul, one-mul, mul-le-mul-right, mul-le-mul, mul-pos, pow-suc, zero-mul, eq-zero-or-pos, div-lt-iff-lt-mul, div-add-mod', mul-add-div-right, mul-add-mod-self-right, div-eq-of-lt, mod-eq-of-lt, add-zero, pow-le-pow-right}
+use native.Mathlib.Nat.{le-refl, le-trans, le-of-eq, le-suc, lt-of-lt-of-le, lt-of-le-of-lt, ne-of-lt, ne-of-gt, mod-lt, zero-lt-suc, mul-comm, mul-assoc, add-mul, mul-add, suc-mul, one-mul, mul-le-mul-right, mul-le-mul, pow-suc, zero-mul, eq-zero-or-pos, div-lt-iff-lt-mul, div-add-mod', mul-add-div-right, mul-add-mod-self-right, div-eq-of-lt, mod-eq-of-lt, add-zero, pow-le-pow-right}
 use native.Mathlib.Numerals.{add-one}
 use native.Mathlib.Omega.{arith}
 use lib.ListN.{length, getD, set, length-set}
 use lib.Seq.{getD-set-same, getD-set-other}
-use lib.Dec.{lit<, lit≤}
+use lib.Dec.{lit<}
 use Rattle.rules.proofs.numerals.Order.{tri}
-use Rattle.boost.specs.Row.{upTo, value, limit, Row, Scaled, Divided, Topped, Used, Highest}
+use Rattle.boost.specs.Row.{upTo, value, limit, Row, Scaled, Divided, Used, Highest}
 
 abbrev pub B : ℕ
 B = 0x1_0000

@@ -3,7 +3,7 @@ use mathlib.Core.Path.{_≡_, sym, ap, _∙_, subst}
 use mathlib.Core.Logic.{inl, inr}
 use mathlib.Core.List.{List}
 use mathlib.Core.Bool.{Bool, false, not, cond}
-use Prim.Native.Nat.{ℕ, _+_, _-_, _*_, _/_, _%_, _^_, _≤_, _<_, min}
+use Prim.Native.Nat.{ℕ, _+_, _-_, _*_, _/_, _^_, _≤_, _<_, min}
 use native.Mathlib.Nat.{le-trans, le-of-eq, le-of-lt, lt-of-le-of-lt, lt-of-lt-of-le, eq-zero-or-pos, one-mul, mul-one, mul-assoc, mul-le-mul-right, mul-le-mul-left, mul-lt-mul-of-pos-right, zero-mul, zero-lt-suc, div-one, mod-one, mul-div-mul-right}
 use native.Mathlib.Omega.{arith}
 use lib.Dec.{T, eqb, lit≤, not-T, eqb→eq}

@@ -1,7 +1,7 @@
 -- What the proofs of `tens` and `fives` cite: powers of ten and of five, and passes over a row one after the other. Assumes nothing.
 use mathlib.Core.Path.{_≡_, refl, sym, ap, _∙_, subst}
 use mathlib.Core.List.{List}
-use mathlib.Core.Bool.{Bool, true, false, not, _||_}
+use mathlib.Core.Bool.{Bool, false, not, _||_}
 use Prim.Native.Nat.{ℕ, zero, suc, _+_, _-_, _*_, _/_, _%_, _^_, _≤_, _<_, zero-le}
 use native.Mathlib.Nat.{le-trans, le-of-eq, lt-of-le-of-lt, lt-of-lt-of-le, mul-one, mul-comm, mul-assoc, mul-le-mul-left, pow-suc, pow-le-pow-right, div-one, mod-one, mul-div-mul-right, zero-mul, add-zero, mod-eq-of-lt}
 use native.Mathlib.Omega.{arith}

@@ -1,5 +1,5 @@
 -- Tests of two numbers, as the code makes them. Assumes nothing.
-use mathlib.Core.Path.{_≡_, subst, sym}
+use mathlib.Core.Path.{_≡_}
 use mathlib.Core.Bool.{true, false}
 use Prim.Native.Nat.{ℕ}
 use lib.Dec.{T, eqb, eqb→eq, not-T}
@@ -11,6 +11,3 @@ eq-yes a b e = is-true (eqb a b) (eq→eqb e)
 
 pub eq-no : (a b : ℕ) → (a ≡ b → ⊥) → eqb a b ≡ false
 eq-no a b n = is-false (eqb a b) (not-T (eqb a b) (λ (t : T (eqb a b)). n (eqb→eq a b t)))
-
-pub eq-back : (a b : ℕ) → eqb a b ≡ true → a ≡ b
-eq-back a b e = eqb→eq a b (subst T (sym e) tt)

@@ -9,7 +9,7 @@ use native.Mathlib.Omega.{arith}
 use lib.ListN.{length, drop, getD}
 use Rattle.rules.specs.Bytes.{isEmpty}
 use Rattle.rules.specs.Analysis.{front, after}
-use Rattle.rules.specs.Numerals.{Numeral, bad, isDigit, digitsOn, afterDigits, afterWhole}
+use Rattle.rules.specs.Numerals.{bad, isDigit, digitsOn, afterDigits, afterWhole}
 use Rattle.boost.specs.declared.numeral.Scale.{Scale}
 use Rattle.boost.specs.Numeral.{isPoint, byDigits, Scaling, DigitsOf}
 use Rattle.boost.specs.Digits.{shortMost, Reading, numberOf, Held}

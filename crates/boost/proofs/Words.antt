@@ -22,18 +22,12 @@ use Rattle.boost.proofs.Runs.{digit-high}
 use Rattle.boost.proofs.Tests.{eq-yes, eq-no}
 use Rattle.boost.proofs.Grammar.{carry, refuses, cons-at}
 
--- ---- `small_letter`
+-- ---- one byte
 by-two : (b : ℕ) (x y : Bool) → leb 65 b ≡ x → leb b 90 ≡ y → lower b ≡ cond (x && y) (b + 32) b
 by-two b x y p q = ap (λ (z : Bool). cond (z && leb b 90) (b + 32) b) p ∙ ap (λ (z : Bool). cond (x && z) (b + 32) b) q
 
 pub lower-low : (b : ℕ) → b < 65 → b ≡ lower b
 lower-low b h = sym (by-two b false (leb b 90) (is-false (leb 65 b) (lt→nleb 65 b h)) refl)
-
-pub lower-high : (b : ℕ) → 65 ≤ b → 90 < b → b ≡ lower b
-lower-high b g h = sym (by-two b true false (is-true (leb 65 b) (le→leb 65 b g)) (is-false (leb b 90) (lt→nleb b 90 h)))
-
-pub lower-mid : (b : ℕ) → 65 ≤ b → b ≤ 90 → b + 32 ≡ lower b
-lower-mid b g h = sym (by-two b true true (is-true (leb 65 b) (le→leb 65 b g)) (is-true (leb b 90) (le→leb b 90 h)))
 
 -- ---- `is_word`
 same-length : (l w : List ℕ) → (length l ≡ length w → ⊥) → same (lowercase l) w ≡ false
