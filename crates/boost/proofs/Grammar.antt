@@ -10,31 +10,24 @@ use native.Mathlib.Numerals.{add-one}
 use native.Mathlib.Omega.{arith}
 use lib.ListN.{length, drop, getD, drop-of-length-le}
 use lib.Seq.{drop-cons}
-use lib.Dec.{T, eqb, eqb→eq, not-T}
-use lib.Ieee.Fits.{eq→eqb}
-use lib.Ieee.Bits.{is-true, is-false}
+use lib.Dec.{eqb}
 use Rattle.rules.specs.Bytes.{isEmpty}
 use Rattle.rules.specs.Analysis.{front, after}
+use Rattle.rules.specs.Reading.{numberOf as refusalOf}
 use Rattle.rules.specs.Numerals.{Numeral, bad, decimal, infinity, isDigit, digitsOn, isMinus, afterSign, exponent, afterDigits, signed, bitsOf}
 use Rattle.rules.proofs.numerals.Order.{tri}
 use Rattle.boost.specs.declared.numeral.Answer.{Answer}
 use Rattle.boost.specs.declared.numeral.Answer.the-variants.{Refused, Bits}
-use Rattle.boost.specs.Numeral.{answerOf, isPoint}
+use Rattle.boost.specs.declared.numeral.Scale.{Scale}
+use Rattle.boost.specs.declared.numeral.Scale.the-variants.{Times, Over}
+use Rattle.boost.specs.Numeral.{answerOf, isPoint, Scaling}
 use Rattle.boost.specs.Digits.{shortMost, Reading}
 use Rattle.boost.specs.Decimal.{Up, Down}
+use Rattle.boost.proofs.Tests.{eq-yes, eq-no}
 use Rattle.boost.proofs.Tens.{ten-pos}
 use Rattle.boost.proofs.Scales.{nearest-within}
 
--- ---- tests
-pub eq-yes : (a b : ℕ) → a ≡ b → eqb a b ≡ true
-eq-yes a b e = is-true (eqb a b) (eq→eqb e)
-
-pub eq-no : (a b : ℕ) → (a ≡ b → ⊥) → eqb a b ≡ false
-eq-no a b n = is-false (eqb a b) (not-T (eqb a b) (λ (t : T (eqb a b)). n (eqb→eq a b t)))
-
-pub eq-back : (a b : ℕ) → eqb a b ≡ true → a ≡ b
-eq-back a b e = eqb→eq a b (subst T (sym e) tt)
-
+-- ---- lists
 pub cons-at : (s : List ℕ) (i : ℕ) → i < length s → drop i s ≡ getD s i 0 ∷ drop (i + 1) s
 cons-at s i h = drop-cons s i 0 h ∙ ap (λ (j : ℕ). getD s i 0 ∷ drop j s) (sym (add-one i))
 
@@ -111,12 +104,12 @@ all-digits (c ∷ l) e = digits-cons c l (isDigit c) e (λ h. all-digits l h)
     digits-cons c l true e more = ap (λ (x : List ℕ). c ∷ x) (more e)
     digits-cons c l false e more = absurd (true≢false (sym (ap isEmpty e)))
 
-module _ (s : List ℕ) (at v end : ℕ) (g : Reading s at 0 v end) (m : Bool) (D f : ℕ) where
-  pub exponent-no-digit : end ≡ at → exponent m D f (drop at s) ≡ bad
-  exponent-no-digit e = exponent-none m D f (drop at s) (g .rest ∙ ap (λ (i : ℕ). drop i s) e)
+module _ (s : List ℕ) (at v end : ℕ) (g : Reading s at 0 v end) (m : Bool) where
+  pub exponent-no-digit : end ≡ at → (D f : ℕ) → exponent m D f (drop at s) ≡ bad
+  exponent-no-digit e D f = exponent-none m D f (drop at s) (g .rest ∙ ap (λ (i : ℕ). drop i s) e)
 
-  pub exponent-more : end < length s → exponent m D f (drop at s) ≡ bad
-  exponent-more h = exponent-bad m D f (drop at s) (ap isEmpty (g .rest ∙ cons-at s end h))
+  pub exponent-more : end < length s → (D f : ℕ) → exponent m D f (drop at s) ≡ bad
+  exponent-more h D f = exponent-bad m D f (drop at s) (ap isEmpty (g .rest ∙ cons-at s end h))
 
   module _ (ne : end ≡ at → ⊥) (all : length s ≤ end) where
     ends : after isDigit (drop at s) ≡ []
@@ -138,23 +131,44 @@ module _ (s : List ℕ) (at v end : ℕ) (g : Reading s at 0 v end) (m : Bool) (
     is-X : v ≡ min X shortMost
     is-X = g .is 0 refl ∙ ap (λ (l : List ℕ). min (digitsOn 0 l) shortMost) (all-digits (drop at s) ends)
 
-    pub exponent-down : (sign : Bool) (p : ℕ) (r : Answer) → m ≡ true → Down D v f p → r ≡ Bits (signed sign p) → r ≡ answerOf (bitsOf sign (exponent m D f (drop at s)))
-    exponent-down sign p r e h w =
-        carry sign (exponent m D f (drop at s)) (decimal D 0 (f + X)) r
-        (exponent-good m D f (drop at s) begins ends ∙ ap (λ (b : Bool). cond b (decimal D 0 (f + X)) (decimal D X f)) e)
-        (w ∙ ap (λ (x : ℕ). Bits (signed sign x)) (h .is X is-X))
+    good : (D f : ℕ) (b : Bool) → m ≡ b → exponent m D f (drop at s) ≡ cond b (decimal D 0 (f + X)) (decimal D X f)
+    good D f b e = exponent-good m D f (drop at s) begins ends ∙ ap (λ (b : Bool). cond b (decimal D 0 (f + X)) (decimal D X f)) e
 
-    pub exponent-up : (sign : Bool) (p : ℕ) (r : Answer) → m ≡ false → Up D v f p → r ≡ Bits (signed sign p) → r ≡ answerOf (bitsOf sign (exponent m D f (drop at s)))
-    exponent-up sign p r e h w =
-        carry sign (exponent m D f (drop at s)) (decimal D X f) r
-        (exponent-good m D f (drop at s) begins ends ∙ ap (λ (b : Bool). cond b (decimal D 0 (f + X)) (decimal D X f)) e)
-        (w ∙ ap (λ (x : ℕ). Bits (signed sign x)) (h .is X is-X))
+    pub exponent-over : m ≡ true → (D f : ℕ) → Scaling (Over v) D f (exponent m D f (drop at s))
+    exponent-over e D f = (X, is-X, good D f true e)
 
-    pub down-within : (p : ℕ) → Down D v f p → p ≤ infinity
-    down-within p h = nearest-within (D * 10 ^ 0) (10 ^ (f + X)) p (ten-pos (f + X)) (h .is X is-X)
+    pub exponent-times : m ≡ false → (D f : ℕ) → Scaling (Times v) D f (exponent m D f (drop at s))
+    exponent-times e D f = (X, is-X, good D f false e)
 
-    pub up-within : (p : ℕ) → Up D v f p → p ≤ infinity
-    up-within p h = nearest-within (D * 10 ^ X) (10 ^ f) p (ten-pos f) (h .is X is-X)
+-- ---- the answer of a decimal
+pub times-answer : (m : Bool) (D x f p : ℕ) (o : Numeral) (r : Answer) → Scaling (Times x) D f o → Up D x f p → r ≡ Bits (signed m p) → r ≡ answerOf (bitsOf m o)
+times-answer m D x f p o r g u w = carry m o (decimal D (g .0) f) r (g .2) (w ∙ ap (λ (y : ℕ). Bits (signed m y)) (u .is (g .0) (g .1)))
+
+pub times-within : (D x f p : ℕ) (o : Numeral) → Scaling (Times x) D f o → Up D x f p → p ≤ infinity
+times-within D x f p o g u = nearest-within (D * 10 ^ (g .0)) (10 ^ f) p (ten-pos f) (u .is (g .0) (g .1))
+
+pub over-answer : (m : Bool) (D x f p : ℕ) (o : Numeral) (r : Answer) → Scaling (Over x) D f o → Down D x f p → r ≡ Bits (signed m p) → r ≡ answerOf (bitsOf m o)
+over-answer m D x f p o r g u w = carry m o (decimal D 0 (f + g .0)) r (g .2) (w ∙ ap (λ (y : ℕ). Bits (signed m y)) (u .is (g .0) (g .1)))
+
+pub over-within : (D x f p : ℕ) (o : Numeral) → Scaling (Over x) D f o → Down D x f p → p ≤ infinity
+over-within D x f p o g u = nearest-within (D * 10 ^ 0) (10 ^ (f + g .0)) p (ten-pos (f + g .0)) (u .is (g .0) (g .1))
+
+-- an exponent is cut off
+pub over-cut : (D x f : ℕ) (o : Numeral) → Scaling (Over x) D f o → x ≤ shortMost
+over-cut D x f o g = go x (g .0) (g .1)
+  where
+    go : (x y : ℕ) → x ≡ min y shortMost → x ≤ shortMost
+    go x y e = omega arith
+
+-- ---- and its refusal
+pub times-none : (m : Bool) (D x f : ℕ) (o : Numeral) → Scaling (Times x) D f o → 0 ≡ refusalOf (bitsOf m o)
+times-none m D x f o g = sym (ap (λ (n : Numeral). refusalOf (bitsOf m n)) (g .2))
+
+pub over-none : (m : Bool) (D x f : ℕ) (o : Numeral) → Scaling (Over x) D f o → 0 ≡ refusalOf (bitsOf m o)
+over-none m D x f o g = sym (ap (λ (n : Numeral). refusalOf (bitsOf m n)) (g .2))
+
+pub bad-refusal : (m : Bool) (o : Numeral) → o ≡ bad → 13 ≡ refusalOf (bitsOf m o)
+bad-refusal m o e = sym (ap (λ (n : Numeral). refusalOf (bitsOf m n)) e)
 
 -- ---- the exponent's sign
 minus-cons : (c : ℕ) (l : List ℕ) (x : Bool) → eqb c 45 ≡ x → isMinus (c ∷ l) ≡ x
@@ -215,10 +229,10 @@ digits-other D f s end h n k =
     ∙ ap (λ (b : Bool). cond (b || eqb (getD s end 0) 69) (exponent (isMinus (drop (end + 1) s)) D f (afterSign (drop (end + 1) s))) bad) (eq-no (getD s end 0) 101 n)
     ∙ ap (λ (b : Bool). cond b (exponent (isMinus (drop (end + 1) s)) D f (afterSign (drop (end + 1) s))) bad) (eq-no (getD s end 0) 69 k)
 
-pub digits-end : (D f : ℕ) (s : List ℕ) (end : ℕ) (sign : Bool) (p : ℕ) (r : Answer) → length s ≤ end → Up D 0 f p → r ≡ Bits (signed sign p) → r ≡ answerOf (bitsOf sign (afterDigits D f (drop end s)))
+pub digits-end : (D f : ℕ) (s : List ℕ) (end : ℕ) → length s ≤ end → Scaling (Times 0) D f (afterDigits D f (drop end s))
 unfolding afterDigits
-digits-end D f s end sign p r h u w =
-    carry sign (afterDigits D f (drop end s)) (decimal D 0 f) r (ap (afterDigits D f) (drop-of-length-le s h)) (w ∙ ap (λ (x : ℕ). Bits (signed sign x)) (u .is 0 refl))
+digits-end D f s end h = (0, refl, ap (afterDigits D f) (drop-of-length-le s h))
 
-pub up-zero-within : (D f p : ℕ) → Up D 0 f p → p ≤ infinity
-up-zero-within D f p u = nearest-within (D * 10 ^ 0) (10 ^ f) p (ten-pos f) (u .is 0 refl)
+-- what is scaled alike
+pub scaled-as : (x : Scale) (D f : ℕ) (o p : Numeral) → o ≡ p → Scaling x D f p → Scaling x D f o
+scaled-as x D f o p e g = subst (Scaling x D f) (sym e) g

@@ -15,7 +15,7 @@ use lib.Ieee.Fits.{round-is, down-pos}
 use lib.Ieee.Nearest.{closest}
 use lib.Ieee.Scale.{round-same}
 use Rattle.rules.specs.Numerals.{nearest}
-use Rattle.boost.specs.Digits.{shortMost}
+use Rattle.boost.specs.Digits.{quickMost}
 
 -- ---- powers of ten
 pub power-le : (n : ℕ) → n < 8 → 10 ^ n ≤ 2 ^ 24
@@ -29,7 +29,7 @@ pub holds : (n : ℕ) → n ≤ 2 ^ 24 → T (inFloat binary32 (pos n))
 unfolding inFloat
 holds n h = le→leb n (2 ^ 24) h
 
-pub few : (d : ℕ) → d < shortMost → d ≤ 2 ^ 24
+pub few : (d : ℕ) → d < quickMost → d ≤ 2 ^ 24
 few d h = omega arith
 
 abbrev float : ℕ → Float
@@ -113,7 +113,7 @@ round-not-nan f s num den =
 
 -- ---- the answers, for a float t that is a power of ten
 
-module _ (d n : ℕ) (t : Float) (H : d < shortMost) (N : n < 8) (e : t ≡ float (10 ^ n)) where
+module _ (d n : ℕ) (t : Float) (H : d < quickMost) (N : n < 8) (e : t ≡ float (10 ^ n)) where
   value : HasValue t false (10 ^ n) 1
   value = subst (λ (x : Float). HasValue x false (10 ^ n) 1) (sym e) (float-value (10 ^ n) (power-le n N))
 

@@ -1,23 +1,28 @@
 -- What the proofs of the functions that read digits cite: a run of digits from a place of a text on, its number, and the loops' turns.
 -- Assumes nothing.
 use mathlib.Core.Path.{_≡_, refl, sym, ap, _∙_, subst}
+use mathlib.Core.Logic.{_⊎_, inl, inr}
 use mathlib.Core.List.{List, [], _∷_}
-use mathlib.Core.Bool.{Bool, true, false, _&&_, cond}
+use mathlib.Core.Bool.{Bool, true, false, _&&_, cond, true≢false}
 use Prim.Native.Nat.{ℕ, suc, _+_, _-_, _*_, _^_, _≤_, _<_, min}
-use native.Mathlib.Nat.{le-trans, le-of-eq, lt-of-lt-of-le, add-zero, pow-suc}
+use native.Mathlib.Nat.{le-refl, le-trans, le-of-eq, lt-of-lt-of-le, lt-of-le-of-lt, add-zero, add-mul, suc-mul, mul-one, mul-comm, mul-assoc, mul-le-mul-right, eq-of-mul-eq-mul-right, pow-suc}
 use native.Mathlib.Numerals.{add-one}
 use native.Mathlib.Omega.{arith}
 use lib.ListN.{length, drop, getD, drop-of-length-le}
 use lib.Seq.{drop-cons}
-use lib.Dec.{T, leb, le→leb, leb→le, lit≤}
+use lib.Dec.{T, leb, le→leb, leb→le, lit≤, lit<}
 use lib.Arith.{lt→nleb}
+use lib.Pow.{pow-pos}
 use lib.Ieee.Bits.{is-true, is-false}
 use Rattle.rules.specs.Analysis.{front, after}
 use Rattle.rules.specs.Numerals.{isDigit, digitsOn}
-use Rattle.boost.specs.Row.{value, Row, Scaled, limit}
-use Rattle.boost.specs.Digits.{shortMost, Reading, Filled}
-use Rattle.boost.proofs.Rises.{no-over}
+use Rattle.rules.proofs.numerals.Order.{tri}
+use Rattle.boost.specs.Row.{value, limit, Scaled}
+use Rattle.boost.specs.Digits.{shortMost, takenMost, forty, Reading, Stop, Digit, DigitAt, MoreAt, Along, Taken, Holds, Filled}
+use Rattle.boost.proofs.Rows.{B}
+use Rattle.boost.proofs.Tops.{base-power}
 use Rattle.boost.proofs.Tens.{ten-mono}
+use Rattle.boost.proofs.Rooms.{room-digits}
 
 -- ---- one byte
 pub digit-yes : (b : ℕ) → 48 ≤ b → b ≤ 57 → isDigit b ≡ true
@@ -50,10 +55,6 @@ unfolding digitsOn
 digits-none w = refl
 
 -- ---- nothing is to be read at i
-pub record Stop (s : List ℕ) (i : ℕ) : Type 0 where
-  pub none : front isDigit (drop i s) ≡ []
-  pub all : after isDigit (drop i s) ≡ drop i s
-
 pub stop-byte : (s : List ℕ) (i : ℕ) → i < length s → isDigit (getD s i 0) ≡ false → Stop s i
 stop-byte s i h e = record {
   none = ap (front isDigit) (drop-cons s i 0 h) ∙ front-cons (getD s i 0) (drop (suc i) s) false e;
@@ -64,12 +65,7 @@ pub stop-end : (s : List ℕ) (i : ℕ) → length s ≤ i → Stop s i
 unfolding front after
 stop-end s i h = let e : drop i s ≡ [] = drop-of-length-le s h in record { none = ap (front isDigit) e; all = ap (after isDigit) e ∙ sym e }
 
--- ---- on the way from `at` to i: what is left there is what was left
-pub record Along (s : List ℕ) (at i : ℕ) : Type 0 where
-  pub within : i ≤ length s
-  pub rest : after isDigit (drop at s) ≡ after isDigit (drop i s)
-  pub count : at + length (front isDigit (drop at s)) ≡ i + length (front isDigit (drop i s))
-
+-- ---- on the way
 pub along-first : (s : List ℕ) (at : ℕ) → at ≤ length s → Along s at at
 along-first s at h = record { within = h; rest = refl; count = refl }
 
@@ -97,95 +93,190 @@ along-next s at i g h e = record {
 pub along-stops : (s : List ℕ) (at i : ℕ) → Along s at i → Stop s i → i ≡ at + length (front isDigit (drop at s))
 along-stops s at i g z = sym (g .count ∙ ap (λ (l : List ℕ). i + length l) (z .none) ∙ add-zero i)
 
-number-stops : (s : List ℕ) (i w : ℕ) → Stop s i → digitsOn w (front isDigit (drop i s)) ≡ w
+pub number-stops : (s : List ℕ) (i w : ℕ) → Stop s i → digitsOn w (front isDigit (drop i s)) ≡ w
 number-stops s i w z = ap (digitsOn w) (z .none) ∙ digits-none w
+
+-- what a digit is, to the code
+pub digit-is : (s : List ℕ) (i : ℕ) → Digit s i → isDigit (getD s i 0) ≡ true
+digit-is s i d = digit-yes (getD s i 0) (d .low) (d .high)
+
+less-48 : (d b : ℕ) → d + 48 ≡ b → d ≡ b - 48
+less-48 d b e = omega arith
+
+-- no digit stops where one stands
+pub stop-no : (s : List ℕ) (i : ℕ) → Digit s i → Stop s i → ⊥
+stop-no s i d z = no (length (front isDigit (drop (suc i) s))) (ap length (sym (ap (front isDigit) (drop-cons s i 0 (d .within)) ∙ front-cons (getD s i 0) (drop (suc i) s) true (digit-is s i d)) ∙ z .none))
+  where
+    no : (n : ℕ) → suc n ≡ 0 → ⊥
+    no n e = omega arith
+
+-- ---- `is_digit_at`, `more_at`
+pub digit-here : (s : List ℕ) (i : ℕ) → i < length s → 48 ≤ getD s i 0 → DigitAt s i (leb (getD s i 0) 57)
+digit-here s i h k = record {
+  yes = λ e. record { within = h; low = k; high = leb→le (getD s i 0) 57 (subst T (sym e) tt) };
+  no = λ e. stop-byte s i h (ap (λ (x : Bool). x && leb (getD s i 0) 57) (is-true (leb 48 (getD s i 0)) (le→leb 48 (getD s i 0) k)) ∙ e);
+}
+
+pub digit-not : (s : List ℕ) (i : ℕ) → Stop s i → DigitAt s i false
+digit-not s i z = record { yes = λ e. absurd (true≢false (sym e)); no = λ e. z }
+
+pub more-not : (s : List ℕ) (i p : ℕ) → takenMost < p → MoreAt s i p false
+more-not s i p h = record { yes = λ e. absurd (true≢false (sym e)); no = λ e. inr h }
+
+pub more-here : (s : List ℕ) (i p : ℕ) (b : Bool) → p ≤ takenMost → DigitAt s i b → MoreAt s i p b
+more-here s i p b h d = record { yes = λ e. (d .yes e, h); no = λ e. inl (d .no e) }
 
 -- ---- `read`
 pub record Counting (s : List ℕ) (at start v i : ℕ) : Type 0 where
   pub along : Along s at i
-  pub is : (w : ℕ) → start ≡ min w shortMost → (u : ℕ) × (digitsOn w (front isDigit (drop at s)) ≡ digitsOn u (front isDigit (drop i s))) × (v ≡ min u shortMost)
-  pub small : v ≤ shortMost
+  pub is : (w : ℕ) → start ≡ min w shortMost → (u : ℕ) × (digitsOn w (front isDigit (drop at s)) ≡ digitsOn u (front isDigit (drop i s))) × (min v shortMost ≡ min u shortMost)
 
-pub count-first : (s : List ℕ) (at start : ℕ) → at ≤ length s → start ≤ shortMost → Counting s at start start at
-count-first s at start h k = record { along = along-first s at h; is = λ w e. (w, refl, e); small = k }
-
-pub count-next : (s : List ℕ) (at start v i d r : ℕ) → Counting s at start v i → i < length s → 48 ≤ getD s i 0 → getD s i 0 ≤ 57 → d + 48 ≡ getD s i 0 → r ≡ min (v * 10 + d) shortMost → Counting s at start r (i + 1)
-count-next s at start v i d r g h a b e f =
-    let y : isDigit (getD s i 0) ≡ true = digit-yes (getD s i 0) a b in
-    record {
-      along = along-next s at i (g .along) h y;
-      is = λ w k. (g .is w k .0 * 10 + (getD s i 0 - 48), g .is w k .1 ∙ number-next s i (g .is w k .0) h y, f ∙ go (g .is w k .0) v d (getD s i 0) (g .is w k .2) e);
-      small = le r (v * 10 + d) f;
-    }
+pub count-first : (s : List ℕ) (at start : ℕ) → at ≤ length s → Counting s at start start at
+count-first s at start h = record { along = along-first s at h; is = λ w e. (w, refl, go start w e) }
   where
-    go : (u v d b : ℕ) → v ≡ min u shortMost → d + 48 ≡ b → min (v * 10 + d) shortMost ≡ min (u * 10 + (b - 48)) shortMost
-    go u v d b e f = omega arith
+    go : (v w : ℕ) → v ≡ min w shortMost → min v shortMost ≡ min w shortMost
+    go v w e = omega arith
 
-    le : (r x : ℕ) → r ≡ min x shortMost → r ≤ shortMost
-    le r x e = omega arith
+pub count-next : (s : List ℕ) (at start v i d r : ℕ) → Counting s at start v i → Digit s i → d + 48 ≡ getD s i 0 → (v < shortMost → r ≡ v * 10 + d) → (shortMost ≤ v → r ≡ v) → Counting s at start r (i + 1)
+count-next s at start v i d r g h e low high = record {
+  along = along-next s at i (g .along) (h .within) (digit-is s i h);
+  is = λ w k. (g .is w k .0 * 10 + (getD s i 0 - 48), g .is w k .1 ∙ number-next s i (g .is w k .0) (h .within) (digit-is s i h), go (g .is w k .0) v d (getD s i 0) r (g .is w k .2) e low high);
+}
+  where
+    go : (u v d b r : ℕ) → min v shortMost ≡ min u shortMost → d + 48 ≡ b → (v < shortMost → r ≡ v * 10 + d) → (shortMost ≤ v → r ≡ v) → min r shortMost ≡ min (u * 10 + (b - 48)) shortMost
+    go u v d b r e f low high = elim (tri v shortMost) [
+      | inl l ↦ let z : r ≡ v * 10 + d = low l in omega arith
+      | inr (inl l) ↦ let z : r ≡ v = high (le-of-eq (sym l)) in omega arith
+      | inr (inr l) ↦ let z : r ≡ v = high (omega arith) in omega arith
+    ]
 
-pub counted : (s : List ℕ) (at start v i : ℕ) → Counting s at start v i → Stop s i → Reading s at start v i
-counted s at start v i g z = record {
-  is = λ w e. g .is w e .2 ∙ ap (λ (x : ℕ). min x shortMost) (sym (g .is w e .1 ∙ number-stops s i (g .is w e .0) z));
+pub counted : (s : List ℕ) (at start v i r : ℕ) → Counting s at start v i → Stop s i → r ≡ min v shortMost → Reading s at start r i
+counted s at start v i r g z f = record {
+  is = λ w e. f ∙ g .is w e .2 ∙ ap (λ (x : ℕ). min x shortMost) (sym (g .is w e .1 ∙ number-stops s i (g .is w e .0) z));
   rest = g .along .rest ∙ z .all;
   stops = along-stops s at i (g .along) z;
   within = g .along .within;
-  small = g .small;
+  small = le r v f;
 }
+  where
+    le : (r v : ℕ) → r ≡ min v shortMost → r ≤ shortMost
+    le r v e = omega arith
+
+-- ---- `take`
+pub record Going (s : List ℕ) (at v p i : ℕ) : Type 0 where
+  pub along : Along s at i
+  pub is : (w : ℕ) → digitsOn w (front isDigit (drop at s)) ≡ digitsOn (w * p + v) (front isDigit (drop i s))
+  pub small : v < p
+  pub power : 10 ^ at * p ≡ 10 ^ i
+  pub few : p ≤ 10 ^ 14
+  pub later : at ≤ i
+  pub begun : i ≡ at → p ≡ 1
+
+pub take-first : (s : List ℕ) (at : ℕ) → at ≤ length s → Going s at 0 1 at
+take-first s at h = record { along = along-first s at h; is = λ w. ap (λ (x : ℕ). digitsOn x (front isDigit (drop at s))) (tidy w); small = lit< tt; power = mul-one (10 ^ at); few = lit≤ tt; later = le-refl at; begun = λ e. refl }
+  where
+    tidy : (w : ℕ) → w ≡ w * 1 + 0
+    tidy w = omega arith
+
+pub take-next : (s : List ℕ) (at v p i d : ℕ) → Going s at v p i → Digit s i → p ≤ takenMost → d + 48 ≡ getD s i 0 → d < 10 → Going s at (v * 10 + d) (p * 10) (i + 1)
+take-next s at v p i d g h k e l = record {
+  along = along-next s at i (g .along) (h .within) (digit-is s i h);
+  is = λ w. g .is w ∙ number-next s i (w * p + v) (h .within) (digit-is s i h) ∙ ap (λ (x : ℕ). digitsOn x (front isDigit (drop (i + 1) s))) (sum w p v (getD s i 0 - 48) d (less-48 d (getD s i 0) e));
+  small = omega (arith, g .small);
+  power = sym (mul-assoc (10 ^ at) p 10) ∙ ap (λ (x : ℕ). x * 10) (g .power) ∙ sym (ap (λ (x : ℕ). 10 ^ x) (add-one i) ∙ pow-suc 10 i);
+  few = omega arith;
+  later = le-trans (g .later) (omega arith);
+  begun = λ z. absurd (no at i (g .later) z);
+}
+  where
+    sum : (w p v x d : ℕ) → d ≡ x → (w * p + v) * 10 + x ≡ w * (p * 10) + (v * 10 + d)
+    sum w p v x d e = let f : w * (p * 10) ≡ w * p * 10 = sym (mul-assoc w p 10) in omega arith
+
+    no : (at i : ℕ) → at ≤ i → i + 1 ≡ at → ⊥
+    no at i h e = omega arith
+
+pub taken : (s : List ℕ) (at v p i : ℕ) → Going s at v p i → Stop s i ⊎ (takenMost < p) → Taken s at v p i
+taken s at v p i g z = record { along = g .along; is = g .is; small = g .small; power = g .power; few = g .few; later = g .later; none = λ e. go z e }
+  where
+    go : Stop s i ⊎ (takenMost < p) → i ≡ at → Stop s at
+    go (inl z) e = subst (Stop s) e z
+    go (inr l) e = absurd (no p l (g .begun e))
+      where
+        no : (p : ℕ) → takenMost < p → p ≡ 1 → ⊥
+        no p l e = omega arith
+
+pub taken-later : (s : List ℕ) (at v p i : ℕ) → Taken s at v p i → Digit s at → at < i
+taken-later s at v p i g d = elim (tri at i) [
+  | inl l ↦ l
+  | inr (inl e) ↦ absurd (stop-no s at d (g .none (sym e)))
+  | inr (inr l) ↦ absurd (no at i (g .later) l)
+]
+  where
+    no : (a b : ℕ) → a ≤ b → b < a → ⊥
+    no a b h k = omega arith
 
 -- ---- `fill`
-pub record Filling (s : List ℕ) (at : ℕ) (xs ys : List ℕ) (i : ℕ) : Type 0 where
-  pub row : Row ys
+pub record Filling (s : List ℕ) (at from : ℕ) (xs ys : List ℕ) (i : ℕ) : Type 0 where
+  pub holds : Holds ys from i
   pub along : Along s at i
-  pub is : digitsOn (value xs) (front isDigit (drop at s)) ≡ digitsOn (value ys) (front isDigit (drop i s))
-  pub small : value ys < 10 ^ i
+  pub is : (v : ℕ) → value xs ≡ v * B ^ from → digitsOn v (front isDigit (drop at s)) ≡ digitsOn (holds .number) (front isDigit (drop i s))
 
-pub fill-first : (s : List ℕ) (at : ℕ) (xs : List ℕ) → Row xs → at ≤ length s → value xs < 10 ^ at → Filling s at xs xs at
-fill-first s at xs r h k = record { row = r; along = along-first s at h; is = refl; small = k }
+base-pos : (n : ℕ) → 0 < B ^ n
+base-pos n = subst (λ (x : ℕ). 0 < x) (sym (base-power n)) (pow-pos (16 * n))
 
-pub filled : (s : List ℕ) (at : ℕ) (xs ys : List ℕ) (i : ℕ) → Filling s at xs ys i → Stop s i → Filled s at xs ys
-filled s at xs ys i g z = record {
-  row = g .row;
-  is = sym (g .is ∙ number-stops s i (value ys) z);
-  small = subst (λ (n : ℕ). value ys < 10 ^ n) (along-stops s at i (g .along) z) (g .small);
+pub fill-first : (s : List ℕ) (at from : ℕ) (xs : List ℕ) → Holds xs from at → at ≤ length s → Filling s at from xs xs at
+fill-first s at from xs r h = record {
+  holds = r;
+  along = along-first s at h;
+  is = λ v e. ap (λ (x : ℕ). digitsOn x (front isDigit (drop at s))) (eq-of-mul-eq-mul-right (B ^ from) (base-pos from) v (r .number) (sym e ∙ r .is));
 }
 
-forty-digits : 10 ^ 40 ≤ limit
-unfolding limit
-forty-digits = lit≤ tt
+in-forty : {n : ℕ} → n < 10 ^ 40 → n < forty
+unfolding forty
+in-forty h = h
 
-in-limit : {n : ℕ} → n < limit → n < 0x1_0000_0000 ^ 18
-unfolding limit
-in-limit h = h
+-- what is taken fits
+module _ (s : List ℕ) (at from : ℕ) (xs ys : List ℕ) (i v p e : ℕ) (g : Filling s at from xs ys i) (t : Taken s i v p e) where
+  abbrev U : ℕ
+  U = g .holds .number * p + v
 
--- one more digit
-pub next-small : (v d i : ℕ) → v < 10 ^ i → d < 10 → v * 10 + d < 10 ^ (i + 1)
+  taken-is : value ys * p + v * B ^ from ≡ U * B ^ from
+  taken-is = ap (λ (x : ℕ). x * p + v * B ^ from) (g .holds .is) ∙ sum (g .holds .number) p v (B ^ from)
+    where
+      sum : (u p v w : ℕ) → u * w * p + v * w ≡ (u * p + v) * w
+      sum u p v w = let a : (u * p + v) * w ≡ u * p * w + v * w = add-mul (u * p) v w in let b : u * w * p ≡ u * p * w = mul-assoc u w p ∙ ap (λ (x : ℕ). u * x) (mul-comm w p) ∙ sym (mul-assoc u p w) in omega arith
+
+  taken-few : U < 10 ^ e
+  taken-few = lt-of-lt-of-le (more (g .holds .number) p v (t .small)) (le-trans (mul-le-mul-right p (g .holds .small)) (le-of-eq (t .power)))
+    where
+      more : (u p v : ℕ) → v < p → u * p + v < suc u * p
+      more u p v h = let a : suc u * p ≡ u * p + p = suc-mul u p in omega arith
+
+  pub fill-room : length s ≤ 40 → from ≤ 9 → value ys * p + v * B ^ from < limit
+  fill-room h k = lt-of-le-of-lt (le-of-eq taken-is) (room-digits U from (few (lt-of-lt-of-le taken-few (ten-mono e 40 (le-trans (t .along .within) h)))) k)
+    where
+      few : U < 10 ^ 40 → U < forty
+      few l = in-forty l
+
+  pub fill-next : (zs : List ℕ) → Scaled ys zs from p v → Filling s at from xs zs e
+  fill-next zs z = record {
+    holds = record { row = z .row; none = z .none; number = U; is = z .is ∙ taken-is; small = taken-few };
+    along = record { within = t .along .within; rest = g .along .rest ∙ t .along .rest; count = g .along .count ∙ t .along .count };
+    is = λ w f. g .is w f ∙ t .is (g .holds .number);
+  }
+
+pub filled : (s : List ℕ) (at from : ℕ) (xs ys : List ℕ) (i : ℕ) → Filling s at from xs ys i → Stop s i → Filled s at from xs ys
+filled s at from xs ys i g z = record {
+  holds = subst (Holds ys from) (along-stops s at i (g .along) z) (g .holds);
+  is = λ v e. g .holds .is ∙ ap (λ (x : ℕ). x * B ^ from) (sym (g .is v e ∙ number-stops s i (g .holds .number) z));
+}
+
+-- ---- a number and one more digit
+next-small : (v d i : ℕ) → v < 10 ^ i → d < 10 → v * 10 + d < 10 ^ (i + 1)
 next-small v d i h k = subst (λ (x : ℕ). v * 10 + d < 10 ^ x) (sym (add-one i)) (subst (λ (x : ℕ). v * 10 + d < x) (sym (pow-suc 10 i)) (go v d (10 ^ i) h k))
   where
     go : (v d w : ℕ) → v < w → d < 10 → v * 10 + d < w * 10
     go v d w h k = omega arith
-
-pub fill-next : (s : List ℕ) (at : ℕ) (xs ys zs : List ℕ) (i d r : ℕ) → Filling s at xs ys i → i < length s → length s ≤ 40 → 48 ≤ getD s i 0 → getD s i 0 ≤ 57 → d + 48 ≡ getD s i 0 → Scaled ys zs 10 d r → Filling s at xs zs (i + 1)
-fill-next s at xs ys zs i d r g h k a b e t =
-    let y : isDigit (getD s i 0) ≡ true = digit-yes (getD s i 0) a b in
-    let lt : value ys * 10 + d < 10 ^ (i + 1) = next-small (value ys) d i (g .small) (few d (getD s i 0) e b) in
-    let fits : value ys * 10 + d < limit = lt-of-lt-of-le lt (le-trans (ten-mono (i + 1) 40 (up i (length s) h k)) forty-digits) in
-    let is : value zs ≡ value ys * 10 + d = no-over (value zs) r (0x1_0000_0000 ^ 18) (value ys * 10 + d) (t .is ∙ sym (add-zero (value ys * 10 + d))) (in-limit fits) in
-    record {
-      row = t .row;
-      along = along-next s at i (g .along) h y;
-      is = g .is ∙ number-next s i (value ys) h y ∙ ap (λ (x : ℕ). digitsOn x (front isDigit (drop (i + 1) s))) (sym (is ∙ ap (λ (x : ℕ). value ys * 10 + x) (less d (getD s i 0) e)));
-      small = subst (λ (x : ℕ). x < 10 ^ (i + 1)) (sym is) lt;
-    }
-  where
-    few : (d b : ℕ) → d + 48 ≡ b → b ≤ 57 → d < 10
-    few d b e h = omega arith
-
-    less : (d b : ℕ) → d + 48 ≡ b → d ≡ b - 48
-    less d b e = omega arith
-
-    up : (i n : ℕ) → i < n → n ≤ 40 → i + 1 ≤ 40
-    up i n h k = omega arith
 
 -- ---- a bound for the number of a run, after a w of at most k digits
 digit-few : (b : ℕ) → isDigit b ≡ true → b - 48 < 10
@@ -218,40 +309,3 @@ pub run-few : (w k : ℕ) (s : List ℕ) → w < 10 ^ k → digitsOn w (front is
 unfolding front
 run-few w k [] h = none-few w k h
 run-few w k (b ∷ s) h = run-cons w k b s h (λ w k h. run-few w k s h) (isDigit b) refl
-
--- ---- `gather`
-pub record Gathering (s : List ℕ) (at start v i : ℕ) : Type 0 where
-  pub along : Along s at i
-  pub is : digitsOn start (front isDigit (drop at s)) ≡ digitsOn v (front isDigit (drop i s))
-  pub small : v < 10 ^ i
-
-pub gather-first : (s : List ℕ) (at start : ℕ) → at ≤ length s → start < 10 ^ at → Gathering s at start start at
-gather-first s at start h k = record { along = along-first s at h; is = refl; small = k }
-
-pub gathered : (s : List ℕ) (at start v i : ℕ) → Gathering s at start v i → Stop s i → v ≡ digitsOn start (front isDigit (drop at s))
-gathered s at start v i g z = sym (g .is ∙ number-stops s i v z)
-
--- where a digit stands, there is room for one more
-pub gather-room : (s : List ℕ) (at start v i : ℕ) → Gathering s at start v i → at + length (front isDigit (drop at s)) ≤ 18 → i < length s → 48 ≤ getD s i 0 → getD s i 0 ≤ 57 → v < 10 ^ 17
-gather-room s at start v i g l h a b =
-    lt-of-lt-of-le (g .small) (ten-mono i 17 (go i (length (front isDigit (drop i s))) (length (front isDigit (drop (suc i) s)))
-    (le-trans (le-of-eq (sym (g .along .count))) l)
-    (ap length (ap (front isDigit) (drop-cons s i 0 h) ∙ front-cons (getD s i 0) (drop (suc i) s) true (digit-yes (getD s i 0) a b)))))
-  where
-    go : (i n m : ℕ) → i + n ≤ 18 → n ≡ suc m → i ≤ 17
-    go i n m h e = omega arith
-
-pub gather-next : (s : List ℕ) (at start v i d x : ℕ) → Gathering s at start v i → i < length s → 48 ≤ getD s i 0 → getD s i 0 ≤ 57 → d + 48 ≡ getD s i 0 → x ≡ d → Gathering s at start (v * 10 + x) (i + 1)
-gather-next s at start v i d x g h a b e f =
-    let y : isDigit (getD s i 0) ≡ true = digit-yes (getD s i 0) a b in
-    record {
-      along = along-next s at i (g .along) h y;
-      is = g .is ∙ number-next s i v h y ∙ ap (λ (n : ℕ). digitsOn (v * 10 + n) (front isDigit (drop (i + 1) s))) (sym (less d x (getD s i 0) e f));
-      small = next-small v x i (g .small) (few d x (getD s i 0) e f b);
-    }
-  where
-    few : (d x b : ℕ) → d + 48 ≡ b → x ≡ d → b ≤ 57 → x < 10
-    few d x b e f h = omega arith
-
-    less : (d x b : ℕ) → d + 48 ≡ b → x ≡ d → x ≡ b - 48
-    less d x b e f = omega arith

@@ -2,24 +2,26 @@
 use mathlib.Core.Path.{_≡_, sym, ap, _∙_, subst}
 use mathlib.Core.Logic.{inl, inr}
 use mathlib.Core.List.{List}
-use mathlib.Core.Bool.{Bool, false, cond}
-use Prim.Native.Nat.{ℕ, _+_, _-_, _*_, _^_, _≤_, _<_, min}
-use native.Mathlib.Nat.{le-trans, le-of-eq, le-of-lt, lt-of-le-of-lt, lt-of-lt-of-le, eq-zero-or-pos, one-mul, mul-one, mul-assoc, mul-le-mul-right, mul-le-mul, mul-lt-mul-of-pos-right, zero-mul, zero-lt-suc}
+use mathlib.Core.Bool.{Bool, false, not, cond}
+use Prim.Native.Nat.{ℕ, _+_, _-_, _*_, _/_, _^_, _≤_, _<_, min}
+use native.Mathlib.Nat.{le-trans, le-of-eq, le-of-lt, lt-of-le-of-lt, lt-of-lt-of-le, eq-zero-or-pos, one-mul, mul-one, mul-assoc, mul-le-mul-right, mul-le-mul-left, mul-lt-mul-of-pos-right, zero-mul, zero-lt-suc, div-one, mod-one, mul-div-mul-right}
 use native.Mathlib.Omega.{arith}
-use lib.Dec.{T, eqb, lit<, lit≤, not-T, eqb→eq}
+use lib.Dec.{T, eqb, lit≤, not-T, eqb→eq}
 use lib.ListN.{length, drop}
 use lib.Pow.{pow-add, pow-pos}
 use lib.Ieee.{binary32, toBits}
 use lib.Ieee.Bits.{is-true, is-false}
 use lib.Ieee.Scale.{round-same}
 use Rattle.rules.specs.Analysis.{front}
-use Rattle.rules.specs.Numerals.{infinity, isDigit, digitsOn, nearest, Nearest}
-use Rattle.rules.proofs.numerals.Nearest.{nearest-is, is-nearest, bound-infinity, bound-zero}
-use Rattle.boost.specs.Row.{limit}
-use Rattle.boost.specs.Bisect.{most, Found}
-use Rattle.boost.specs.Digits.{shortMost, numberOf, Held, forty}
+use Rattle.rules.specs.Numerals.{infinity, isDigit, digitsOn, nearest}
+use Rattle.rules.proofs.numerals.Nearest.{nearest-is, bound-infinity, bound-zero}
+use Rattle.boost.specs.Row.{upTo, value, limit, Times, Used, Quotient}
+use Rattle.boost.specs.Top.{left, Rounded}
+use Rattle.boost.specs.Digits.{shortMost, quickMost, numberOf, Held, forty}
 use Rattle.boost.specs.Decimal.{Up, Down}
-use Rattle.boost.proofs.Tens.{ten-pos, ten-mono}
+use Rattle.boost.proofs.Divisions.{left-scale}
+use Rattle.boost.proofs.Tens.{ten-pos, ten-mono, five-pos, by-five, twos-off}
+use Rattle.boost.proofs.Rooms.{room-tens}
 use Rattle.boost.proofs.Runs.{run-few}
 
 -- ---- the number of the digits
@@ -88,46 +90,50 @@ held-some s point places v g h = go v (numberOf s point places) (g .is) h
         less : (v n : ℕ) → v ≡ min n shortMost → n ≡ 0 → v ≡ 0
         less v n e z = omega arith
 
--- ---- room in the rows
-pub room-150 : (v : ℕ) → v < forty → v * 2 ^ 150 < limit
-unfolding forty limit
-room-150 v h = lt-of-lt-of-le (mul-lt-mul-of-pos-right h (pow-pos 150)) (lit≤ tt)
+-- ---- by a row
+-- N over 10 ^ n: in half units, times 2 ^ (150 - n) and over 5 ^ n
+module _ (N n : ℕ) (xs zs : List ℕ) (len : ℕ) (b : Bool) (r : ℕ) (h : n < 86) (e : value xs ≡ N * 2 ^ (150 - n)) (q : Quotient xs zs n len b) (k : Rounded (upTo zs len) b 0 r) where
+  pub below-row : r ≡ nearest N (10 ^ n)
+  below-row = k .is N (10 ^ n) (ten-pos n) (q .is ∙ ap (λ (x : ℕ). x / 5 ^ n) e ∙ same .0) (q .rest ∙ ap (λ (x : ℕ). left x (5 ^ n)) e ∙ same .1)
+    where
+      all : (n : ℕ) → n < 86 → 150 - n + n ≡ 150
+      all n h = omega arith
 
-den-le : (v n : ℕ) → v ≡ 1 → n < 86 → v * 10 ^ n ≤ 10 ^ 85
-den-le v n e h = le-trans (le-of-eq (ap (λ (x : ℕ). x * 10 ^ n) e ∙ one-mul (10 ^ n))) (ten-mono n 85 (go n h))
+      none : (n : ℕ) → n + 0 ≡ n
+      none n = omega arith
+
+      same : (N * 2 ^ (150 - n) / 5 ^ n ≡ N * 2 ^ 150 / (10 ^ n * 2 ^ 0)) × (left (N * 2 ^ (150 - n)) (5 ^ n) ≡ left (N * 2 ^ 150) (10 ^ n * 2 ^ 0))
+      same = by-five N n 0 n (N * 2 ^ (150 - n)) (5 ^ n) (five-pos n)
+          (ap (λ (x : ℕ). N * 2 ^ x) (sym (all n h)) ∙ ap (λ (x : ℕ). N * x) (pow-add 2 (150 - n) n) ∙ sym (mul-assoc N (2 ^ (150 - n)) (2 ^ n))) (twos-off n 0 n (none n))
+
+-- N times 10 ^ n
+module _ (N n : ℕ) (xs ys : List ℕ) (len : ℕ) (e : value xs ≡ N * 0x1_0000 ^ 0) (t : Times xs ys (10 ^ n)) (u : Used ys 18 len) where
+  all-is : upTo ys len ≡ N * 10 ^ n
+  all-is = u .is ∙ t .is ∙ ap (λ (x : ℕ). x * 10 ^ n) (e ∙ mul-one N)
+
+  pub above-enough : 2 ^ 24 ≤ N * 10 ^ n → 2 ^ 24 ≤ upTo ys len
+  above-enough h = subst (λ (x : ℕ). 2 ^ 24 ≤ x) (sym all-is) h
+
+  pub above-row : (r : ℕ) → Rounded (upTo ys len) false 150 r → r ≡ nearest (N * 10 ^ n) 1
+  above-row r k = k .is (N * 10 ^ n) 1 (zero-lt-suc 0)
+      (all-is ∙ sym (mul-div-mul-right (N * 10 ^ n) 1 (pow-pos 150) ∙ div-one (N * 10 ^ n)))
+      (sym (left-scale (N * 10 ^ n) 1 (2 ^ 150) (zero-lt-suc 0) (pow-pos 150) ∙ ap (λ (x : ℕ). not (eqb x 0)) (mod-one (N * 10 ^ n))))
+
+pub above-room : (N n x : ℕ) → x ≡ N * 0x1_0000 ^ 0 → N < forty → n < 39 → x * 10 ^ n < limit
+above-room N n x e h k = lt-of-le-of-lt (le-of-eq (ap (λ (y : ℕ). y * 10 ^ n) (e ∙ mul-one N))) (room-tens N n h k)
+
+-- what is not for the short way has 25 places
+pub much-digits : (s : List ℕ) (point places v n : ℕ) → Held s point places v → quickMost ≤ v → 2 ^ 24 ≤ numberOf s point places * 10 ^ n
+much-digits s point places v n g h = le-trans (go v (numberOf s point places) (g .is) h) (le-trans (le-of-eq (sym (mul-one (numberOf s point places)))) (mul-le-mul-left (numberOf s point places) (ten-pos n)))
   where
-    go : (n : ℕ) → n < 86 → n ≤ 85
-    go n h = omega arith
+    go : (v n : ℕ) → v ≡ min n shortMost → quickMost ≤ v → 2 ^ 24 ≤ n
+    go v n e h = omega arith
 
-pub room-den : (v n : ℕ) → v ≡ 1 → n < 86 → v * 10 ^ n < limit
-unfolding limit
-room-den v n e h = lt-of-le-of-lt (den-le v n e h) (lit< tt)
-
-pub room-most : (v w n : ℕ) → w ≡ v * 10 ^ n → v ≡ 1 → n < 86 → w * most < limit
-unfolding limit most
-room-most v w n f e h = lt-of-le-of-lt (mul-le-mul-right (2 ^ 278) (le-trans (le-of-eq f) (den-le v n e h))) (lit< tt)
-
-pub room-one : (v : ℕ) → v ≡ 1 → v * most < limit
-unfolding limit most
-room-one v e = lt-of-le-of-lt (le-of-eq (ap (λ (x : ℕ). x * 2 ^ 278) e)) (lit< tt)
-
-up-to : (v n : ℕ) → v < 10 ^ 40 → n < 39 → v * 10 ^ n ≤ 10 ^ 78
-up-to v n h k = le-trans (mul-le-mul (le-of-lt h) (ten-mono n 38 (go n k))) (le-of-eq (sym (pow-add 10 40 38)))
+pub much-tens : (s : List ℕ) (point places v n : ℕ) → Held s point places v → 0 < v → 8 ≤ n → 2 ^ 24 ≤ numberOf s point places * 10 ^ n
+much-tens s point places v n g h k = le-trans (lit≤ tt) (le-trans (ten-mono 8 n k) (le-trans (le-of-eq (sym (one-mul (10 ^ n)))) (mul-le-mul-right (10 ^ n) (go v (numberOf s point places) (g .is) h))))
   where
-    go : (n : ℕ) → n < 39 → n ≤ 38
-    go n h = omega arith
-
-pub room-tens : (v n : ℕ) → v < forty → n < 39 → v * 10 ^ n < limit
-unfolding forty limit
-room-tens v n h k = lt-of-le-of-lt (up-to v n h k) (lit< tt)
-
-pub room-above : (v w n : ℕ) → w ≡ v * 10 ^ n → v < forty → n < 39 → w * 2 ^ 150 < limit
-unfolding forty limit
-room-above v w n e h k = lt-of-le-of-lt (mul-le-mul-right (2 ^ 150) (le-trans (le-of-eq e) (up-to v n h k))) (lit< tt)
-
--- ---- the answer of the search
-pub found-nearest : (x den num b r : ℕ) → Found x den r → x ≡ num * 2 ^ 150 → den ≡ b → 0 < b → r ≡ nearest num b
-found-nearest x den num b r f e g B = is-nearest num b r B (subst (λ (y : ℕ). Nearest num y r) g (f .is num e))
+    go : (v n : ℕ) → v ≡ min n shortMost → 0 < v → 1 ≤ n
+    go v n e h = omega arith
 
 pub nearest-within : (num den r : ℕ) → 0 < den → r ≡ nearest num den → r ≤ infinity
 nearest-within num den r D e = subst (λ (x : ℕ). x ≤ infinity) (sym e) (nearest-is num den D .within)

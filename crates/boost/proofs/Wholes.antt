@@ -1,4 +1,4 @@
--- What the proof of `digits_first` cites: the digits before and behind the point, and what the code holds of them. Assumes nothing.
+-- What the proof of `digits_of` cites: the digits before and behind the point, and what the code holds of them. Assumes nothing.
 use mathlib.Core.Path.{_≡_, refl, sym, ap, _∙_, subst}
 use mathlib.Core.Logic.{inl, inr}
 use mathlib.Core.List.{List, [], _∷_}
@@ -9,10 +9,11 @@ use native.Mathlib.Omega.{arith}
 use lib.ListN.{length, drop, getD}
 use Rattle.rules.specs.Bytes.{isEmpty}
 use Rattle.rules.specs.Analysis.{front, after}
-use Rattle.rules.specs.Numerals.{Numeral, bad, isDigit, digitsOn, afterDigits, afterWhole}
-use Rattle.boost.specs.Numeral.{isPoint}
+use Rattle.rules.specs.Numerals.{bad, isDigit, digitsOn, afterDigits, afterWhole}
+use Rattle.boost.specs.declared.numeral.Scale.{Scale}
+use Rattle.boost.specs.Numeral.{isPoint, byDigits, Scaling, DigitsOf}
 use Rattle.boost.specs.Digits.{shortMost, Reading, numberOf, Held}
-use Rattle.boost.proofs.Grammar.{cons-at, no-length, some-length, point-within}
+use Rattle.boost.proofs.Grammar.{scaled-as, cons-at, no-length, some-length, point-within}
 use Rattle.boost.proofs.Scales.{number-whole, number-both}
 
 digits-none : (w : ℕ) → digitsOn w [] ≡ w
@@ -29,9 +30,6 @@ whole-plain some W (c ∷ t) e = ap (λ (b : Bool). cond b (cond (some || not (i
 whole-point : (some : Bool) (W c : ℕ) (t : List ℕ) → isPoint (c ∷ t) ≡ true → afterWhole some W (c ∷ t) ≡ cond (some || not (isEmpty (front isDigit t))) (afterDigits (digitsOn W (front isDigit t)) (length (front isDigit t)) (after isDigit t)) bad
 unfolding afterWhole isPoint
 whole-point some W c t e = ap (λ (b : Bool). cond b (cond (some || not (isEmpty (front isDigit t))) (afterDigits (digitsOn W (front isDigit t)) (length (front isDigit t)) (after isDigit t)) bad) (cond some (afterDigits W 0 (c ∷ t)) bad)) e
-
-abbrev pub Case : List ℕ → Numeral
-Case s = afterWhole (not (isEmpty (front isDigit s))) (digitsOn 0 (front isDigit s)) (after isDigit s)
 
 module _ (s : List ℕ) (v point : ℕ) (g : Reading s 0 0 v point) where
   abbrev W : ℕ
@@ -60,13 +58,13 @@ module _ (s : List ℕ) (v point : ℕ) (g : Reading s 0 0 v point) where
 
   -- ---- no point
   module _ (e : isPoint (drop point s) ≡ false) where
-    plain : Case s ≡ cond some (afterDigits W 0 (drop point s)) bad
+    plain : byDigits s ≡ cond some (afterDigits W 0 (drop point s)) bad
     plain = ap (afterWhole some W) (g .rest) ∙ whole-plain some W (drop point s) e
 
-    pub plain-bad : point ≡ 0 → Case s ≡ bad
+    pub plain-bad : point ≡ 0 → byDigits s ≡ bad
     plain-bad z = plain ∙ ap (λ (b : Bool). cond b (afterDigits W 0 (drop point s)) bad) (no-whole z)
 
-    pub plain-good : (point ≡ 0 → ⊥) → Case s ≡ afterDigits (numberOf s point 0) 0 (drop point s)
+    pub plain-good : (point ≡ 0 → ⊥) → byDigits s ≡ afterDigits (numberOf s point 0) 0 (drop point s)
     plain-good n =
         plain ∙ ap (λ (b : Bool). cond b (afterDigits W 0 (drop point s)) bad) (whole n)
         ∙ ap (λ (x : ℕ). afterDigits x 0 (drop point s)) (sym (number-whole s point 0 refl))
@@ -97,13 +95,13 @@ module _ (s : List ℕ) (v point : ℕ) (g : Reading s 0 0 v point) where
     ended : end ≡ point + 1 + length F
     ended = h .stops
 
-    pointed : Case s ≡ cond (some || not (isEmpty F)) (afterDigits (digitsOn W F) (length F) (drop end s)) bad
+    pointed : byDigits s ≡ cond (some || not (isEmpty F)) (afterDigits (digitsOn W F) (length F) (drop end s)) bad
     pointed =
         ap (afterWhole some W) (g .rest ∙ cons-at s point within)
         ∙ whole-point some W (getD s point 0) (drop (point + 1) s) (sym (ap isPoint (cons-at s point within)) ∙ e)
         ∙ ap (λ (l : List ℕ). cond (some || not (isEmpty F)) (afterDigits (digitsOn W F) (length F) l) bad) (h .rest)
 
-    pub point-bad : end ≡ 1 → Case s ≡ bad
+    pub point-bad : end ≡ 1 → byDigits s ≡ bad
     point-bad z =
         pointed
         ∙ ap (λ (b : Bool). cond (b || not (isEmpty F)) (afterDigits (digitsOn W F) (length F) (drop end s)) bad) (no-whole (first point (length F) end ended z))
@@ -127,7 +125,7 @@ module _ (s : List ℕ) (v point : ℕ) (g : Reading s 0 0 v point) where
       | inr p ↦ number-both s point (end - point - 1) (subst (λ (n : ℕ). 0 < n) (sym places-are) p)
     ]
 
-    pub point-good : (end ≡ 1 → ⊥) → Case s ≡ afterDigits (numberOf s point (end - point - 1)) (end - point - 1) (drop end s)
+    pub point-good : (end ≡ 1 → ⊥) → byDigits s ≡ afterDigits (numberOf s point (end - point - 1)) (end - point - 1) (drop end s)
     point-good n =
         pointed
         ∙ ap (λ (b : Bool). cond b (afterDigits (digitsOn W F) (length F) (drop end s)) bad) some-digit
@@ -161,3 +159,12 @@ module _ (s : List ℕ) (v point : ℕ) (g : Reading s 0 0 v point) where
 
         room : (p n k end l : ℕ) → end ≡ p + 1 + n → k ≡ n → end ≤ l → p + k < l
         room p n k end l a b c = omega arith
+
+-- ---- what follows the digits, of all that the text holds
+pub scaled-by : (s : List ℕ) (point places v end : ℕ) (x y : Scale) → DigitsOf s point places v end → ((d f : ℕ) → Scaling x d f (afterDigits d f (drop end s))) → (point + places ≡ 0 → ⊥) → x ≡ y → Scaling y (numberOf s point places) places (byDigits s)
+scaled-by s point places v end x y g h n e =
+    subst (λ (z : Scale). Scaling z (numberOf s point places) places (byDigits s)) e
+    (scaled-as x (numberOf s point places) places (byDigits s) (afterDigits (numberOf s point places) places (drop end s)) (g .some (some-of (point + places) n)) (h (numberOf s point places) places))
+  where
+    some-of : (k : ℕ) → (k ≡ 0 → ⊥) → 0 < k
+    some-of k n = omega arith

@@ -10,29 +10,24 @@ use lib.Seq.{take-all}
 use lib.Dec.{leb, eqb, le→leb, lit<}
 use lib.Arith.{lt→nleb}
 use lib.Ieee.Bits.{is-true, is-false}
-use Rattle.rules.specs.Numbers.{faulty, longNumeral, need}
+use Rattle.rules.specs.Numbers.{Read, got, refused, number, faulty, longNumeral, need}
+use Rattle.rules.specs.Reading.{numberOf as refusalOf}
 use Rattle.rules.specs.Bytes.{ascii, same, isEmpty}
 use Rattle.rules.specs.Analysis.{lower, lowercase, front, after}
-use Rattle.rules.specs.Numerals.{bad, infinite, notNumber, infinity, isDigit, digitsOn, isMinus, afterSign, afterDigits, afterWhole, unsigned, signed, bitsOf, numeralBits}
+use Rattle.rules.specs.Numerals.{Numeral, decimal, bad, infinite, notNumber, infinity, isDigit, digitsOn, isMinus, afterSign, afterDigits, afterWhole, unsigned, signed, bitsOf, numeralBits}
 use Rattle.boost.specs.declared.numeral.Answer.{Answer}
 use Rattle.boost.specs.declared.numeral.Answer.the-variants.{Refused, Bits}
-use Rattle.boost.specs.Numeral.{answerOf}
+use Rattle.boost.specs.Numeral.{answerOf, byDigits}
 use Rattle.boost.proofs.Runs.{digit-high}
-use Rattle.boost.proofs.Grammar.{eq-yes, eq-no, carry, refuses, cons-at, Sign}
-use Rattle.boost.proofs.Wholes.{Case}
+use Rattle.boost.proofs.Tests.{eq-yes, eq-no}
+use Rattle.boost.proofs.Grammar.{carry, refuses, cons-at}
 
--- ---- `small_letter`
+-- ---- one byte
 by-two : (b : ℕ) (x y : Bool) → leb 65 b ≡ x → leb b 90 ≡ y → lower b ≡ cond (x && y) (b + 32) b
 by-two b x y p q = ap (λ (z : Bool). cond (z && leb b 90) (b + 32) b) p ∙ ap (λ (z : Bool). cond (x && z) (b + 32) b) q
 
 pub lower-low : (b : ℕ) → b < 65 → b ≡ lower b
 lower-low b h = sym (by-two b false (leb b 90) (is-false (leb 65 b) (lt→nleb 65 b h)) refl)
-
-pub lower-high : (b : ℕ) → 65 ≤ b → 90 < b → b ≡ lower b
-lower-high b g h = sym (by-two b true false (is-true (leb 65 b) (le→leb 65 b g)) (is-false (leb b 90) (lt→nleb b 90 h)))
-
-pub lower-mid : (b : ℕ) → 65 ≤ b → b ≤ 90 → b + 32 ≡ lower b
-lower-mid b g h = sym (by-two b true true (is-true (leb 65 b) (le→leb 65 b g)) (is-true (leb b 90) (le→leb b 90 h)))
 
 -- ---- `is_word`
 same-length : (l w : List ℕ) → (length l ≡ length w → ⊥) → same (lowercase l) w ≡ false
@@ -102,12 +97,12 @@ w-infinity = 105 ∷ 110 ∷ 102 ∷ 105 ∷ 110 ∷ 105 ∷ 116 ∷ 121 ∷ []
 abbrev pub w-nan : List ℕ
 w-nan = 110 ∷ 97 ∷ 110 ∷ []
 
-by-words : (s : List ℕ) (x y z : Bool) → same (lowercase s) w-inf ≡ x → same (lowercase s) w-infinity ≡ y → same (lowercase s) w-nan ≡ z → unsigned s ≡ cond (x || y) infinite (cond z notNumber (Case s))
+by-words : (s : List ℕ) (x y z : Bool) → same (lowercase s) w-inf ≡ x → same (lowercase s) w-infinity ≡ y → same (lowercase s) w-nan ≡ z → unsigned s ≡ cond (x || y) infinite (cond z notNumber (byDigits s))
 unfolding unsigned ascii
 by-words s x y z p q r =
-    ap (λ (b : Bool). cond (b || same (lowercase s) w-infinity) infinite (cond (same (lowercase s) w-nan) notNumber (Case s))) p
-    ∙ ap (λ (b : Bool). cond (x || b) infinite (cond (same (lowercase s) w-nan) notNumber (Case s))) q
-    ∙ ap (λ (b : Bool). cond (x || y) infinite (cond b notNumber (Case s))) r
+    ap (λ (b : Bool). cond (b || same (lowercase s) w-infinity) infinite (cond (same (lowercase s) w-nan) notNumber (byDigits s))) p
+    ∙ ap (λ (b : Bool). cond (x || b) infinite (cond (same (lowercase s) w-nan) notNumber (byDigits s))) q
+    ∙ ap (λ (b : Bool). cond (x || y) infinite (cond b notNumber (byDigits s))) r
 
 pub word-inf : (m : Bool) (s : List ℕ) (r : Answer) → true ≡ same (lowercase s) w-inf → r ≡ Bits (signed m infinity) → r ≡ answerOf (bitsOf m (unsigned s))
 word-inf m s r e w = carry m (unsigned s) infinite r (by-words s true (same (lowercase s) w-infinity) (same (lowercase s) w-nan) (sym e) refl refl) w
@@ -119,7 +114,7 @@ pub word-nan : (m : Bool) (s : List ℕ) → false ≡ same (lowercase s) w-inf 
 word-nan m s e f g = carry m (unsigned s) notNumber (Bits 0x7fc0_0000) (by-words s false false true (sym e) (sym f) (sym g)) refl
 
 -- a text that begins with neither digit nor point is no number
-case-bad : (c : ℕ) (s : List ℕ) → 57 < c → Case (c ∷ s) ≡ bad
+case-bad : (c : ℕ) (s : List ℕ) → 57 < c → byDigits (c ∷ s) ≡ bad
 unfolding front after afterWhole
 case-bad c s h =
     ap (λ (b : Bool). afterWhole (not (isEmpty (cond b (c ∷ front isDigit s) []))) (digitsOn 0 (cond b (c ∷ front isDigit s) [])) (cond b (after isDigit s) (c ∷ s))) (digit-high c h)
@@ -142,7 +137,7 @@ no-word c b s w h k = same-cons c b s w false (eq-no (lower c) b (λ e. no c b (
     no : (c b : ℕ) → c ≡ b → c ≤ 57 → 57 < b → ⊥
     no c b e h k = omega arith
 
-pub digit-first : (s : List ℕ) → 0 < length s → getD s 0 0 ≤ 57 → unsigned s ≡ Case s
+pub digit-first : (s : List ℕ) → 0 < length s → getD s 0 0 ≤ 57 → unsigned s ≡ byDigits s
 digit-first [] h k = let z : ⊥ = omega arith in absurd z
 digit-first (c ∷ s) h k =
     by-words (c ∷ s) false false false
@@ -154,6 +149,21 @@ pub nothing : (m : Bool) (s : List ℕ) → length s ≤ 0 → Refused 13 ≡ an
 unfolding unsigned front after afterWhole same ascii
 nothing m s h = refuses m (unsigned s) (ap unsigned (drop-of-length-le s h))
 
+-- ---- the number of a refusal, from the answer
+pub number-of-refused : (o : Read ℕ) (e : ℕ) → Refused e ≡ answerOf o → e ≡ refusalOf o
+number-of-refused (refused x) e h = cc
+number-of-refused (got b) e h = absurd (never e b h)
+  where
+    never : (e b : ℕ) → Refused e ≡ Bits b → ⊥
+    never e b h = let z : _≡_ {A = ℕ} 0 1 = cc in omega arith
+
+pub number-of-bits : (o : Read ℕ) (b : ℕ) → Bits b ≡ answerOf o → 0 ≡ refusalOf o
+number-of-bits (refused x) b h = absurd (never b (number x) h)
+  where
+    never : (b e : ℕ) → Bits b ≡ Refused e → ⊥
+    never b e h = let z : _≡_ {A = ℕ} 0 1 = cc in omega arith
+number-of-bits (got c) b h = refl
+
 -- ---- the whole text
 module _ (s : List ℕ) where
   pub fits : length s ≤ 40 → numeralBits s ≡ bitsOf (isMinus s) (unsigned (afterSign s))
@@ -164,24 +174,49 @@ module _ (s : List ℕ) where
   unfolding numeralBits
   too-long h = sym (ap (λ (b : Bool). answerOf (need b (faulty longNumeral 0) (bitsOf (isMinus s) (unsigned (afterSign s))))) (is-false (leb (length s) 40) (lt→nleb (length s) 40 h)))
 
-  pub by-sign : (m : Bool) (rest : List ℕ) (r : Answer) → length s ≤ 40 → Sign s m rest → r ≡ answerOf (bitsOf m (unsigned rest)) → r ≡ answerOf (numeralBits s)
-  by-sign m rest r h g w =
-      w ∙ sym (ap answerOf (fits h) ∙ ap (λ (b : Bool). answerOf (bitsOf b (unsigned (afterSign s)))) (g .minus) ∙ ap (λ (l : List ℕ). answerOf (bitsOf m (unsigned l))) (g .left))
+  -- by what stands behind the sign
+  module _ (m : Bool) (k : ℕ) (h : length s ≤ 40) (e : m ≡ isMinus s) (f : drop k s ≡ afterSign s) where
+    parts : bitsOf m (unsigned (take (length s - k) (drop k s))) ≡ numeralBits s
+    parts = ap (λ (l : List ℕ). bitsOf m (unsigned l)) (take-all (length s - k) (drop k s) (le-of-eq (length-drop k s)) ∙ f) ∙ ap (λ (b : Bool). bitsOf b (unsigned (afterSign s))) e ∙ sym (fits h)
 
-  pub empty : length s ≡ 0 → Refused 13 ≡ answerOf (numeralBits s)
-  empty e =
-      nothing false [] (zero-le 0)
-      ∙ sym (ap answerOf (fits (le (length s) e)) ∙ ap (λ (l : List ℕ). answerOf (bitsOf (isMinus l) (unsigned (afterSign l)))) (drop-of-length-le s (none (length s) e)))
-    where
-      le : (n : ℕ) → n ≡ 0 → n ≤ 40
-      le n e = omega arith
+    pub by-sign : (r : Answer) → r ≡ answerOf (bitsOf m (unsigned (take (length s - k) (drop k s)))) → r ≡ answerOf (numeralBits s)
+    by-sign r w = w ∙ ap answerOf parts
 
-      none : (n : ℕ) → n ≡ 0 → n ≤ 0
-      none n e = omega arith
+    pub fault-by-sign : (r : ℕ) → r ≡ refusalOf (bitsOf m (unsigned (take (length s - k) (drop k s)))) → r ≡ refusalOf (numeralBits s)
+    fault-by-sign r w = w ∙ ap (λ (o : Read ℕ). refusalOf o) parts
 
-      zero-le : (n : ℕ) → 0 ≤ n
-      zero-le n = omega arith
+  pub too-long-fault : 40 < length s → 17 ≡ refusalOf (numeralBits s)
+  unfolding numeralBits
+  too-long-fault h = sym (ap (λ (b : Bool). refusalOf (need b longNumeral (bitsOf (isMinus s) (unsigned (afterSign s))))) (is-false (leb (length s) 40) (lt→nleb (length s) 40 h)))
 
-  -- what is lent after the sign
-  pub lent : (m : Bool) → Sign s m (drop 1 s) → Sign s m (take (length s - 1) (drop 1 s))
-  lent m g = record { minus = g .minus; left = g .left ∙ sym (take-all (length s - 1) (drop 1 s) (le-of-eq (length-drop 1 s))) }
+-- ---- a refusal asks for no sign
+any-sign : (m n : Bool) (o : Numeral) → refusalOf (bitsOf m o) ≡ refusalOf (bitsOf n o)
+any-sign m n bad = refl
+any-sign m n infinite = refl
+any-sign m n notNumber = refl
+any-sign m n (decimal d u f) = refl
+
+pub word-refused : (m : Bool) (o : Numeral) (e : ℕ) → Refused e ≡ answerOf (bitsOf false o) → e ≡ refusalOf (bitsOf m o)
+word-refused m o e h = number-of-refused (bitsOf false o) e h ∙ any-sign false m o
+
+pub word-taken : (m : Bool) (o : Numeral) (b : ℕ) → Bits b ≡ answerOf (bitsOf false o) → 0 ≡ refusalOf (bitsOf m o)
+word-taken m o b h = number-of-bits (bitsOf false o) b h ∙ any-sign false m o
+
+pub digits-refusal : (m : Bool) (s : List ℕ) (r : ℕ) → 0 < length s → getD s 0 0 ≤ 57 → r ≡ refusalOf (bitsOf m (byDigits s)) → r ≡ refusalOf (bitsOf m (unsigned s))
+digits-refusal m s r h k e = e ∙ ap (λ (n : Numeral). refusalOf (bitsOf m n)) (sym (digit-first s h k))
+
+pub nothing-fault : (m : Bool) (s : List ℕ) → length s ≤ 0 → 13 ≡ refusalOf (bitsOf m (unsigned s))
+nothing-fault m s h = number-of-refused (bitsOf m (unsigned s)) 13 (nothing m s h)
+
+-- ---- a sign
+pub minus-byte : (s : List ℕ) → 0 < length s → eqb (getD s 0 0) 45 ≡ isMinus s
+minus-byte [] h = absurd (omega arith)
+minus-byte (c ∷ s) h = refl
+
+pub minus-none : (s : List ℕ) → length s ≤ 0 → false ≡ isMinus s
+minus-none [] h = refl
+minus-none (c ∷ s) h = absurd (omega arith)
+
+pub after-none : (s : List ℕ) → length s ≤ 0 → drop 0 s ≡ afterSign s
+after-none [] h = refl
+after-none (c ∷ s) h = absurd (omega arith)

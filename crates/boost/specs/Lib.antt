@@ -1,5 +1,5 @@
 pub mod Row
-pub mod Bisect
+pub mod Top
 pub mod Digits
 pub mod Decimal
 pub mod Numeral

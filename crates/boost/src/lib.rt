@@ -1,8 +1,9 @@
 // Boost numerals: from a text to the bits of the nearest 32-bit float.
-mod bisect;
 mod decimal;
 mod digits;
 pub mod numeral;
+mod powers;
 mod quick;
 mod row;
+mod top;
 mod wide;

@@ -5,25 +5,24 @@ ghost use Prim.Native.Nat.{_*_, _^_, _<_};
 ghost use lib.IntN.{pos};
 ghost use lib.Ieee.{binary32, ofInt};
 ghost use Rattle.rules.specs.Numerals.{nearest};
-ghost use Rattle.boost.specs.Digits.{shortMost};
+ghost use Rattle.boost.specs.Digits.{quickMost};
 
-// Its own short table: a table is laid out anew at every call, and most numerals come this way.
 pub const POWERS: u32 = 8;
 
-const TENS: [u32; 8] = [1, 10, 100, 1000, 10000, 100000, 1000000, 10000000];
+pub const QUICK_MOST: u64 = 0x100_0000;
 
 // 10^n, which is a float exactly.
 fn ten(n: u32) -> f32
     requires { ⌜ n < 8 ⌝ }
     ensures { λ r. ⌜ r ≡ ofInt binary32 (pos (10 ^ n)) ⌝ }
 {
-    let k = n as usize;
-    TENS[k] as f32
+    let t = crate::powers::ten(n) as u32;
+    t as f32
 }
 
 // The pattern nearest to d / 10^n.
 pub fn quotient(d: u32, n: u32) -> u32
-    requires { ⌜ d < shortMost ⌝ }
+    requires { ⌜ d < quickMost ⌝ }
     requires { ⌜ n < 8 ⌝ }
     ensures { λ r. ⌜ r ≡ nearest d (10 ^ n) ⌝ }
 {
@@ -33,7 +32,7 @@ pub fn quotient(d: u32, n: u32) -> u32
 
 // The pattern nearest to d * 10^n.
 pub fn multiple(d: u32, n: u32) -> u32
-    requires { ⌜ d < shortMost ⌝ }
+    requires { ⌜ d < quickMost ⌝ }
     requires { ⌜ n < 8 ⌝ }
     ensures { λ r. ⌜ r ≡ nearest (d * 10 ^ n) 1 ⌝ }
 {

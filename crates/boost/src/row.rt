@@ -1,115 +1,132 @@
-// Large whole numbers as rows of 18 limbs of 32 bits, lowest first: for numerals too long for the short way.
-// 576 bits hold 40 digits times 10^38 in half units, and the largest middle between two patterns times 10^85.
+// Large whole numbers as a row of 18 words of 16 bits, lowest first: for numerals too long for the short ways.
+// So many words are just what 40 bytes of numeral can need. 40 digits make a number below 10^40, of 133 bits. It is taken in half units, times 2^150,
+// less a power of two where it is to be divided: 283 bits, and 18 words have 288. 17 words, of 272 bits, do not hold 40 nines in half units.
+// Times 10^38, the most that a row is multiplied by, 40 digits have 260 bits (proofs/Rooms.antt: `eighteen`, `not-seventeen`, `room-tens`).
 ghost use mathlib.Core.Path.{_≡_};
-ghost use Prim.Native.Nat.{_+_, _*_, _%_, _^_, _<_};
-ghost use Rattle.boost.specs.Row.{value, limit, Row, Scaled, Ordered, ByLimb, Times};
+ghost use Prim.Native.Nat.{_+_, _*_, _%_, _^_, _<_, _≤_};
+ghost use Rattle.boost.specs.Row.{upTo, value, limit, Row, Scaled, Divided, Used, Quotient, Times};
+use crate::powers::ALL_FIVES;
+use crate::powers::FIVES_MOST;
+use crate::powers::TENS_MOST;
 
-pub const LIMBS: usize = 18;
+pub const WORDS: usize = 18;
 
-pub type Limbs = [u32; LIMBS];
+pub type Words = [u16; WORDS];
 
-// What a limb counts up to.
-const BASE: u64 = 0x1_0000_0000;
+// What a word counts up to.
+pub const BASE: u64 = 0x1_0000;
 
-// The row times m, plus `add`. What goes over the row's end is returned.
-pub fn scale(row: &mut Limbs, m: u32, add: u32) -> u32
-    requires { ⌜ Row (now row) ⌝ }
-    ensures { λ r. ⌜ Scaled (now (row .entry)) (now (row .exit)) m add r ⌝ }
-{
-    let mut carry = add as u64;
-    let mut i = 0;
-    while i < LIMBS {
-        let t = wide(row[i]) * wide(m) + carry;
-        row[i] = low(t);
-        carry = t / BASE;
-        i += 1;
-    }
-    low(carry)
-}
-
-pub fn wide(x: u32) -> u64
+pub fn wide(x: u16) -> u64
     ensures { λ r. ⌜ r ≡ x ⌝ }
-    ensures { λ r. ⌜ r < 2 ^ 32 ⌝ }
+    ensures { λ r. ⌜ r < 0x1_0000 ⌝ }
 {
     x as u64
 }
 
-fn low(x: u64) -> u32
-    ensures { λ r. ⌜ r ≡ x % 2 ^ 32 ⌝ }
+fn low(x: u64) -> u16
+    ensures { λ r. ⌜ r ≡ x % 0x1_0000 ⌝ }
 {
-    (x % BASE) as u32
+    (x % BASE) as u16
 }
 
-// 0 where a is below b, 1 where they are equal, 2 where a is above b.
-pub fn order(a: &Limbs, b: &Limbs) -> u8
-    requires { ⌜ Row (now a) ⌝ }
-    requires { ⌜ Row (now b) ⌝ }
-    ensures { λ r. ⌜ Ordered (now (a .entry)) (now (b .entry)) r ⌝ }
+// The row times m, plus `add` at the word `from`, below which there is nothing.
+pub fn scale(row: &mut Words, from: usize, m: u64, add: u64)
+    requires { ⌜ Row (now row) ⌝ }
+    requires { ⌜ from ≤ 18 ⌝ }
+    requires { ⌜ upTo (now row) from ≡ 0 ⌝ }
+    requires { ⌜ (m ≤ 2 ^ 47) × (add < m) ⌝ }
+    requires { ⌜ value (now row) * m + add * 0x1_0000 ^ from < limit ⌝ }
+    ensures { λ _. ⌜ Scaled (now (row .entry)) (now (row .exit)) from m add ⌝ }
 {
-    let mut o = 1u8;
-    let mut i = 0;
-    while i < LIMBS {
-        o = by_limb(o, a[i], b[i]);
+    let mut carry = add;
+    let mut i = from;
+    while i < WORDS {
+        let t = wide(row[i]) * m + carry;
+        row[i] = low(t);
+        carry = t / BASE;
         i += 1;
     }
-    o
 }
 
-// o is the order of what lies below: x and y decide where they differ.
-fn by_limb(o: u8, x: u32, y: u32) -> u8
-    ensures { λ r. ⌜ ByLimb o x y r ⌝ }
-{
-    if x < y {
-        return 0;
-    }
-    if y < x {
-        return 2;
-    }
-    o
-}
-
-// The row times m, where that fits.
-pub fn times(row: &mut Limbs, m: u32)
+// The row's first `len` words over f: the rest is returned.
+fn divide(row: &mut Words, len: usize, f: u64) -> u64
     requires { ⌜ Row (now row) ⌝ }
-    requires { ⌜ value (now row) * m < limit ⌝ }
-    ensures { λ _. ⌜ Times (now (row .entry)) (now (row .exit)) m ⌝ }
+    requires { ⌜ len ≤ 18 ⌝ }
+    requires { ⌜ (0 < f) × (f ≤ 2 ^ 47) ⌝ }
+    ensures { λ r. ⌜ Divided (now (row .entry)) (now (row .exit)) len f r ⌝ }
 {
-    let over = scale(row, m, 0);
-}
-
-// The row times 2^k, where that fits.
-pub fn raise(row: &mut Limbs, k: u32)
-    requires { ⌜ Row (now row) ⌝ }
-    requires { ⌜ value (now row) * 2 ^ k < limit ⌝ }
-    ensures { λ _. ⌜ Times (now (row .entry)) (now (row .exit)) (2 ^ k) ⌝ }
-{
-    let mut j = k;
-    while 31 <= j {
-        times(row, 0x8000_0000);
-        j -= 31;
+    let mut rest = 0u64;
+    let mut i = len;
+    while 0 < i {
+        i -= 1;
+        let t = rest * BASE + wide(row[i]);
+        row[i] = low(t / f);
+        rest = t % f;
     }
-    times(row, 1u32 << j);
+    rest
 }
 
-// The row times 10^k, where that fits.
-pub fn tens(row: &mut Limbs, k: u32)
+// How many of the first `len` words are used: those above are 0.
+pub fn used(row: &Words, len: usize) -> usize
     requires { ⌜ Row (now row) ⌝ }
-    requires { ⌜ value (now row) * 10 ^ k < limit ⌝ }
-    ensures { λ _. ⌜ Times (now (row .entry)) (now (row .exit)) (10 ^ k) ⌝ }
+    requires { ⌜ len ≤ 18 ⌝ }
+    ensures { λ r. ⌜ Used (now (row .entry)) len r ⌝ }
 {
-    let mut j = k;
+    let mut i = len;
+    while 0 < i {
+        if row[i - 1] != 0 {
+            return i;
+        }
+        i -= 1;
+    }
+    0
+}
+
+// At most as many tens as there is a power of.
+fn some_tens(n: u32) -> u32
+    ensures { λ r. ⌜ (r ≤ n) × (r ≤ 14) × (0 < n → 0 < r) ⌝ }
+{
+    if n < TENS_MOST { n } else { TENS_MOST }
+}
+
+// The row times 10^n, where that fits.
+pub fn tens(row: &mut Words, n: u32)
+    requires { ⌜ Row (now row) ⌝ }
+    requires { ⌜ value (now row) * 10 ^ n < limit ⌝ }
+    ensures { λ _. ⌜ Times (now (row .entry)) (now (row .exit)) (10 ^ n) ⌝ }
+{
+    let mut j = n;
     while 0 < j {
-        times(row, 10);
-        j -= 1;
+        let c = some_tens(j);
+        scale(row, 0, crate::powers::ten(c), 0);
+        j -= c;
     }
 }
 
-// The row of 1.
-pub fn one() -> Limbs
-    ensures { λ r. ⌜ Row r ⌝ }
-    ensures { λ r. ⌜ value r ≡ 1 ⌝ }
+// A quotient: how many words it has, and whether anything was left over.
+pub struct Whole {
+    pub len: usize,
+    pub left: bool,
+}
+
+// The row over 5^n, by short divisions one after the other.
+pub fn fives(row: &mut Words, n: u32) -> Whole
+    requires { ⌜ Row (now row) ⌝ }
+    ensures { λ r. ⌜ Quotient (now (row .entry)) (now (row .exit)) n (r .len) (r .left) ⌝ }
 {
-    let mut r = [0u32; LIMBS];
-    r[0] = 1;
-    r
+    let mut len = used(row, WORDS);
+    let mut left = false;
+    let mut j = n;
+    while FIVES_MOST <= j {
+        let rest = divide(row, len, ALL_FIVES);
+        left = crate::top::with_rest(left, rest);
+        len = used(row, len);
+        j -= FIVES_MOST;
+    }
+    let rest = divide(row, len, crate::powers::five(j));
+    let all = used(row, len);
+    Whole {
+        len: all,
+        left: crate::top::with_rest(left, rest),
+    }
 }

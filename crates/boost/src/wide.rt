@@ -1,71 +1,26 @@
-// The middle way, for up to 18 digits over a power of ten below 10^12: one division of 64-bit whole numbers, rounded once. leading_zeros brings the
-// number to 63 bits, so that the quotient has more than the 24 bits of a significand.
+// The middle way, for a number below 2^56 over a power of ten below 10^17: one division of 64-bit whole numbers, rounded once. leading_zeros brings the
+// number to 63 places, so that the quotient has more than the 24 places of a significand. Ten is twice five: the twos only move the point.
 ghost use mathlib.Core.Path.{_≡_};
-ghost use Prim.Native.Nat.{_*_, _^_, _<_};
-ghost use lib.Ieee.Nearest.{closest};
+ghost use Prim.Native.Nat.{_^_, _<_};
 ghost use Rattle.rules.specs.Numerals.{nearest};
-use names::EXPONENT_STEP;
 
-// Powers of ten below 10^12, and fewer than 18 digits.
-pub const POWERS: u32 = 12;
+pub const POWERS: u32 = 17;
 
-pub const DIGITS: usize = 18;
-
-const TENS: [u64; 12] = [
-    1,
-    10,
-    100,
-    1000,
-    10000,
-    100000,
-    1000000,
-    10000000,
-    100000000,
-    1000000000,
-    10000000000,
-    100000000000,
-];
-
-fn ten(n: u32) -> u64
-    requires { ⌜ n < 12 ⌝ }
-    ensures { λ r. ⌜ r ≡ 10 ^ n ⌝ }
-{
-    let k = n as usize;
-    TENS[k]
-}
-
-// n / u to the nearest whole number, a tie to the even one.
-fn rounded(n: u64, u: u64) -> u64
-    requires { ⌜ 0 < u ⌝ }
-    requires { ⌜ n < 2 ^ 63 ⌝ }
-    requires { ⌜ u < 2 ^ 63 ⌝ }
-    ensures { λ r. ⌜ r ≡ closest n u ⌝ }
-{
-    let q = n / u;
-    let r = n % u * 2;
-    if r < u {
-        return q;
-    }
-    if u < r {
-        return q + 1;
-    }
-    q + q % 2
-}
+// The half units in 1 are 2^150, and one place of 64 stays free.
+const FREE_PLACES: u32 = 151;
 
 // The pattern nearest to d / 10^n.
 pub fn quotient(d: u64, n: u32) -> u32
     requires { ⌜ d < 2 ^ 60 ⌝ }
-    requires { ⌜ n < 12 ⌝ }
+    requires { ⌜ n < 17 ⌝ }
     ensures { λ r. ⌜ r ≡ nearest d (10 ^ n) ⌝ }
 {
     if d == 0 {
         return 0;
     }
-    let t = ten(n);
+    let t = crate::powers::five(n);
     let z = u64::leading_zeros(d);
     let m = d << (z - 1);
-    let w = m / t;
-    let y = u64::leading_zeros(w);
-    let q = rounded(m, t << (40 - y));
-    (190 - z - y) * EXPONENT_STEP + (q as u32)
+    let below = crate::top::with_rest(false, m % t);
+    crate::top::rounded(m / t, below, FREE_PLACES - z - n)
 }

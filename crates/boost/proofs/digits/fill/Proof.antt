@@ -1,46 +1,52 @@
 -- `boost::digits::fill` meets its contract. Assumes nothing.
-use Rattle.boost.proofs.Runs.{digit-low, digit-high, stop-byte, stop-end, Filling, fill-first, fill-next, filled}
-use lib.ListN.{length, getD}
+use lib.Dec.{lit≤}
 use Prim.Native.Nat.{_-_}
+use lib.ListN.{length}
+use Rattle.boost.proofs.Runs.{Filling, fill-first, fill-room, fill-next, filled, taken-later}
+use native.Mathlib.Nat.{le-trans}
 use native.Mathlib.Omega.{arith}
+use borrow.Author.Needs.{needs}
 use Rattle.boost.proofs.digits.fill.Statement.{statement}
 use Rattle.boost.proofs.digits.fill.Tie as tie
 
 abbrev Inv-loop : tie.InvT-loop
-Inv-loop row₀ s at i₀ row i = Filling s at row₀ row i
+Inv-loop row₀ from s at i₀ row i = Filling s at from row₀ row i
 
 abbrev μ-loop : tie.MeasureT-loop
-μ-loop row₀ s at i₀ row i = length s - i
+μ-loop row₀ from s at i₀ row i = length s - i
 
 loop-holds : tie.Need-loop-holds Inv-loop μ-loop
-loop-holds c = fill-first (c .before .args .s .now) (c .before .args .at) (c .before .args .row .now) (c .before .pre .0) (c .before .pre .1 .0) (c .before .pre .1 .1 .1)
+loop-holds c = fill-first (c .before .args .s .now) (c .before .args .at) (c .before .args .from) (c .before .args .row .now) (c .before .pre .0 .0) (c .before .pre .1 .0)
 
-shared-slice-read-b : tie.Need-shared-slice-read-b Inv-loop μ-loop
-shared-slice-read-b c = omega arith
+is-digit-at-requires : tie.Need-is-digit-at-requires Inv-loop μ-loop
+is-digit-at-requires c κs = search needs
 
-returns : tie.Need-returns Inv-loop μ-loop
-returns c = filled (c .before .before .before .before .before .args .s .now) (c .before .before .before .before .before .args .at) (c .before .before .before .before .before .args .row .now) (c .before .before .before .loop .row) (c .before .before .before .loop .i) (c .before .before .before .loop .inv) (stop-byte (c .before .before .before .before .before .args .s .now) (c .before .before .before .loop .i) (c .before .before .loop-test .taken) (digit-low (getD (c .before .before .before .before .before .args .s .now) (c .before .before .before .loop .i) 0) (c .if1 .taken)))
-
-returns-2 : tie.Need-returns-2 Inv-loop μ-loop
-returns-2 c = filled (c .before .before .before .before .before .before .args .s .now) (c .before .before .before .before .before .before .args .at) (c .before .before .before .before .before .before .args .row .now) (c .before .before .before .before .loop .row) (c .before .before .before .before .loop .i) (c .before .before .before .before .loop .inv) (stop-byte (c .before .before .before .before .before .before .args .s .now) (c .before .before .before .before .loop .i) (c .before .before .before .loop-test .taken) (digit-high (getD (c .before .before .before .before .before .before .args .s .now) (c .before .before .before .before .loop .i) 0) (c .if2 .taken)))
-
-digit-requires : tie.Need-digit-requires Inv-loop μ-loop
-digit-requires c κs = c .before .before .if1 .left
+take-requires : tie.Need-take-requires Inv-loop μ-loop
+take-requires c κs = c .before .before .loop .inv .along .within
 
 scale-requires : tie.Need-scale-requires Inv-loop μ-loop
-scale-requires c κs = c .before .before .before .before .before .before .loop .inv .row
-
-add-i : tie.Need-add-i Inv-loop μ-loop
-add-i c = omega arith
+scale-requires c κs = (
+  c .before .before .before .before .loop .inv .holds .row,
+  (
+    omega (arith, c .before .before .before .before .before .before .pre .0 .1),
+    (
+      c .before .before .before .before .loop .inv .holds .none,
+      (
+        (le-trans (c .before .take .ensures .few) (lit≤ tt), c .before .take .ensures .small),
+        fill-room (c .before .before .before .before .before .before .args .s .now) (c .before .before .before .before .before .before .args .at) (c .before .before .before .before .before .before .args .from) (c .before .before .before .before .before .before .args .row .now) (c .before .before .before .before .loop .row) (c .before .before .before .before .loop .i) (c .before .take .result .value) (c .before .take .result .power) (c .before .take .result .end) (c .before .before .before .before .loop .inv) (c .before .take .ensures) (c .before .before .before .before .before .before .pre .1 .1) (c .before .before .before .before .before .before .pre .0 .1),
+      ),
+    ),
+  ),
+)
 
 loop-less : tie.Need-loop-less Inv-loop μ-loop
-loop-less c = omega arith
+loop-less c = let l = taken-later (c .before .before .before .before .before .before .before .args .s .now) (c .before .before .before .before .before .loop .i) (c .before .before .take .result .value) (c .before .before .take .result .power) (c .before .before .take .result .end) (c .before .before .take .ensures) (c .before .before .before .before .is-digit-at .ensures .yes (c .before .before .before .if1 .taken)) in omega (arith, c .before .before .take .ensures .along .within)
 
 loop-again : tie.Need-loop-again Inv-loop μ-loop
-loop-again c = fill-next (c .before .before .before .before .before .before .before .before .before .args .s .now) (c .before .before .before .before .before .before .before .before .before .args .at) (c .before .before .before .before .before .before .before .before .before .args .row .now) (c .before .before .before .before .before .before .before .loop .row) (c .scale .last .0) (c .before .before .before .before .before .before .before .loop .i) (c .before .digit .result) (c .scale .result) (c .before .before .before .before .before .before .before .loop .inv) (c .before .before .before .before .before .before .loop-test .taken) (c .before .before .before .before .before .before .before .before .before .pre .1 .1 .0) (c .before .before .before .before .if1 .left) (c .before .before .before .if2 .left) (c .before .digit .ensures) (c .scale .ensures)
+loop-again c = fill-next (c .before .before .before .before .before .before .before .args .s .now) (c .before .before .before .before .before .before .before .args .at) (c .before .before .before .before .before .before .before .args .from) (c .before .before .before .before .before .before .before .args .row .now) (c .before .before .before .before .before .loop .row) (c .before .before .before .before .before .loop .i) (c .before .before .take .result .value) (c .before .before .take .result .power) (c .before .before .take .result .end) (c .before .before .before .before .before .loop .inv) (c .before .before .take .ensures) (c .scale .last .0) (c .scale .ensures)
 
-returns-3 : tie.Need-returns-3 Inv-loop μ-loop
-returns-3 c = filled (c .before .before .before .args .s .now) (c .before .before .before .args .at) (c .before .before .before .args .row .now) (c .before .loop .row) (c .before .loop .i) (c .before .loop .inv) (stop-end (c .before .before .before .args .s .now) (c .before .loop .i) (c .loop-test .left))
+returns : tie.Need-returns Inv-loop μ-loop
+returns c = filled (c .before .before .before .before .args .s .now) (c .before .before .before .before .args .at) (c .before .before .before .before .args .from) (c .before .before .before .before .args .row .now) (c .before .before .loop .row) (c .before .before .loop .i) (c .before .before .loop .inv) (c .before .is-digit-at .ensures .no (c .if1 .left))
 
 pub fill-spec : {M : Type 1} → statement M
 fill-spec =
@@ -49,12 +55,9 @@ fill-spec =
     Inv-loop
     μ-loop
     loop-holds
-    shared-slice-read-b
-    returns
-    returns-2
-    digit-requires
+    is-digit-at-requires
+    take-requires
     scale-requires
-    add-i
     loop-less
     loop-again
-    returns-3)
+    returns)

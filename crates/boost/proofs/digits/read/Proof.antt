@@ -1,7 +1,7 @@
 -- `boost::digits::read` meets its contract. Assumes nothing.
-use Rattle.boost.proofs.Runs.{digit-low, digit-high, stop-byte, stop-end, Counting, count-first, count-next, counted}
-use lib.ListN.{length, getD}
 use Prim.Native.Nat.{_-_}
+use lib.ListN.{length}
+use Rattle.boost.proofs.Runs.{Counting, count-first, count-next, counted}
 use native.Mathlib.Omega.{arith}
 use borrow.Author.Needs.{needs}
 use Rattle.boost.proofs.digits.read.Statement.{statement}
@@ -14,40 +14,31 @@ abbrev μ-loop : tie.MeasureT-loop
 μ-loop s at start v₀ i₀ v i = length s - i
 
 loop-holds : tie.Need-loop-holds Inv-loop μ-loop
-loop-holds c = count-first (c .before .args .s .now) (c .before .args .at) (c .before .args .start) (c .before .pre .0) (c .before .pre .1)
+loop-holds c = count-first (c .before .args .s .now) (c .before .args .at) (c .before .args .start) (c .before .pre)
 
-shared-slice-read-b : tie.Need-shared-slice-read-b Inv-loop μ-loop
-shared-slice-read-b c = omega arith
+is-digit-at-requires : tie.Need-is-digit-at-requires Inv-loop μ-loop
+is-digit-at-requires c κs = search needs
 
-returns : tie.Need-returns Inv-loop μ-loop
-returns c = counted (c .before .before .before .before .before .args .s .now) (c .before .before .before .before .before .args .at) (c .before .before .before .before .before .args .start) (c .before .before .before .loop .v) (c .before .before .before .loop .i) (c .before .before .before .loop .inv) (stop-byte (c .before .before .before .before .before .args .s .now) (c .before .before .before .loop .i) (c .before .before .loop-test .taken) (digit-low (getD (c .before .before .before .before .before .args .s .now) (c .before .before .before .loop .i) 0) (c .if1 .taken)))
+digit-at-requires : tie.Need-digit-at-requires Inv-loop μ-loop
+digit-at-requires c κs = let d = c .before .is-digit-at .ensures .yes (c .if1 .taken) in (d .within, d .low, d .high)
 
-returns-2 : tie.Need-returns-2 Inv-loop μ-loop
-returns-2 c = counted (c .before .before .before .before .before .before .args .s .now) (c .before .before .before .before .before .before .args .at) (c .before .before .before .before .before .before .args .start) (c .before .before .before .before .loop .v) (c .before .before .before .before .loop .i) (c .before .before .before .before .loop .inv) (stop-byte (c .before .before .before .before .before .before .args .s .now) (c .before .before .before .before .loop .i) (c .before .before .before .loop-test .taken) (digit-high (getD (c .before .before .before .before .before .before .args .s .now) (c .before .before .before .before .loop .i) 0) (c .if2 .taken)))
+one-more-requires : tie.Need-one-more-requires Inv-loop μ-loop
+one-more-requires c κs = c .digit-at .ensures .1
 
-mul-cut-off : tie.Need-mul-cut-off Inv-loop μ-loop
-mul-cut-off c = let l = c .before .before .before .before .loop .inv .small in omega arith
+add-i : tie.Need-add-i Inv-loop μ-loop
+add-i c = let d = c .before .before .before .is-digit-at .ensures .yes (c .before .before .if1 .taken) in omega (arith, d .within)
 
-digit-requires : tie.Need-digit-requires Inv-loop μ-loop
-digit-requires c κs = c .before .if1 .left
+loop-less : tie.Need-loop-less Inv-loop μ-loop
+loop-less c = let d = c .before .before .before .is-digit-at .ensures .yes (c .before .before .if1 .taken) in omega (arith, d .within)
 
-add-cut-off : tie.Need-add-cut-off Inv-loop μ-loop
-add-cut-off c = let l = c .before .before .before .before .before .loop .inv .small in omega (arith, c .digit .ensures, c .before .if2 .left)
+loop-again : tie.Need-loop-again Inv-loop μ-loop
+loop-again c = count-next (c .before .before .before .before .before .before .args .s .now) (c .before .before .before .before .before .before .args .at) (c .before .before .before .before .before .before .args .start) (c .before .before .before .before .loop .v) (c .before .before .before .before .loop .i) (c .before .digit-at .result) (c .one-more .result) (c .before .before .before .before .loop .inv) (c .before .before .before .is-digit-at .ensures .yes (c .before .before .if1 .taken)) (c .before .digit-at .ensures .0) (c .one-more .ensures .0) (c .one-more .ensures .1)
 
 cut-off-requires : tie.Need-cut-off-requires Inv-loop μ-loop
 cut-off-requires c κs = search needs
 
-add-i : tie.Need-add-i Inv-loop μ-loop
-add-i c = omega arith
-
-loop-less : tie.Need-loop-less Inv-loop μ-loop
-loop-less c = omega arith
-
-loop-again : tie.Need-loop-again Inv-loop μ-loop
-loop-again c = count-next (c .before .before .before .before .before .before .before .before .args .s .now) (c .before .before .before .before .before .before .before .before .args .at) (c .before .before .before .before .before .before .before .before .args .start) (c .before .before .before .before .before .before .loop .v) (c .before .before .before .before .before .before .loop .i) (c .before .digit .result) (c .cut-off .result) (c .before .before .before .before .before .before .loop .inv) (c .before .before .before .before .before .loop-test .taken) (c .before .before .before .if1 .left) (c .before .before .if2 .left) (c .before .digit .ensures) (c .cut-off .ensures)
-
-returns-3 : tie.Need-returns-3 Inv-loop μ-loop
-returns-3 c = counted (c .before .before .before .args .s .now) (c .before .before .before .args .at) (c .before .before .before .args .start) (c .before .loop .v) (c .before .loop .i) (c .before .loop .inv) (stop-end (c .before .before .before .args .s .now) (c .before .loop .i) (c .loop-test .left))
+returns : tie.Need-returns Inv-loop μ-loop
+returns c = counted (c .before .before .before .before .before .args .s .now) (c .before .before .before .before .before .args .at) (c .before .before .before .before .before .args .start) (c .before .before .before .loop .v) (c .before .before .before .loop .i) (c .cut-off .result) (c .before .before .before .loop .inv) (c .before .before .is-digit-at .ensures .no (c .before .if1 .left)) (c .cut-off .ensures)
 
 pub read-spec : {M : Type 1} → statement M
 read-spec =
@@ -56,14 +47,11 @@ read-spec =
     Inv-loop
     μ-loop
     loop-holds
-    shared-slice-read-b
-    returns
-    returns-2
-    mul-cut-off
-    digit-requires
-    add-cut-off
-    cut-off-requires
+    is-digit-at-requires
+    digit-at-requires
+    one-more-requires
     add-i
     loop-less
     loop-again
-    returns-3)
+    cut-off-requires
+    returns)

@@ -1,7 +1,7 @@
 -- `boost::numeral::is_word` meets its contract. Assumes nothing.
-use Rattle.boost.proofs.Words.{other-length, Matching, match-first, match-no, match-next, match-done}
 use lib.ListN.{length}
 use Prim.Native.Nat.{_-_}
+use Rattle.boost.proofs.Words.{other-length, Matching, match-first, match-no, match-next, match-done}
 use native.Mathlib.Omega.{arith}
 use borrow.Author.Needs.{needs}
 use Rattle.boost.proofs.numeral.is_word.Statement.{statement}

@@ -1,6 +1,6 @@
 -- `boost::numeral::word` meets its contract. Assumes nothing.
-use Rattle.boost.proofs.Words.{word-inf, word-infinity, word-nan, word-none}
 use mathlib.Core.Path.{sym, _∙_}
+use Rattle.boost.proofs.Words.{word-inf, word-infinity, word-nan, word-none}
 use borrow.Author.Needs.{needs}
 use Rattle.boost.proofs.numeral.word.Statement.{statement}
 use Rattle.boost.proofs.numeral.word.Tie as tie
