@@ -187,7 +187,7 @@ module _ (s : List ℕ) where
 
   pub too-long-fault : 40 < length s → 17 ≡ refusalOf (numeralBits s)
   unfolding numeralBits
-  too-long-fault h = sym (ap (λ (b : Bool). refusalOf (need b longNumeral (bitsOf (isMinus s) (unsigned (afterSign s))))) (is-false (leb (length s) 40) (lt→nleb (length s) 40 h)))
+  too-long-fault h = sym (ap (λ (b : Bool). refusalOf (need b (faulty longNumeral 0) (bitsOf (isMinus s) (unsigned (afterSign s))))) (is-false (leb (length s) 40) (lt→nleb (length s) 40 h)))
 
 -- ---- a refusal asks for no sign
 any-sign : (m n : Bool) (o : Numeral) → refusalOf (bitsOf m o) ≡ refusalOf (bitsOf n o)
