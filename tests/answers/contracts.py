@@ -41,12 +41,18 @@ def public():
 
 
 def structs():
-    """The members of each struct that a function may answer."""
+    """The members of each struct that a function may answer, by its name and its crate."""
     found = {}
-    for path in glob.glob("crates/*/src/**/*.rt", recursive=True):
+    for path in sorted(glob.glob("crates/*/src/**/*.rt", recursive=True)):
         for name, body in re.findall(r"^pub struct (\w+) \{\n(.*?)\n\}", open(path).read(), re.M | re.S):
-            found[name] = re.findall(r"^\s*pub (\w+):", body, re.M)
+            found.setdefault(name, {})[path.split("/")[1]] = re.findall(r"^\s*pub (\w+):", body, re.M)
     return found
+
+
+def members_of(function, members):
+    """Those of what the function answers: its own crate's struct of that name, or the one that there is."""
+    crates = members.get(function.answers, {})
+    return crates.get(function.name.split("::")[0]) or next(iter(crates.values()), ["whole"])
 
 
 def records(crate):
@@ -147,5 +153,5 @@ def determined(function, members):
     told = {(kind(left), given) for left, given in lefts}
     left_open = [f"{name} at the end" for name in function.writes if name not in EXIT.findall(text)]
     if function.answers and not re.search(r"(?<![\w.′-])r(?![\w′-])(?! \.)", text):
-        left_open += [f"the answer's {m}" for m in members.get(function.answers, ["whole"]) if m not in MEMBER.findall(text)]
+        left_open += [f"the answer's {m}" for m in members_of(function, members) if m not in MEMBER.findall(text)]
     return told, left_open

@@ -11,7 +11,7 @@ use Rattle.batch.specs.Ask.{kept, Table}
 
 abbrev pub allLeft : ℕ → ℕ → ℕ → List ℕ → List ℕ → List ℕ → AllLeft
 allLeft refusal written count answers rows room = record {
-  answer = record { refusal = refusal; written = written; count = count; rounds = 0 };
+  answer = record { refusal = refusal; written = written; count = count; rounds = 0; place = 0 };
   answers = answers;
   rows = rows;
   room = room;
