@@ -61,11 +61,7 @@ pub fn place_at(room: &[u8], n: usize, i: usize, end: usize) -> usize
     requires { ⌜ (n ≤ textMost) × (roomLeast ≤ length (now room)) ⌝ }
     ensures { λ r. ⌜ r ≡ startOf end (tokensOf (now (room .entry)) n) i ⌝ }
 {
-    if i < n {
-        start_at(room, i)
-    } else {
-        end
-    }
+    if i < n { start_at(room, i) } else { end }
 }
 
 // The unescaped text of the token at i.

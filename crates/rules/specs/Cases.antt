@@ -4,7 +4,7 @@ use Prim.Native.String.{String}
 use mathlib.Core.List.{List, [], _∷_, _++_}
 use mathlib.Core.Bool.{Bool, true, false, _&&_, cond}
 use lib.Dec.{leb, eqb}
-use Rattle.rules.specs.Numbers.{number, Read, got, refused, andThen, orOperator, andOperator, whitespaceAnalyzer, simpleAnalyzer}
+use Rattle.rules.specs.Numbers.{number, placeOf, Read, got, refused, andThen, orOperator, andOperator, whitespaceAnalyzer, simpleAnalyzer}
 use Rattle.rules.specs.Bytes.{ascii, same}
 use Rattle.rules.specs.Query.{should, filter, Query, term, boolean, boost, constantScore, matchNone, none, clause, equal}
 use Rattle.rules.specs.Stored.{encode}
@@ -33,6 +33,8 @@ pub data Case : Type 0 where
   -- a text, under an operator and an analyzer, is stored as these bytes, or has this refusal number
   stores : ℕ → ℕ → String → List ℕ → Case
   refuses : ℕ → ℕ → String → ℕ → Case
+  -- a text has this refusal number, and its fault this place
+  refusesAt : String → ℕ → ℕ → Case
   -- a query becomes another in so many rounds, as in the Rust or strict
   becomes : Bool → Query → Query → ℕ → Case
   -- a record matches a query, or does not
@@ -49,6 +51,10 @@ abbrev pub isRefused : Read Query → ℕ → Bool
 isRefused (got q) n = false
 isRefused (refused r) n = eqb (number r) n
 
+abbrev pub isRefusedAt : Read Query → ℕ → ℕ → Bool
+isRefusedAt (got q) n p = false
+isRefusedAt (refused r) n p = eqb (number r) n && eqb (placeOf r) p
+
 abbrev pub isRewritten : Rewritten → Query → ℕ → Bool
 isRewritten (rewritten p k) q n = equal p q && eqb k n
 
@@ -60,6 +66,7 @@ isSame false false = true
 unfoldable pub holds : Case → Bool
 holds (stores o a s b) = isStored (parsed o a s) b
 holds (refuses o a s n) = isRefused (parsed o a s) n
+holds (refusesAt s n p) = isRefusedAt (parsed orOperator simpleAnalyzer s) n p
 holds (becomes strict p q n) = isRewritten (rewrite strict p) q n
 holds (isTrue es q b) = isSame (matches es q) b
 
@@ -114,4 +121,86 @@ table =
     ∷ isTrue (place (ascii "f") 0 (ascii "a") ∷ []) matchNone false
     -- strict, it stays as it is, in 1 round
     ∷ becomes strictly twiceShould twiceShould 1
+    ∷ []
+
+-- ---- where faults stand: each from both sides of what it points at
+
+unfoldable pub places : List Case
+places =
+    -- 4: the opening quote; behind a term, blanks, an escape; a quote that is escaped closes nothing
+    refusesAt "\"a" 4 0
+    ∷ refusesAt "a  \"b" 4 3
+    ∷ refusesAt "\\\" \"b" 4 3
+    ∷ refusesAt "\"a\" \"b\\\"" 4 4
+    ∷ refusesAt "\"" 4 0
+    -- 5: the backslash, in a term, in a quote, alone, behind one that is escaped
+    ∷ refusesAt "a\\" 5 1
+    ∷ refusesAt "\"a\\" 5 2
+    ∷ refusesAt "\\" 5 0
+    ∷ refusesAt "  a\\\\\\" 5 5
+    -- 6 and 7: the byte, at once and behind a term; behind an escape of the same; the first from the left
+    ∷ refusesAt "[a" 6 0
+    ∷ refusesAt "a]" 6 1
+    ∷ refusesAt " {" 6 1
+    ∷ refusesAt "\\}}" 6 2
+    ∷ refusesAt "*" 7 0
+    ∷ refusesAt "a*" 7 1
+    ∷ refusesAt "a ?" 7 2
+    ∷ refusesAt "\\**" 7 2
+    ∷ refusesAt "\"*\" *" 7 4
+    ∷ refusesAt "a* ]" 7 1
+    ∷ refusesAt ") ]" 6 2
+    -- 8 and 9: the `~`, at once and behind blanks, behind an escape
+    ∷ refusesAt "a~" 8 1
+    ∷ refusesAt "a ~" 8 2
+    ∷ refusesAt "\\~b ~" 8 4
+    ∷ refusesAt "f:a~" 8 3
+    ∷ refusesAt "\"a\"~" 9 3
+    ∷ refusesAt "\"a b\"  ~" 9 7
+    ∷ refusesAt "\"\\\"\"~1" 9 4
+    -- 10: the end, and blanks count
+    ∷ refusesAt "a AND" 10 5
+    ∷ refusesAt "a +" 10 3
+    ∷ refusesAt "a -  " 10 5
+    ∷ refusesAt "f:" 10 2
+    ∷ refusesAt "(a OR" 10 5
+    -- 11: where the token starts; an operator that is a word, with an escape in it; the one behind a boost
+    ∷ refusesAt ")" 11 0
+    ∷ refusesAt "a )" 11 2
+    ∷ refusesAt "a ~" 8 2
+    ∷ refusesAt "() ~" 11 3
+    ∷ refusesAt "1 AND b" 11 2
+    ∷ refusesAt "\\AND" 11 0
+    ∷ refusesAt "a AND AND b" 11 6
+    ∷ refusesAt "+-a" 11 1
+    ∷ refusesAt "a^2^3" 11 3
+    ∷ refusesAt "f:g:a" 11 3
+    ∷ refusesAt "a \\&& )" 11 6
+    -- 12: the end
+    ∷ refusesAt "(" 12 1
+    ∷ refusesAt "(a" 12 2
+    ∷ refusesAt "(a (b)  " 12 8
+    -- 13 and 17: where the numeral starts, behind blanks, with an escape before it
+    ∷ refusesAt "a^x" 13 2
+    ∷ refusesAt "()^x" 13 3
+    ∷ refusesAt "a ^ x" 13 4
+    ∷ refusesAt "\\a^x" 13 3
+    ∷ refusesAt "\"a\"^\\+" 13 4
+    ∷ refusesAt "a^11111111111111111111111111111111111111111" 17 2
+    ∷ refusesAt "a^ \\11111111111111111111111111111111111111111" 17 3
+    -- 14: the token after the `^`, or the end
+    ∷ refusesAt "a^" 14 2
+    ∷ refusesAt "a^ " 14 3
+    ∷ refusesAt "a^-1" 14 2
+    ∷ refusesAt "a^ \"2\"" 14 3
+    ∷ refusesAt "(a)^)" 14 4
+    -- 15: the start of the name, unescaped over 32 bytes; 32 pass
+    ∷ refusesAt "nnnnnnnnnnnnnnnnnnnnnnnnnnnnnnnnn:a" 15 0
+    ∷ refusesAt "+ nnnnnnnnnnnnnnnnnnnnnnnnnnnnnnnnn :a" 15 2
+    ∷ refusesAt "a \\nnnnnnnnnnnnnnnnnnnnnnnnnnnnnnnnn:" 15 2
+    ∷ refusesAt "nnnnnnnnnnnnnnnnnnnnnnnnnnnnnnnn:)" 11 33
+    -- 16: the 25th bracket; 24 pass, and the end is met
+    ∷ refusesAt "(((((((((((((((((((((((((" 16 24
+    ∷ refusesAt "((((((((((((((((((((((( f:((" 16 27
+    ∷ refusesAt "((((((((((((((((((((((((" 12 24
     ∷ []

@@ -32,7 +32,15 @@ fn deliver(
     requires { ⌜ ToSay refusal place (now written) (now rewritten) rounds ⌝ }
     ensures { λ r. ⌜ leftOf r (now (out .exit)) [] ≡ delivered (answerText refusal place (now (written .entry)) (now (rewritten .entry)) rounds) (now (out .entry)) [] ⌝ }
 {
-    let n = put_answer(&mut out[0..0], 0, refusal, place, written, rewritten, rounds);
+    let n = put_answer(
+        &mut out[0..0],
+        0,
+        refusal,
+        place,
+        written,
+        rewritten,
+        rounds,
+    );
     if out.len() < n {
         return Shown::Refused(LONG_ANSWER);
     }
@@ -53,7 +61,14 @@ fn show_with(
     let m = make(input, first, second, room);
     let w = m.written;
     let v = m.rewritten;
-    deliver(out, m.refusal, m.place, &first[0..w], &second[0..v], m.rounds)
+    deliver(
+        out,
+        m.refusal,
+        m.place,
+        &first[0..w],
+        &second[0..v],
+        m.rounds,
+    )
 }
 
 // The show text of the input goes to the front of the output: SHORT_ROOM for a short room, LONG_ANSWER where it is longer than the output. Refusals of
