@@ -127,7 +127,7 @@ def equations(statement, known, given=False):
 MEMBER = re.compile(r"r \.(\w+)")
 EXIT = re.compile(r"now \((\w+) \.exit\)")
 # Names that put an answer's numbers and the slices together; the laws of docs/ANSWERS.md say that nothing is lost by them.
-TOGETHER = ("left", "leftOf")
+TOGETHER = ("left", "leftOf", "allLeft")
 
 
 def kind(left):

@@ -10,8 +10,8 @@ use super::turn::turn;
 use lists::check_list;
 use names::LONG_ANSWER;
 use names::QUERIES_MOST;
-use names::SELECTION_DEPTH;
 use names::SELECT_ALL_ROOM;
+use names::SELECTION_DEPTH;
 use names::SHORT_ROOM;
 use numbers::put_big4;
 use selection::select::Selected;
@@ -48,7 +48,14 @@ fn refuse(n: u8) -> Answer
 }
 
 // The faults of the queries, and the table where the list is sound.
-fn prepare(queries: &[u8], many: usize, faults: &mut [u8], list: &[u8], verdict: u8, table: &mut [u8])
+fn prepare(
+    queries: &[u8],
+    many: usize,
+    faults: &mut [u8],
+    list: &[u8],
+    verdict: u8,
+    table: &mut [u8],
+)
     requires { ⌜ Cuts (now queries) many × (length (now faults) ≡ queriesMost) × (verdict ≡ numberOf (readList (now list))) × (selectAllRoom ≤ length (now table)) ⌝ }
     ensures { λ _. ⌜ Prepared (now (queries .entry)) many (now (faults .exit)) (now (list .entry)) verdict (now (table .exit)) ⌝ }
 {
@@ -123,7 +130,17 @@ fn turn_all(
     let mut t = queries;
     while i < many {
         let j = many - 1 - i;
-        let s = turn(first(t), faults[i], j, list, verdict, all, table, &mut rows[w..], &mut row);
+        let s = turn(
+            first(t),
+            faults[i],
+            j,
+            list,
+            verdict,
+            all,
+            table,
+            &mut rows[w..],
+            &mut row,
+        );
         a = tell(answers, a, s);
         w += written(s);
         i += 1;
@@ -134,7 +151,14 @@ fn turn_all(
 }
 
 // Of queries that were cut.
-fn answer_all(queries: &[u8], many: usize, list: &[u8], answers: &mut [u8], rows: &mut [u8], room: &mut [u8]) -> Answer
+fn answer_all(
+    queries: &[u8],
+    many: usize,
+    list: &[u8],
+    answers: &mut [u8],
+    rows: &mut [u8],
+    room: &mut [u8],
+) -> Answer
     requires { ⌜ Cuts (now queries) many × (selectAllRoom ≤ length (now room)) ⌝ }
     ensures { λ r. ⌜ Answered (now (queries .entry)) (now (list .entry)) (now (answers .entry)) (now (rows .entry)) (now (room .entry))
         (r .refusal) (r .written) (r .count) (now (answers .exit)) (now (rows .exit)) (now (room .exit)) ⌝ }
@@ -155,7 +179,13 @@ fn answer_all(queries: &[u8], many: usize, list: &[u8], answers: &mut [u8], rows
     }
 }
 
-pub fn select_all(queries: &[u8], list: &[u8], answers: &mut [u8], rows: &mut [u8], room: &mut [u8]) -> Answer
+pub fn select_all(
+    queries: &[u8],
+    list: &[u8],
+    answers: &mut [u8],
+    rows: &mut [u8],
+    room: &mut [u8],
+) -> Answer
     ensures answer { λ r. ⌜ allLeft (r .refusal) (r .written) (r .count) (now (answers .exit)) (now (rows .exit)) (now (room .exit))
         ≡ selectAllLeft (now (queries .entry)) (now (list .entry)) (now (answers .entry)) (now (rows .entry)) (now (room .entry)) ⌝ }
     ensures few { λ r. ⌜ Few (r .written) (r .count) ⌝ }

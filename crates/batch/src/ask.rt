@@ -108,7 +108,16 @@ fn ask(
     let mut t = queries;
     while i < many {
         let j = many - 1 - i;
-        let y = truth(first(t), faults[i], bit_at(any, j), bit_at(bare, j), rec, from, slots, row);
+        let y = truth(
+            first(t),
+            faults[i],
+            bit_at(any, j),
+            bit_at(bare, j),
+            rec,
+            from,
+            slots,
+            row,
+        );
         bits = pushed(bits, y);
         i += 1;
         let u = others(t);
@@ -124,7 +133,14 @@ pub const KEPT: usize = 512;
 // The bytes of a record's bits.
 pub const BITS_BYTES: usize = 8;
 
-pub fn keep(queries: &[u8], many: usize, faults: &[u8], masks: &[u64], list: &[u8], table: &mut [u8])
+pub fn keep(
+    queries: &[u8],
+    many: usize,
+    faults: &[u8],
+    masks: &[u64],
+    list: &[u8],
+    table: &mut [u8],
+)
     requires { ⌜ Queries (now queries) many (now faults) (now masks) × Records (now list) × (selectAllRoom ≤ length (now table)) ⌝ }
     ensures { λ _. ⌜ Table (queriesOf (now (queries .entry))) many (now (list .entry)) kept (now (table .exit)) ⌝ }
 {
@@ -137,7 +153,16 @@ pub fn keep(queries: &[u8], many: usize, faults: &[u8], masks: &[u64], list: &[u
             return;
         }
         let from = list.len() - t.len() + HEADER;
-        let bits = ask(queries, many, faults, masks, body(t), from, &mut slots, &mut row);
+        let bits = ask(
+            queries,
+            many,
+            faults,
+            masks,
+            body(t),
+            from,
+            &mut slots,
+            &mut row,
+        );
         put_big8(table, BITS_BYTES * i, bits);
         i += 1;
         let u = rest(t);

@@ -64,7 +64,15 @@ fn count(query: &[u8], j: usize, list: &[u8], table: &[u8], row: &mut [u64]) -> 
 }
 
 // Whether n numbers are room enough; all records are so many.
-fn fits(query: &[u8], j: usize, list: &[u8], records: usize, table: &[u8], n: usize, row: &mut [u64]) -> bool
+fn fits(
+    query: &[u8],
+    j: usize,
+    list: &[u8],
+    records: usize,
+    table: &[u8],
+    n: usize,
+    row: &mut [u64],
+) -> bool
     requires { ⌜ (numberOf (selected (now query) (now list)) ≡ 0) × Lent (now table) j (now row) × Column (now query) (now list) (now table) j
         × (records ≡ length (each recordOf (now list))) ⌝ }
     ensures { λ r. ⌜ r ≡ leb (length (listed (selected (now (query .entry)) (now (list .entry))))) n ⌝ }
@@ -85,7 +93,14 @@ fn put(rows: &mut [u8], w: usize, i: u32, y: bool) -> usize
     put_big4(rows, w, i)
 }
 
-fn fill(query: &[u8], j: usize, list: &[u8], table: &[u8], rows: &mut [u8], row: &mut [u64]) -> usize
+fn fill(
+    query: &[u8],
+    j: usize,
+    list: &[u8],
+    table: &[u8],
+    rows: &mut [u8],
+    row: &mut [u64],
+) -> usize
     requires { ⌜ (numberOf (selected (now query) (now list)) ≡ 0) × Lent (now table) j (now row) × Column (now query) (now list) (now table) j
         × (length (rowBytes (listed (selected (now query) (now list)))) ≤ length (now rows)) ⌝ }
     ensures { λ r. ⌜ (r ≡ length (rowBytes (listed (selected (now (query .entry)) (now (list .entry))))))

@@ -75,11 +75,7 @@ pub extern "C" fn gorbihesh_rewrite(query: &[u8], out: &mut [u8], room: &mut [u8
 }
 
 #[no_mangle]
-pub extern "C" fn gorbihesh_rewrite_strict(
-    query: &[u8],
-    out: &mut [u8],
-    room: &mut [u8],
-) -> Answer
+pub extern "C" fn gorbihesh_rewrite_strict(query: &[u8], out: &mut [u8], room: &mut [u8]) -> Answer
     ensures { λ r. ⌜ left (r .refusal) (r .length) (r .count) (r .rounds) (r .place) (now (out .exit)) (now (room .exit)) ≡ rewriteLeft strictly (now (query .entry)) (now (out .entry)) (now (room .entry)) ⌝ }
 {
     rewrite_by(STRICT, query, out, room)

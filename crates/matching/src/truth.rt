@@ -135,7 +135,15 @@ fn is_idle(t: &[u8], over: bool, rec: &[u8], from: usize, slots: &[u16]) -> bool
 }
 
 // The place of the first clause from `at` on that may change something, or the end. `over` says that the Boolean is true with no clause left.
-fn past_idle(q: &[u8], at: usize, end: usize, over: bool, rec: &[u8], from: usize, slots: &[u16]) -> usize
+fn past_idle(
+    q: &[u8],
+    at: usize,
+    end: usize,
+    over: bool,
+    rec: &[u8],
+    from: usize,
+    slots: &[u16],
+) -> usize
     requires { ⌜ StoredClauses (cut (now q) at end) × (at ≤ end) × (end ≤ length (now q)) × Told (now slots) from (now rec) ⌝ }
     ensures { λ r. ⌜ Past (each entryOf (now (rec .entry))) (now (q .entry)) at end over r ⌝ }
 {

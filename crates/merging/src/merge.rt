@@ -177,14 +177,7 @@ struct Eaten {
 }
 
 // Goes over the clauses from `at`, where the base of m ends, up to `end`.
-fn eat(
-    room: &mut [u8],
-    m: Merged,
-    at: usize,
-    end: usize,
-    least: usize,
-    strict: bool,
-) -> Eaten
+fn eat(room: &mut [u8], m: Merged, at: usize, end: usize, least: usize, strict: bool) -> Eaten
     requires { ⌜ Eatable (m .base) (m .kind) at end (now room) ⌝ }
     ensures { λ r. ⌜ ((k : Kind) (h : Query) (cs : Clauses) → kindTag k ≡ m .kind → Is (within (m .base) at (now (room .entry))) h → Are (within at end (now (room .entry))) cs → Ate strict least at end (now (room .entry)) k h cs (m .sum) (r .from) (r .sum) (now (room .exit))) ⌝ }
 {

@@ -172,7 +172,12 @@ fn put_merged_boolean(room: &mut [u8], end: usize, least: usize, strict: bool) -
     requires { ⌜ Live end least (now room) ⌝ }
     ensures { λ r. ⌜ ((cs : Clauses) → Are (within 8 end (now (room .entry))) cs → Stands 0 (now (room .entry)) r (encode (boolean least (mergedClauses strict least cs))) (now (room .exit))) ⌝ }
 {
-    let n = merge_clauses(&mut room[BOOLEAN_FRONT..], end - BOOLEAN_FRONT, least, strict);
+    let n = merge_clauses(
+        &mut room[BOOLEAN_FRONT..],
+        end - BOOLEAN_FRONT,
+        least,
+        strict,
+    );
     put_minimum(room, HEADER, least);
     put_header(room, 0, BOOLEAN_TAG, MINIMUM + n);
     BOOLEAN_FRONT + n

@@ -1,6 +1,5 @@
 use lib.ListN.{length}
 use Prim.Native.Nat.{ℕ, _+_, _-_, _≤_}
-
 use Rattle.batch.proofs.Turning as turning
 use Rattle.batch.proofs.Cutting as cutting
 use Rattle.batch.specs.Cut.{queriesOf}
