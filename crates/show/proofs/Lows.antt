@@ -7,7 +7,7 @@ use mathlib.Core.Bool.{Bool, true, false, not, _&&_, cond}
 use native.Mathlib.Omega.{arith}
 use lib.ListN.{length, drop}
 use lib.Dec.{leb, ltb, eqb}
-use Rattle.rules.specs.Numbers.{Refusal, number, placeOf, moved, faulty, Read, got, refused, need, onRead, andThen, placed, longText, notAscii, badSetup, longAnswer, longQuery, malformedQuery, deepQuery, longList, malformedList, shortRoom, openQuote, nothingEscaped, rangeBracket, wildcard, unexpectedEnd, badNumeral, simpleAnalyzer, fuzzyTerm, sloppyPhrase, unexpectedToken, openBracket, noNumeral, longField, manyBrackets, longNumeral, numeralMost, textMost, fieldMost, bracketsMost}
+use Rattle.rules.specs.Numbers.{Refusal, number, placeOf, moved, faulty, Read, got, refused, need, onRead, andThen, placed, longText, notAscii, badSetup, longAnswer, longQuery, malformedQuery, deepQuery, longList, malformedList, manyQueries, shortRoom, openQuote, nothingEscaped, rangeBracket, wildcard, unexpectedEnd, badNumeral, simpleAnalyzer, fuzzyTerm, sloppyPhrase, unexpectedToken, openBracket, noNumeral, longField, manyBrackets, longNumeral, numeralMost, textMost, fieldMost, bracketsMost}
 use Rattle.rules.specs.Bytes.{ascii, same, isEmpty, isText}
 use Rattle.rules.specs.Query.{boost, Clauses, none}
 use Rattle.rules.specs.Lexing.{Token, startIn, Piece, piece, Lexed, lexed, isQuote, isBackslash, isWildcard, isBracket, signKind, doubled, endKind, termKind, quotedKind, colonKind, openKind, closeKind, caretKind, tildeKind, onText, quotedEnd, termText, quotedText, before, termEnd, termFrom, quotedFrom, tokenAt, tokenThen, tokensStep, tokensIn, lex}
@@ -54,6 +54,7 @@ moved-number g malformedQuery = refl
 moved-number g deepQuery = refl
 moved-number g longList = refl
 moved-number g malformedList = refl
+moved-number g manyQueries = refl
 moved-number g shortRoom = refl
 
 low-placed : {A : Type 0} (g : ℕ → ℕ) {o : Read A} → Low o → Low (placed g o)
