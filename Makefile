@@ -22,6 +22,7 @@ run: $(ARCHIVE) ## a first look: the command on a sample site
 
 bench: $(ARCHIVE) ## times beside Rust, room and stack
 	tests/rust/bench
+	tests/selection/bench
 
 archive: ## the libraries, proved and built into target/lib: minutes the first time
 	library/build
