@@ -39,10 +39,10 @@ pub record Asked (s : List ℕ) (many : ℕ) (rec : List ℕ) (from : ℕ) (slot
   pub told : Told (queriesOf s) many (each entryOf rec) bits
   pub before : Before slots (from + length rec)
 
--- ---- the table: eight bytes for each of the first 512 records
+-- ---- the table: eight bytes for each of the first 2,048 records
 
 abbrev pub kept : ℕ
-kept = 512
+kept = 2048
 
 abbrev pub rowAt : List ℕ → ℕ → ℕ
 rowAt table r = ofBig (take 8 (drop (8 * r) table))

@@ -128,7 +128,7 @@ fn ask(
 
 // ---- the first records of a list
 
-pub const KEPT: usize = 512;
+pub const KEPT: usize = 2048;
 
 // The bytes of a record's bits.
 pub const BITS_BYTES: usize = 8;

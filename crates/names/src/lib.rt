@@ -39,7 +39,7 @@ pub const REWRITE_ROOM: usize = 38229;
 
 pub const SELECT_ROOM: usize = 0;
 
-pub const SELECT_ALL_ROOM: usize = 4096;
+pub const SELECT_ALL_ROOM: usize = 16384;
 
 // ---- operators and analyzers
 

@@ -103,12 +103,6 @@ pub or-assoc : (a b c : Bool) → a || (b || c) ≡ (a || b) || c
 or-assoc true b c = refl
 or-assoc false b c = refl
 
--- a test that passes only where an earlier one does
-pub absorb : (x r y : Bool) → (y ≡ true → x ≡ true) → x || r ≡ (x || r) || y
-absorb true r y f = refl
-absorb false r true f = clash (f refl) refl
-absorb false r false f = sym (or-false r)
-
 pub or-same : (a b : Bool) → a || (a || b) ≡ a || b
 or-same true b = refl
 or-same false b = refl

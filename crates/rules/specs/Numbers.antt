@@ -54,7 +54,7 @@ abbrev pub selectRoom : ℕ
 selectRoom = 0
 
 abbrev pub selectAllRoom : ℕ
-selectAllRoom = 4096
+selectAllRoom = 16384
 
 -- ---- operators and analyzers
 
