@@ -17,6 +17,8 @@ WORD = re.compile(r'[^\s(){}.;,@"«»\x60]+')
 DECLARED = re.compile(
     r"(?m)^ *(?:(?:pub|abbrev|unfoldable|data|record|mutual) +)*([^\s(){}.;,@\"«»]+)(?: \{[^{}\n]*\}| \([^()\n]*\))* :(?= )"
 )
+MANY = re.compile(r"(?m)^ +([a-z][\w']*(?: [a-z][\w']*)+) : [A-Z]\S*$")
+ALIAS = re.compile(r"(?m)^use .*")
 DERIVED = re.compile(r"deriving Discrete as (\S+)")
 QUIET = re.compile(r'"[^"\n]*"|(?<![^\s(){}.;,@"«»])--[^\n]*')
 SPAN = re.compile(r"\x60[^\x60\n]+\x60")
@@ -36,7 +38,13 @@ def files(root):
                 yield os.path.join(folder, name)
 
 
+# A run of capitals is one word.
+RUNS = {"isAHLetter": "is_ah_letter", "is_aHLetter": "is_ah_letter"}
+
+
 def snake(name):
+    if name in RUNS:
+        return RUNS[name]
     words = re.sub(r"(?<=[a-z0-9])[A-Z]", lambda m: "_" + m[0].lower(), name)
     return words.replace("-", "_")
 
@@ -51,7 +59,9 @@ def declared(texts):
     for path, text in texts.items():
         if path.endswith(".antt") and not os.path.basename(path) == "Proof.antt":
             code = QUIET.sub(" ", text)
-            for name in DECLARED.findall(code) + DERIVED.findall(code):
+            many = [n for line in MANY.findall(code) for n in line.split() if line.split()[0] not in ("pub", "abbrev", "unfoldable")]
+            brought = [n for line in ALIAS.findall(code) for n in re.findall(r" as (\w+)", line) if snake(n) != n]
+            for name in DECLARED.findall(code) + DERIVED.findall(code) + many + brought:
                 if name[0].islower():
                     found[name].add(path)
     return found
@@ -180,6 +190,8 @@ def clashes(texts, table, names):
 
 
 def move_modules(root):
+    if not os.path.exists(os.path.join(root, "crates", "rules", "proofs", "stored.antt")):
+        return
     base = os.path.join(root, "crates", "rules", "proofs")
     for name in MODULES:
         for tail in (".antt", ""):

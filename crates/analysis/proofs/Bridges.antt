@@ -9,7 +9,7 @@ use native.Mathlib.Numerals.{add-one}
 use lib.Dec.{leb, eqb}
 use lib.ListN.{length, get_or}
 use borrow.Author.Tests.{eq-eqb, not-true}
-use Rattle.rules.specs.Words.{WordBreak, outside, is, aLetter, is_mid_letters, is_mid_numbers, values, word_break, joined, is_alphanumeric}
+use Rattle.rules.specs.Words.{WordBreak, outside, is, a_letter, is_mid_letters, is_mid_numbers, values, word_break, joined, is_alphanumeric}
 use Rattle.rules.specs.Analysis.{class_of}
 use Rattle.rules.specs.InWords.{is_solid, is_inner, bridged, value_at, is_bridge, is_within}
 use Rattle.rules.proofs.Bools.{and_false, told_no, told_yes}
@@ -20,7 +20,7 @@ use Rattle.analysis.specs.Words.{joins_by}
 
 -- ---- three bytes
 
-letter_told : (c : ℕ) → leb 64 (class_of c) ≡ is (word_break c) aLetter
+letter_told : (c : ℕ) → leb 64 (class_of c) ≡ is (word_break c) a_letter
 letter_told c = letter_flag c ∙ sym (letter_value c)
 
 solid_told : (c : ℕ) → leb 32 (class_of c) ≡ is_solid (word_break c)

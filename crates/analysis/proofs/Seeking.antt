@@ -9,7 +9,7 @@ use native.Mathlib.Numerals.{add-one}
 use lib.Dec.{leb}
 use lib.ListN.{length, get_or, length-take, length-drop, drop_of_length-le}
 use borrow.Author.Tests.{le-leb, lt-leb}
-use Rattle.rules.specs.Words.{is, extendNumLet, word_break, values, joined, reach, is_alphanumeric}
+use Rattle.rules.specs.Words.{is, extend_num_let, word_break, values, joined, reach, is_alphanumeric}
 use Rattle.rules.specs.Analysis.{class_of}
 use Rattle.rules.specs.InWords.{is_solid, is_inner, bridged, value_at, is_bridge, is_within}
 use Rattle.rules.proofs.Bools.{clash, fails, both, or_l, or_r}
@@ -107,7 +107,7 @@ module _ (s : List ℕ) {at start i : ℕ} (S : Seeking s at start i) (l : i < l
         at_once : (b : ℕ) → start ≡ suc b → at ≡ b → bridged (value_at s (suc b)) (value_at s (suc (suc b))) (value_at s (suc (suc (suc b)))) ≡ true → ⊥
         at_once b z q f =
             let j = bridge_joined s b f in
-            let n = or_l (is_inner (value_at s (suc (suc b)))) (or_l (is (value_at s (suc b)) extendNumLet) (bridge_near (value_at s (suc b)) _ _ f)) in
+            let n = or_l (is_inner (value_at s (suc (suc b)))) (or_l (is (value_at s (suc b)) extend_num_let) (bridge_near (value_at s (suc b)) _ _ f)) in
             true≢false (sym (both n j) ∙ ap (is_within s) (sym q) ∙ w)
 
     behind_boundary : (at < start) × (is_inner (value_at s (suc start)) ≡ false) → joined s start ≡ false

@@ -9,7 +9,7 @@ use lib.ListN.{length, get_or, take, drop, length-append}
 use lib.Seq.{drop-cons, drop-drop}
 use lib.Dec.{leb}
 use borrow.Author.Tests.{le-leb, lt-leb, leb-true}
-use Rattle.rules.specs.Numbers.{Read, got, refused, number, need, on_read, and_then, malformedQuery, many_queries, queries_most}
+use Rattle.rules.specs.Numbers.{Read, got, refused, number, need, on_read, and_then, malformed_query, many_queries, queries_most}
 use Rattle.rules.specs.Bytes.{is_empty, of_big}
 use Rattle.rules.specs.Batch.{first_query, other_queries, is_first, cut, read_queries}
 use Rattle.rules.proofs.Bools.{and_no_l, alike}
@@ -76,7 +76,7 @@ module _ {s t : List ℕ} {n : ℕ} (C : Counted s t n) where
       left = let k = C.left in let l = ap length e in omega (arith, others_shorter t more);
     }
 
-    pub counted_bad : is_first t ≡ false → Refused (number malformedQuery) ≡ cut_as (read_queries s)
+    pub counted_bad : is_first t ≡ false → Refused (number malformed_query) ≡ cut_as (read_queries s)
     unfolding read_queries
     counted_bad h = rw (C.whole, cut_bad t (more_empty t more) h)
 

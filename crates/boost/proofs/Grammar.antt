@@ -13,7 +13,7 @@ use lib.Seq.{drop-cons}
 use lib.Dec.{eqb}
 use Rattle.rules.specs.Bytes.{is_empty}
 use Rattle.rules.specs.Analysis.{front, after}
-use Rattle.rules.specs.Reading.{number_of as refusalOf}
+use Rattle.rules.specs.Reading.{number_of as refusal_of}
 use Rattle.rules.specs.Numerals.{Numeral, bad, decimal, infinity, is_digit, digits_on, is_minus, after_sign, exponent, after_digits, signed, bits_of}
 use Rattle.rules.proofs.Numerals.Order.{tri}
 use Rattle.boost.specs.declared.numeral.Answer.{Answer}
@@ -161,14 +161,14 @@ over_cut D x f o g = go x g.0 g.1
     go x y e = omega arith
 
 -- ---- and its refusal
-pub times_none : (m : Bool) (D x f : ℕ) (o : Numeral) → Scaling (Times x) D f o → 0 ≡ refusalOf (bits_of m o)
-times_none m D x f o g = sym (ap (λ (n : Numeral). refusalOf (bits_of m n)) g.2)
+pub times_none : (m : Bool) (D x f : ℕ) (o : Numeral) → Scaling (Times x) D f o → 0 ≡ refusal_of (bits_of m o)
+times_none m D x f o g = sym (ap (λ (n : Numeral). refusal_of (bits_of m n)) g.2)
 
-pub over_none : (m : Bool) (D x f : ℕ) (o : Numeral) → Scaling (Over x) D f o → 0 ≡ refusalOf (bits_of m o)
-over_none m D x f o g = sym (ap (λ (n : Numeral). refusalOf (bits_of m n)) g.2)
+pub over_none : (m : Bool) (D x f : ℕ) (o : Numeral) → Scaling (Over x) D f o → 0 ≡ refusal_of (bits_of m o)
+over_none m D x f o g = sym (ap (λ (n : Numeral). refusal_of (bits_of m n)) g.2)
 
-pub bad_refusal : (m : Bool) (o : Numeral) → o ≡ bad → 13 ≡ refusalOf (bits_of m o)
-bad_refusal m o e = sym (ap (λ (n : Numeral). refusalOf (bits_of m n)) e)
+pub bad_refusal : (m : Bool) (o : Numeral) → o ≡ bad → 13 ≡ refusal_of (bits_of m o)
+bad_refusal m o e = sym (ap (λ (n : Numeral). refusal_of (bits_of m n)) e)
 
 -- ---- the exponent's sign
 minus_cons : (c : ℕ) (l : List ℕ) (x : Bool) → eqb c 45 ≡ x → is_minus (c ∷ l) ≡ x

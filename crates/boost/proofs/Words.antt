@@ -10,11 +10,11 @@ use lib.Seq.{take_all}
 use lib.Dec.{leb, eqb, le→leb, lit<}
 use lib.Arith.{lt→nleb}
 use lib.Ieee.Bits.{is_true, is_false}
-use Rattle.rules.specs.Numbers.{Read, got, refused, number, faulty, longNumeral, need}
-use Rattle.rules.specs.Reading.{number_of as refusalOf}
+use Rattle.rules.specs.Numbers.{Read, got, refused, number, faulty, long_numeral, need}
+use Rattle.rules.specs.Reading.{number_of as refusal_of}
 use Rattle.rules.specs.Bytes.{ascii, same, is_empty}
 use Rattle.rules.specs.Analysis.{lower, lowercase, front, after}
-use Rattle.rules.specs.Numerals.{Numeral, decimal, bad, infinite, notNumber, infinity, is_digit, digits_on, is_minus, after_sign, after_digits, after_whole, unsigned, signed, bits_of, numeral_bits}
+use Rattle.rules.specs.Numerals.{Numeral, decimal, bad, infinite, not_number, infinity, is_digit, digits_on, is_minus, after_sign, after_digits, after_whole, unsigned, signed, bits_of, numeral_bits}
 use Rattle.boost.specs.declared.numeral.Answer.{Answer}
 use Rattle.boost.specs.declared.numeral.Answer.TheVariants.{Refused, Bits}
 use Rattle.boost.specs.Numeral.{answer_of, by_digits}
@@ -97,12 +97,12 @@ w_infinity = 105 ∷ 110 ∷ 102 ∷ 105 ∷ 110 ∷ 105 ∷ 116 ∷ 121 ∷ []
 abbrev pub w_nan : List ℕ
 w_nan = 110 ∷ 97 ∷ 110 ∷ []
 
-by_words : (s : List ℕ) (x y z : Bool) → same (lowercase s) w_inf ≡ x → same (lowercase s) w_infinity ≡ y → same (lowercase s) w_nan ≡ z → unsigned s ≡ cond (x || y) infinite (cond z notNumber (by_digits s))
+by_words : (s : List ℕ) (x y z : Bool) → same (lowercase s) w_inf ≡ x → same (lowercase s) w_infinity ≡ y → same (lowercase s) w_nan ≡ z → unsigned s ≡ cond (x || y) infinite (cond z not_number (by_digits s))
 unfolding unsigned ascii
 by_words s x y z p q r =
-    ap (λ (b : Bool). cond (b || same (lowercase s) w_infinity) infinite (cond (same (lowercase s) w_nan) notNumber (by_digits s))) p
-    ∙ ap (λ (b : Bool). cond (x || b) infinite (cond (same (lowercase s) w_nan) notNumber (by_digits s))) q
-    ∙ ap (λ (b : Bool). cond (x || y) infinite (cond b notNumber (by_digits s))) r
+    ap (λ (b : Bool). cond (b || same (lowercase s) w_infinity) infinite (cond (same (lowercase s) w_nan) not_number (by_digits s))) p
+    ∙ ap (λ (b : Bool). cond (x || b) infinite (cond (same (lowercase s) w_nan) not_number (by_digits s))) q
+    ∙ ap (λ (b : Bool). cond (x || y) infinite (cond b not_number (by_digits s))) r
 
 pub word_inf : (m : Bool) (s : List ℕ) (r : Answer) → true ≡ same (lowercase s) w_inf → r ≡ Bits (signed m infinity) → r ≡ answer_of (bits_of m (unsigned s))
 word_inf m s r e w = carry m (unsigned s) infinite r (by_words s true (same (lowercase s) w_infinity) (same (lowercase s) w_nan) (sym e) refl refl) w
@@ -111,7 +111,7 @@ pub word_infinity : (m : Bool) (s : List ℕ) (r : Answer) → false ≡ same (l
 word_infinity m s r e f w = carry m (unsigned s) infinite r (by_words s false true (same (lowercase s) w_nan) (sym e) (sym f) refl) w
 
 pub word_nan : (m : Bool) (s : List ℕ) → false ≡ same (lowercase s) w_inf → false ≡ same (lowercase s) w_infinity → true ≡ same (lowercase s) w_nan → Bits 0x7fc0_0000 ≡ answer_of (bits_of m (unsigned s))
-word_nan m s e f g = carry m (unsigned s) notNumber (Bits 0x7fc0_0000) (by_words s false false true (sym e) (sym f) (sym g)) refl
+word_nan m s e f g = carry m (unsigned s) not_number (Bits 0x7fc0_0000) (by_words s false false true (sym e) (sym f) (sym g)) refl
 
 -- a text that begins with neither digit nor point is no number
 case_bad : (c : ℕ) (s : List ℕ) → 57 < c → by_digits (c ∷ s) ≡ bad
@@ -150,14 +150,14 @@ unfolding unsigned front after after_whole same ascii
 nothing m s h = refuses m (unsigned s) (ap unsigned (drop_of_length-le s h))
 
 -- ---- the number of a refusal, from the answer
-pub number_of_refused : (o : Read ℕ) (e : ℕ) → Refused e ≡ answer_of o → e ≡ refusalOf o
+pub number_of_refused : (o : Read ℕ) (e : ℕ) → Refused e ≡ answer_of o → e ≡ refusal_of o
 number_of_refused (refused x) e h = cc
 number_of_refused (got b) e h = absurd (never e b h)
   where
     never : (e b : ℕ) → Refused e ≡ Bits b → ⊥
     never e b h = let z : ◌≡◌ {A = ℕ} 0 1 = cc in omega arith
 
-pub number_of_bits : (o : Read ℕ) (b : ℕ) → Bits b ≡ answer_of o → 0 ≡ refusalOf o
+pub number_of_bits : (o : Read ℕ) (b : ℕ) → Bits b ≡ answer_of o → 0 ≡ refusal_of o
 number_of_bits (refused x) b h = absurd (never b (number x) h)
   where
     never : (b e : ℕ) → Bits b ≡ Refused e → ⊥
@@ -168,11 +168,11 @@ number_of_bits (got c) b h = refl
 module _ (s : List ℕ) where
   pub fits : length s ≤ 40 → numeral_bits s ≡ bits_of (is_minus s) (unsigned (after_sign s))
   unfolding numeral_bits
-  fits h = ap (λ (b : Bool). need b (faulty longNumeral 0) (bits_of (is_minus s) (unsigned (after_sign s)))) (is_true (leb (length s) 40) (le→leb (length s) 40 h))
+  fits h = ap (λ (b : Bool). need b (faulty long_numeral 0) (bits_of (is_minus s) (unsigned (after_sign s)))) (is_true (leb (length s) 40) (le→leb (length s) 40 h))
 
   pub too_long : 40 < length s → Refused 17 ≡ answer_of (numeral_bits s)
   unfolding numeral_bits
-  too_long h = sym (ap (λ (b : Bool). answer_of (need b (faulty longNumeral 0) (bits_of (is_minus s) (unsigned (after_sign s))))) (is_false (leb (length s) 40) (lt→nleb (length s) 40 h)))
+  too_long h = sym (ap (λ (b : Bool). answer_of (need b (faulty long_numeral 0) (bits_of (is_minus s) (unsigned (after_sign s))))) (is_false (leb (length s) 40) (lt→nleb (length s) 40 h)))
 
   -- by what stands behind the sign
   module _ (m : Bool) (k : ℕ) (h : length s ≤ 40) (e : m ≡ is_minus s) (f : drop k s ≡ after_sign s) where
@@ -182,30 +182,30 @@ module _ (s : List ℕ) where
     pub by_sign : (r : Answer) → r ≡ answer_of (bits_of m (unsigned (take (length s - k) (drop k s)))) → r ≡ answer_of (numeral_bits s)
     by_sign r w = w ∙ ap answer_of parts
 
-    pub fault_by_sign : (r : ℕ) → r ≡ refusalOf (bits_of m (unsigned (take (length s - k) (drop k s)))) → r ≡ refusalOf (numeral_bits s)
-    fault_by_sign r w = w ∙ ap (λ (o : Read ℕ). refusalOf o) parts
+    pub fault_by_sign : (r : ℕ) → r ≡ refusal_of (bits_of m (unsigned (take (length s - k) (drop k s)))) → r ≡ refusal_of (numeral_bits s)
+    fault_by_sign r w = w ∙ ap (λ (o : Read ℕ). refusal_of o) parts
 
-  pub too_long_fault : 40 < length s → 17 ≡ refusalOf (numeral_bits s)
+  pub too_long_fault : 40 < length s → 17 ≡ refusal_of (numeral_bits s)
   unfolding numeral_bits
-  too_long_fault h = sym (ap (λ (b : Bool). refusalOf (need b (faulty longNumeral 0) (bits_of (is_minus s) (unsigned (after_sign s))))) (is_false (leb (length s) 40) (lt→nleb (length s) 40 h)))
+  too_long_fault h = sym (ap (λ (b : Bool). refusal_of (need b (faulty long_numeral 0) (bits_of (is_minus s) (unsigned (after_sign s))))) (is_false (leb (length s) 40) (lt→nleb (length s) 40 h)))
 
 -- ---- a refusal asks for no sign
-any_sign : (m n : Bool) (o : Numeral) → refusalOf (bits_of m o) ≡ refusalOf (bits_of n o)
+any_sign : (m n : Bool) (o : Numeral) → refusal_of (bits_of m o) ≡ refusal_of (bits_of n o)
 any_sign m n bad = refl
 any_sign m n infinite = refl
-any_sign m n notNumber = refl
+any_sign m n not_number = refl
 any_sign m n (decimal d u f) = refl
 
-pub word_refused : (m : Bool) (o : Numeral) (e : ℕ) → Refused e ≡ answer_of (bits_of false o) → e ≡ refusalOf (bits_of m o)
+pub word_refused : (m : Bool) (o : Numeral) (e : ℕ) → Refused e ≡ answer_of (bits_of false o) → e ≡ refusal_of (bits_of m o)
 word_refused m o e h = number_of_refused (bits_of false o) e h ∙ any_sign false m o
 
-pub word_taken : (m : Bool) (o : Numeral) (b : ℕ) → Bits b ≡ answer_of (bits_of false o) → 0 ≡ refusalOf (bits_of m o)
+pub word_taken : (m : Bool) (o : Numeral) (b : ℕ) → Bits b ≡ answer_of (bits_of false o) → 0 ≡ refusal_of (bits_of m o)
 word_taken m o b h = number_of_bits (bits_of false o) b h ∙ any_sign false m o
 
-pub digits_refusal : (m : Bool) (s : List ℕ) (r : ℕ) → 0 < length s → get_or s 0 0 ≤ 57 → r ≡ refusalOf (bits_of m (by_digits s)) → r ≡ refusalOf (bits_of m (unsigned s))
-digits_refusal m s r h k e = e ∙ ap (λ (n : Numeral). refusalOf (bits_of m n)) (sym (digit_first s h k))
+pub digits_refusal : (m : Bool) (s : List ℕ) (r : ℕ) → 0 < length s → get_or s 0 0 ≤ 57 → r ≡ refusal_of (bits_of m (by_digits s)) → r ≡ refusal_of (bits_of m (unsigned s))
+digits_refusal m s r h k e = e ∙ ap (λ (n : Numeral). refusal_of (bits_of m n)) (sym (digit_first s h k))
 
-pub nothing_fault : (m : Bool) (s : List ℕ) → length s ≤ 0 → 13 ≡ refusalOf (bits_of m (unsigned s))
+pub nothing_fault : (m : Bool) (s : List ℕ) → length s ≤ 0 → 13 ≡ refusal_of (bits_of m (unsigned s))
 nothing_fault m s h = number_of_refused (bits_of m (unsigned s)) 13 (nothing m s h)
 
 -- ---- a sign

@@ -4,7 +4,7 @@
 ghost use Rattle.std.specs.Prelude.{◌≡◌, Bool, true, false, ℕ, ◌<◌, ◌≤◌, length, drop, get_or};
 ghost use Rattle.rules.specs.Bytes.{same};
 ghost use Rattle.rules.specs.Analysis.{lowercase};
-ghost use Rattle.rules.specs.Reading.{number_of as refusalOf};
+ghost use Rattle.rules.specs.Reading.{number_of as refusal_of};
 ghost use Rattle.rules.specs.Numerals.{infinity, is_minus, after_sign, exponent, after_digits, unsigned, signed, bits_of, numeral_bits};
 ghost use Rattle.boost.specs.Numeral.{answer_of, is_point, by_digits, Scaling, DigitsOf};
 
@@ -234,7 +234,7 @@ pub fn numeral(text: &[u8]) -> Answer
 // The refusal of a text that begins with neither digit nor point.
 fn word_fault(s: &[u8]) -> u8
     requires { 57 < get_or s.now 0 0 }
-    ensures { (m : Bool) → result ≡ refusalOf (bits_of m (unsigned s.now)) }
+    ensures { (m : Bool) → result ≡ refusal_of (bits_of m (unsigned s.now)) }
 {
     match word(false, s) {
         Answer::Refused(e) => e,
@@ -245,7 +245,7 @@ fn word_fault(s: &[u8]) -> u8
 // The refusal of one that begins with a digit or a point: by what stands where, and no pattern is made.
 fn digits_fault(s: &[u8]) -> u8
     requires { length s.now ≤ 40 }
-    ensures { (m : Bool) → result ≡ refusalOf (bits_of m (by_digits s.now)) }
+    ensures { (m : Bool) → result ≡ refusal_of (bits_of m (by_digits s.now)) }
 {
     let d = digits_of(s);
     if d.point + (d.places as usize) == 0 {
@@ -260,7 +260,7 @@ fn digits_fault(s: &[u8]) -> u8
 
 fn unsigned_fault(s: &[u8]) -> u8
     requires { length s.now ≤ 40 }
-    ensures { (m : Bool) → result ≡ refusalOf (bits_of m (unsigned s.now)) }
+    ensures { (m : Bool) → result ≡ refusal_of (bits_of m (unsigned s.now)) }
 {
     if 0 < s.len() {
         if b'9' < s[0] {
@@ -273,7 +273,7 @@ fn unsigned_fault(s: &[u8]) -> u8
 
 // The refusal of a text that is no numeral, and 0 for a numeral. Its bits are not worked out.
 pub fn fault(text: &[u8]) -> u8
-    ensures { result ≡ refusalOf (numeral_bits text.now) }
+    ensures { result ≡ refusal_of (numeral_bits text.now) }
 {
     if is_long(text) {
         return LONG_NUMERAL;

@@ -9,11 +9,11 @@ use mathlib.Core.Logic.{◌⊎◌, inl, inr}
 use lib.Dec.{leb, eqb}
 use lib.ListN.{length}
 use borrow.Author.Tests.{eq-eqb, ne_eqb, le-leb, lt-leb, lt-ltb, le-ltb}
-use Rattle.rules.specs.Numbers.{Fault, Refusal, number, moved, faulty, Read, got, refused, need, on_read, and_then, fuzzyTerm, sloppyPhrase, open_bracket, badNumeral, noNumeral, longNumeral, numeral_most, longField, manyBrackets, unexpectedEnd, unexpectedToken, field_most}
+use Rattle.rules.specs.Numbers.{Fault, Refusal, number, moved, faulty, Read, got, refused, need, on_read, and_then, fuzzy_term, sloppy_phrase, open_bracket, bad_numeral, no_numeral, long_numeral, numeral_most, long_field, many_brackets, unexpected_end, unexpected_token, field_most}
 use Rattle.rules.specs.Query.{Query, boost, Clauses, none}
 use Rattle.rules.specs.Lexing.{Token}
 use Rattle.rules.specs.Analysis.{tokenize}
-use Rattle.rules.specs.Numerals.{Numeral, bad, infinite, notNumber, decimal, is_minus, after_sign, unsigned, bits_of, numeral_bits}
+use Rattle.rules.specs.Numerals.{Numeral, bad, infinite, not_number, decimal, is_minus, after_sign, unsigned, bits_of, numeral_bits}
 use Rattle.rules.specs.Setup.{Setup, analyzer_of}
 use Rattle.rules.specs.Parsing.{Made, nothing, made, Found, found, on_made, Kept, kept, token_of, is_at, text_at, term_of, phrase_of, boost_at, plain_at, quoted_at, closed_at, bracket_at, body_at, clause_at, query_found, query_of, parse_clauses}
 use Rattle.rules.proofs.Stored.Refusals.{no_got}
@@ -45,7 +45,7 @@ module _ {room : List ℕ} {n : ℕ} (R : Rowed room n) (i from analyzer : ℕ) 
   }
 
   pub start_long : is_named (tokens_of room n) i ≡ true → field_most < length (token_at room i).text
-      → (st : Setup) (sub : List ℕ → ℕ → ℕ → Read Found) (f : List ℕ) (d : ℕ) → clause_at st (tokens_of room n) sub f d i ≡ refused (faulty longField i)
+      → (st : Setup) (sub : List ℕ → ℕ → ℕ → Read Found) (f : List ℕ) (d : ℕ) → clause_at st (tokens_of room n) sub f d i ≡ refused (faulty long_field i)
   unfolding clause_at
   start_long e h st sub f d =
       let l : leb (length (text_at (tokens_of room n) i)) field_most ≡ false = rw (text_is room n i (omega (arith, named_in room n i e))) (lt-leb _ _ h) in
@@ -88,11 +88,11 @@ pub numeral_faulty : (s : List ℕ) {r : Refusal} → numeral_bits s ≡ refused
 unfolding numeral_bits
 numeral_faulty s {r} e = by (leb (length s) numeral_most) (is_minus s) (unsigned (after_sign s)) e
   where
-    by : (b minus : Bool) (x : Numeral) → need b (faulty longNumeral 0) (bits_of minus x) ≡ refused r → (f : Fault) × (r ≡ faulty f 0)
-    by false minus x e = (longNumeral, cc)
-    by true minus bad e = (badNumeral, cc)
+    by : (b minus : Bool) (x : Numeral) → need b (faulty long_numeral 0) (bits_of minus x) ≡ refused r → (f : Fault) × (r ≡ faulty f 0)
+    by false minus x e = (long_numeral, cc)
+    by true minus bad e = (bad_numeral, cc)
     by true minus infinite e = no_got (sym e)
-    by true minus notNumber e = no_got (sym e)
+    by true minus not_number e = no_got (sym e)
     by true minus (decimal d u n) e = no_got (sym e)
 
 module _ (st : Setup) (ts : List Token) (i : ℕ) where
@@ -100,7 +100,7 @@ module _ (st : Setup) (ts : List Token) (i : ℕ) where
   unfolding boost_at
   boost_none m e = rw e
 
-  pub boost_missing : (m : Made) → is_at 11 ts i ≡ true → is_at 1 ts (i + 1) ≡ false → boost_at st ts m i ≡ refused (faulty noNumeral (i + 1))
+  pub boost_missing : (m : Made) → is_at 11 ts i ≡ true → is_at 1 ts (i + 1) ≡ false → boost_at st ts m i ≡ refused (faulty no_numeral (i + 1))
   unfolding boost_at
   boost_missing m e f = rw (e, f)
 
@@ -124,7 +124,7 @@ boosted_length b (made q) len r e h = h.1.1 (λ z. made_not q (sym e ∙ z)) ∙
 -- ---- terms and quotes
 
 module _ (st : Setup) (ts : List Token) (f : List ℕ) (i : ℕ) where
-  pub plain_fuzzy : is_at 12 ts (i + 1) ≡ true → plain_at st ts f i ≡ refused (faulty fuzzyTerm (i + 1))
+  pub plain_fuzzy : is_at 12 ts (i + 1) ≡ true → plain_at st ts f i ≡ refused (faulty fuzzy_term (i + 1))
   unfolding plain_at
   plain_fuzzy e = rw e
 
@@ -132,7 +132,7 @@ module _ (st : Setup) (ts : List Token) (f : List ℕ) (i : ℕ) where
   unfolding plain_at
   plain_goes e = rw e
 
-  pub quoted_sloppy : is_at 12 ts (i + 1) ≡ true → quoted_at st ts f i ≡ refused (faulty sloppyPhrase (i + 1))
+  pub quoted_sloppy : is_at 12 ts (i + 1) ≡ true → quoted_at st ts f i ≡ refused (faulty sloppy_phrase (i + 1))
   unfolding quoted_at
   quoted_sloppy e = rw e
 
@@ -212,16 +212,16 @@ module _ (st : Setup) (ts : List Token) (sub : List ℕ → ℕ → ℕ → Read
     unfolding body_at bracket_at
     body_open e h = rw (at_other 1 n1, at_kind 9 e, lt-ltb d 24 h, add-one d)
 
-    pub body_deep : t ≡ 9 → 24 ≤ d → body_at st ts sub f d i ≡ refused (faulty manyBrackets i)
+    pub body_deep : t ≡ 9 → 24 ≤ d → body_at st ts sub f d i ≡ refused (faulty many_brackets i)
     unfolding body_at bracket_at
     body_deep e h = rw (at_other 1 n1, at_kind 9 e, le-ltb d 24 h)
 
     module _ (n9 : t ≡ 9 → ⊥) where
-      pub body_end : (t ≡ 2 → ⊥) → t ≡ 0 → body_at st ts sub f d i ≡ refused (faulty unexpectedEnd i)
+      pub body_end : (t ≡ 2 → ⊥) → t ≡ 0 → body_at st ts sub f d i ≡ refused (faulty unexpected_end i)
       unfolding body_at
       body_end n2 e = rw (at_other 1 n1, at_other 9 n9, at_other 2 n2, at_kind 0 e)
 
-      pub body_other : (t ≡ 2 → ⊥) → (t ≡ 0 → ⊥) → body_at st ts sub f d i ≡ refused (faulty unexpectedToken i)
+      pub body_other : (t ≡ 2 → ⊥) → (t ≡ 0 → ⊥) → body_at st ts sub f d i ≡ refused (faulty unexpected_token i)
       unfolding body_at
       body_other n2 n0 = rw (at_other 1 n1, at_other 9 n9, at_other 2 n2, at_other 0 n0)
 

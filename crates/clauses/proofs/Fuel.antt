@@ -6,7 +6,7 @@ use mathlib.Core.List.{List}
 use lib.ListN.{length}
 use lib.Dec.{leb, ltb}
 use native.Mathlib.Omega.{arith}
-use Rattle.rules.specs.Numbers.{Refusal, Read, got, refused, need, on_read, and_then, faulty, unexpectedEnd, longField, manyBrackets, field_most}
+use Rattle.rules.specs.Numbers.{Refusal, Read, got, refused, need, on_read, and_then, faulty, unexpected_end, long_field, many_brackets, field_most}
 use Rattle.rules.specs.Query.{Clauses, none}
 use Rattle.rules.specs.Lexing.{Token}
 use Rattle.rules.specs.Setup.{Setup}
@@ -44,11 +44,11 @@ up_to run {r} step k (suc y) e = subst (λ (x : ℕ). run x ≡ got r) (omega ar
 module _ (st : Setup) (ts : List Token) {sub sub' : List ℕ → ℕ → ℕ → Read Found} (up : (f : List ℕ) (d i : ℕ) (r : Found) → sub f d i ≡ got r → sub' f d i ≡ got r) where
   body_up : (f : List ℕ) (d i : ℕ) {r : Found} → body_at st ts sub f d i ≡ got r → body_at st ts sub' f d i ≡ got r
   unfolding body_at bracket_at
-  body_up f d i = cond_up (is_at 1 ts i) (λ e. e) (cond_up (is_at 9 ts i) (need_up (ltb d 24) (faulty manyBrackets i) (then_up (sub f (suc d) (i + 1)) (λ a e. up f (suc d) (i + 1) a e) (λ a e. e))) (λ e. e))
+  body_up f d i = cond_up (is_at 1 ts i) (λ e. e) (cond_up (is_at 9 ts i) (need_up (ltb d 24) (faulty many_brackets i) (then_up (sub f (suc d) (i + 1)) (λ a e. up f (suc d) (i + 1) a e) (λ a e. e))) (λ e. e))
 
   clause_up : (f : List ℕ) (d i : ℕ) {r : Found} → clause_at st ts sub f d i ≡ got r → clause_at st ts sub' f d i ≡ got r
   unfolding clause_at
-  clause_up f d i = cond_up (is_at 1 ts i && is_at 3 ts (i + 1)) (need_up (leb (length (text_at ts i)) field_most) (faulty longField i) (body_up (text_at ts i) d (i + 2))) (body_up f d i)
+  clause_up f d i = cond_up (is_at 1 ts i && is_at 3 ts (i + 1)) (need_up (leb (length (text_at ts i)) field_most) (faulty long_field i) (body_up (text_at ts i) d (i + 2))) (body_up f d i)
 
 -- ---- a query's clauses
 
@@ -67,7 +67,7 @@ module _ (st : Setup) (ts : List Token) where
       let m = modifier_at ts j in
       cond (stops_at ts i) (got (kept cs i)) (and_then (clause_run st ts f d (after_modifier m j) k) (add_clause st.operator c m (λ ds h. parse_clauses st ts k f d ds h) cs))
 
-  none_read : (f : List ℕ) (d : ℕ) (cs : Clauses) (i : ℕ) → parse_clauses st ts zero f d cs i ≡ refused (faulty unexpectedEnd i)
+  none_read : (f : List ℕ) (d : ℕ) (cs : Clauses) (i : ℕ) → parse_clauses st ts zero f d cs i ≡ refused (faulty unexpected_end i)
   unfolding parse_clauses
   none_read f d cs i = refl
 

@@ -12,7 +12,7 @@ use lib.Dec.{ltb}
 use lib.ListN.{length, take, drop}
 use lib.Seq.{length-take-le}
 use borrow.Author.Tests.{eqb-true, le-ltb, lt-ltb}
-use Rattle.rules.specs.Numbers.{Refusal, Read, got, refused, need, on_read, and_then, faulty, manyBrackets, unexpectedEnd, unexpectedToken}
+use Rattle.rules.specs.Numbers.{Refusal, Read, got, refused, need, on_read, and_then, faulty, many_brackets, unexpected_end, unexpected_token}
 use Rattle.rules.specs.Query.{Clauses, none}
 use Rattle.rules.specs.Lexing.{Token}
 use Rattle.rules.specs.Analysis.{tokenize}
@@ -100,7 +100,7 @@ module _ {room : List ℕ} {n i from analyzer from' analyzer' i' : ℕ} (S : Sta
   leaf_is : is_at 9 us i' ≡ false → (k : ℕ) → body_at st us (sub k) g depth i' ≡ got (found m j)
       → (cond (is_at 1 us i') (plain_at st us g i') (quoted_at st us g i') ≡ got (found m j)) × ((is_at 1 us i' ≡ true) ⊎ (is_at 2 us i' ≡ true))
   unfolding body_at
-  leaf_is e k w = leaf_by (is_at 1 us i') (is_at 9 us i') (is_at 2 us i') (is_at 0 us i') (plain_at st us g i') (bracket_at st us (sub k) g depth i') (quoted_at st us g i') (faulty unexpectedEnd i') (faulty unexpectedToken i') w e
+  leaf_is e k w = leaf_by (is_at 1 us i') (is_at 9 us i') (is_at 2 us i') (is_at 0 us i') (plain_at st us g i') (bracket_at st us (sub k) g depth i') (quoted_at st us g i') (faulty unexpected_end i') (faulty unexpected_token i') w e
 
   pub clause_leaf : is_at 9 (tokens_of room n) i' ≡ false → LeafToWrite room n default operator from' analyzer' i' at size st m j × (i' < n)
   unfolding us g
@@ -111,7 +111,7 @@ module _ {room : List ℕ} {n i from analyzer from' analyzer' i' : ℕ} (S : Sta
       )
 
   bracket_is : is_at 9 us i' ≡ true → (k : ℕ) → W.is.0 ≤ k
-      → need (ltb depth 24) (faulty manyBrackets i') (and_then (on_read query_found (parse_clauses st us k g (depth + 1) none (i' + 1))) (closed_at st us)) ≡ got (found m j)
+      → need (ltb depth 24) (faulty many_brackets i') (and_then (on_read query_found (parse_clauses st us k g (depth + 1) none (i' + 1))) (closed_at st us)) ≡ got (found m j)
   unfolding body_at bracket_at sub
   bracket_is e k h = rw add-one (rw (other_kind us i' 9 1 (λ z. omega arith) e, e) at (body_is k h))
 

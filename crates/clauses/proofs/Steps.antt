@@ -10,7 +10,7 @@ use Rattle.rules.specs.Numbers.{Refusal, faulty, Read, got, refused, and_then}
 use Rattle.rules.specs.Query.{Clauses, none, clause}
 use Rattle.rules.specs.Lexing.{Token}
 use Rattle.rules.specs.Setup.{Setup}
-use Rattle.rules.specs.Parsing.{Made, nothing, made, found, Kept, kept, stops_at, Conjunction, unjoined, joinedByAnd, joinedByOr, Modifier, unmodified, required, prohibited, conjunction_at, after_conjunction, modifier_at, after_modifier, add_clause, parse_clauses}
+use Rattle.rules.specs.Parsing.{Made, nothing, made, found, Kept, kept, stops_at, Conjunction, unjoined, joined_by_and, joined_by_or, Modifier, unmodified, required, prohibited, conjunction_at, after_conjunction, modifier_at, after_modifier, add_clause, parse_clauses}
 use Rattle.counted.specs.Kinds.{conjunction_of, modifier_of, is_kept, count_of, bytes_of, made_length, with_made, Sums}
 use Rattle.row.specs.Row.{tokens_of}
 use Rattle.clauses.specs.Measured.{Says, place_at, Rowed, clause_run, clauses_run, MeansFound, WithinClause, MeantClause, MeantClauses}
@@ -29,8 +29,8 @@ pub record Lead (ts : List Token) (cs : Clauses) (i c j m k : ℕ) : Type 0 wher
 
 past_conjunction : (c : Conjunction) (i : ℕ) → (i ≤ after_conjunction c i) × (after_conjunction c i ≤ i + 1)
 past_conjunction unjoined i = omega arith
-past_conjunction joinedByAnd i = omega arith
-past_conjunction joinedByOr i = omega arith
+past_conjunction joined_by_and i = omega arith
+past_conjunction joined_by_or i = omega arith
 
 past_modifier : (m : Modifier) (i : ℕ) → (i ≤ after_modifier m i) × (after_modifier m i ≤ i + 1)
 past_modifier unmodified i = omega arith

@@ -1,6 +1,6 @@
 -- Terms and phrases as the code measures and writes them: by the tokens, one after the other.
 use Rattle.std.specs.Prelude.{◌≡◌, ℕ, ◌+◌, List, [], ◌∷◌, ◌++◌, length, Bool, true, false}
-use Rattle.rules.specs.Numbers.{Fault, Read, fuzzyTerm, sloppyPhrase}
+use Rattle.rules.specs.Numbers.{Fault, Read, fuzzy_term, sloppy_phrase}
 use Rattle.rules.specs.Bytes.{part}
 use Rattle.rules.specs.Query.{Word, word, term}
 use Rattle.rules.specs.Lexing.{Token, term_kind, quoted_kind}
@@ -29,8 +29,8 @@ leaf_kind true = term_kind
 leaf_kind false = quoted_kind
 
 abbrev pub leaf_fault : Bool → Fault
-leaf_fault true = fuzzyTerm
-leaf_fault false = sloppyPhrase
+leaf_fault true = fuzzy_term
+leaf_fault false = sloppy_phrase
 
 abbrev pub leaf_at : Bool → Setup → List Token → List ℕ → ℕ → Read Found
 leaf_at true st ts f i = plain_at st ts f i

@@ -1,6 +1,6 @@
 -- Where a clause begins behind a field name, and how a boost behind it is bounded.
 use Rattle.std.specs.Prelude.{◌≡◌, ℕ, ◌+◌, ◌≤◌, List}
-use Rattle.rules.specs.Numbers.{Read, refused, faulty, longField}
+use Rattle.rules.specs.Numbers.{Read, refused, faulty, long_field}
 use Rattle.rules.specs.Lexing.{Token}
 use Rattle.rules.specs.Setup.{Setup}
 use Rattle.rules.specs.Parsing.{Found, clause_at, body_at}
@@ -23,7 +23,7 @@ pub record Started (room : List ℕ) (n i from analyzer from' analyzer' i' : ℕ
 
 abbrev pub Starts : List ℕ → ℕ → ℕ → ℕ → ℕ → Start → Type 0
 Starts room n i from analyzer Long =
-    (st : Setup) (sub : List ℕ → ℕ → ℕ → Read Found) (f : List ℕ) (d : ℕ) → clause_at st (tokens_of room n) sub f d i ≡ refused (faulty longField i)
+    (st : Setup) (sub : List ℕ → ℕ → ℕ → Read Found) (f : List ℕ) (d : ℕ) → clause_at st (tokens_of room n) sub f d i ≡ refused (faulty long_field i)
 Starts room n i from analyzer (At from' analyzer' i') = Started room n i from analyzer from' analyzer' i'
 
 -- a boost adds seven bytes at most, and the clause ends at i or behind the boost

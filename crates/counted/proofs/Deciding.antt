@@ -7,10 +7,10 @@ use native.Mathlib.Omega.{arith}
 use lib.ListN.{length, length-append}
 use lib.Dec.{eqb, ltb}
 use borrow.Author.Tests.{eq-eqb, ne_eqb}
-use Rattle.rules.specs.Query.{Kind, must, should, mustNot, filter, Query, Clauses, none, clause}
+use Rattle.rules.specs.Query.{Kind, must, should, must_not, filter, Query, Clauses, none, clause}
 use Rattle.rules.specs.Stored.{kind_tag}
 use Rattle.rules.specs.Lexing.{Token}
-use Rattle.rules.specs.Parsing.{Made, nothing, made, token_of, is_at, stops_at, Conjunction, unjoined, joinedByAnd, joinedByOr, required, prohibited, conjunction_at, after_conjunction, modifier_at, after_modifier, kind_before, kind_after, touched}
+use Rattle.rules.specs.Parsing.{Made, nothing, made, token_of, is_at, stops_at, Conjunction, unjoined, joined_by_and, joined_by_or, required, prohibited, conjunction_at, after_conjunction, modifier_at, after_modifier, kind_before, kind_after, touched}
 use Rattle.rules.proofs.Bools.{clash}
 use Rattle.rules.proofs.Stored.Sizes.{length_encode}
 use Rattle.counted.specs.Kinds.{conjunction_of, modifier_of, is_kept, count_of, last_tag, bytes_of, is_alone, made_length, with_made, Sums}
@@ -23,7 +23,7 @@ after_none x i e = (rw (eq-eqb x 0 e), rw (eq-eqb x 0 e))
 pub after_some : (x i : ℕ) → (x ≡ 0 → ⊥) → (i + 1 ≡ after_conjunction (conjunction_of x) i) × (i + 1 ≡ after_modifier (modifier_of x) i)
 after_some x i e = (rw (ne_eqb x 0 e) (conj (eqb x 1)), rw (ne_eqb x 0 e) (mods (eqb x 1)))
   where
-    conj : (b : Bool) → i + 1 ≡ after_conjunction (cond b joinedByAnd joinedByOr) i
+    conj : (b : Bool) → i + 1 ≡ after_conjunction (cond b joined_by_and joined_by_or) i
     conj true = refl
     conj false = refl
 
@@ -36,7 +36,7 @@ after_some x i e = (rw (ne_eqb x 0 e) (conj (eqb x 1)), rw (ne_eqb x 0 e) (mods 
 no_tag : (k : Kind) → kind_tag k ≡ 0 → ⊥
 no_tag must e = omega arith
 no_tag should e = omega arith
-no_tag mustNot e = omega arith
+no_tag must_not e = omega arith
 no_tag filter e = omega arith
 
 module _ (o c tag : ℕ) where
@@ -55,12 +55,12 @@ module _ (o c tag : ℕ) where
   before_not et none e = absurd (omega arith)
   before_not et (clause must q cs) e = absurd (omega arith)
   before_not et (clause should q cs) e = absurd (omega arith)
-  before_not et (clause mustNot q cs) e = et ∙ same (conjunction_of c)
+  before_not et (clause must_not q cs) e = et ∙ same (conjunction_of c)
     where
-      same : (j : Conjunction) → 0x22 ≡ kind_tag (kind_before o j mustNot)
+      same : (j : Conjunction) → 0x22 ≡ kind_tag (kind_before o j must_not)
       same unjoined = refl
-      same joinedByAnd = refl
-      same joinedByOr = refl
+      same joined_by_and = refl
+      same joined_by_or = refl
   before_not et (clause filter q cs) e = absurd (omega arith)
 
   module _ (some : tag ≡ 0 → ⊥) (other : tag ≡ 0x22 → ⊥) where
@@ -69,11 +69,11 @@ module _ (o c tag : ℕ) where
     before_and ec none e = absurd (some e)
     before_and ec (clause must q cs) e = rw ec
     before_and ec (clause should q cs) e = rw ec
-    before_and ec (clause mustNot q cs) e = absurd (other e)
+    before_and ec (clause must_not q cs) e = absurd (other e)
     before_and ec (clause filter q cs) e = rw ec
 
     module _ (joined : c ≡ 0 → ⊥) (or : c ≡ 1 → ⊥) where
-      is_or : conjunction_of c ≡ joinedByOr
+      is_or : conjunction_of c ≡ joined_by_or
       is_or = rw (ne_eqb c 0 joined, ne_eqb c 1 or)
 
       pub before_or_and : o ≡ 1 → (cs : Clauses) → tag ≡ last_tag cs → 0x21 ≡ last_tag (touched o (conjunction_of c) cs)
@@ -81,7 +81,7 @@ module _ (o c tag : ℕ) where
       before_or_and eo none e = absurd (some e)
       before_or_and eo (clause must q cs) e = rw (is_or, eq-eqb o 1 eo)
       before_or_and eo (clause should q cs) e = rw is_or
-      before_or_and eo (clause mustNot q cs) e = absurd (other e)
+      before_or_and eo (clause must_not q cs) e = absurd (other e)
       before_or_and eo (clause filter q cs) e = rw (is_or, eq-eqb o 1 eo)
 
       pub before_or : (o ≡ 1 → ⊥) → (cs : Clauses) → tag ≡ last_tag cs → tag ≡ last_tag (touched o (conjunction_of c) cs)
@@ -89,7 +89,7 @@ module _ (o c tag : ℕ) where
       before_or eo none e = e
       before_or eo (clause must q cs) e = rw (is_or, ne_eqb o 1 eo) e
       before_or eo (clause should q cs) e = rw is_or e
-      before_or eo (clause mustNot q cs) e = absurd (other e)
+      before_or eo (clause must_not q cs) e = absurd (other e)
       before_or eo (clause filter q cs) e = rw (is_or, ne_eqb o 1 eo) e
 
 -- ---- clauses that are kept
@@ -134,11 +134,11 @@ unfolding count_of
 alone_one tag none s e = absurd (let z = s.counted in omega arith)
 alone_one tag (clause must q none) s e = rw s.last
 alone_one tag (clause should q none) s e = rw s.last
-alone_one tag (clause mustNot q none) s e = rw s.last
+alone_one tag (clause must_not q none) s e = rw s.last
 alone_one tag (clause filter q none) s e = rw s.last
 alone_one tag (clause must q (clause j p cs)) s e = absurd (let z = s.counted in omega arith)
 alone_one tag (clause should q (clause j p cs)) s e = absurd (let z = s.counted in omega arith)
-alone_one tag (clause mustNot q (clause j p cs)) s e = absurd (let z = s.counted in omega arith)
+alone_one tag (clause must_not q (clause j p cs)) s e = absurd (let z = s.counted in omega arith)
 alone_one tag (clause filter q (clause j p cs)) s e = absurd (let z = s.counted in omega arith)
 
 pub alone_not : (cs : Clauses) {count tag bytes : ℕ} → Sums cs count tag bytes → (count ≡ 1 → ⊥) → false ≡ is_alone cs
@@ -146,11 +146,11 @@ unfolding count_of
 alone_not none s e = refl
 alone_not (clause must q none) s e = absurd (e s.counted)
 alone_not (clause should q none) s e = absurd (e s.counted)
-alone_not (clause mustNot q none) s e = refl
+alone_not (clause must_not q none) s e = refl
 alone_not (clause filter q none) s e = refl
 alone_not (clause must q (clause j p cs)) s e = refl
 alone_not (clause should q (clause j p cs)) s e = refl
-alone_not (clause mustNot q (clause j p cs)) s e = refl
+alone_not (clause must_not q (clause j p cs)) s e = refl
 alone_not (clause filter q (clause j p cs)) s e = refl
 
 -- ---- what stands at a token, by its kind

@@ -6,7 +6,7 @@ use mathlib.Core.List.{◌++◌, append_assoc, append-nil}
 use native.Mathlib.Omega.{arith}
 use lib.ListN.{length}
 use Rattle.rules.specs.Bytes.{part}
-use Rattle.rules.specs.Query.{Kind, must, should, mustNot, filter, Query, boolean, Clauses, none, clause}
+use Rattle.rules.specs.Query.{Kind, must, should, must_not, filter, Query, boolean, Clauses, none, clause}
 use Rattle.rules.specs.Stored.{kind_tag, encode, encodes}
 use Rattle.rules.specs.Parsing.{made, in_order_before, query_of}
 use Rattle.rules.proofs.Bools.{clash}
@@ -28,11 +28,11 @@ unfolding query_of
 alone_is none e = clash refl (sym e)
 alone_is (clause must q none) e = (must, q, refl, refl)
 alone_is (clause should q none) e = (should, q, refl, refl)
-alone_is (clause mustNot q none) e = clash refl (sym e)
+alone_is (clause must_not q none) e = clash refl (sym e)
 alone_is (clause filter q none) e = clash refl (sym e)
 alone_is (clause must q (clause j p cs)) e = clash refl (sym e)
 alone_is (clause should q (clause j p cs)) e = clash refl (sym e)
-alone_is (clause mustNot q (clause j p cs)) e = clash refl (sym e)
+alone_is (clause must_not q (clause j p cs)) e = clash refl (sym e)
 alone_is (clause filter q (clause j p cs)) e = clash refl (sym e)
 
 pub alone_bytes : (k : Kind) (q : Query) → bytes_of (clause k q none) ≡ part (kind_tag k) (encode q)
@@ -44,11 +44,11 @@ unfolding query_of in_order_before
 several_is none k e = clash k refl
 several_is (clause must q none) k e = clash refl e
 several_is (clause should q none) k e = clash refl e
-several_is (clause mustNot q none) k e = refl
+several_is (clause must_not q none) k e = refl
 several_is (clause filter q none) k e = refl
 several_is (clause must q (clause j p cs)) k e = refl
 several_is (clause should q (clause j p cs)) k e = refl
-several_is (clause mustNot q (clause j p cs)) k e = refl
+several_is (clause must_not q (clause j p cs)) k e = refl
 several_is (clause filter q (clause j p cs)) k e = refl
 
 kept_count : (cs : Clauses) → (count_of cs ≡ 0 → ⊥) → is_kept cs ≡ true

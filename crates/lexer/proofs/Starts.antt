@@ -11,7 +11,7 @@ use lib.ListN.{length, get_or, take, drop, length-drop, get_or-eq_default}
 use lib.Seq.{drop-cons, drop-drop, get_or-drop}
 use lib.Dec.{leb, eqb}
 use borrow.Author.Tests.{eq-eqb, ne_eqb, leb-true}
-use Rattle.rules.specs.Numbers.{Fault, fault_number, faulty, rangeBracket, wildcard, chunk_most, Read, got, refused}
+use Rattle.rules.specs.Numbers.{Fault, fault_number, faulty, range_bracket, wildcard, chunk_most, Read, got, refused}
 use Rattle.rules.specs.Bytes.{ascii, some}
 use Rattle.rules.specs.Analysis.{is_letter}
 use Rattle.rules.specs.Lexing.{Piece, piece, start_in, Lexed, lexed, end_kind, term_kind, and_kind, or_kind, is_quote, is_bracket, is_wildcard, term_text, quoted_text, word_kind, word_lexed, term_end, term_from, quoted_from, sign_kind, doubled, token_at}
@@ -49,7 +49,7 @@ module _ (n c : ℕ) (s : List ℕ) where
       here = start_in n (c ∷ s)
 
       after_double : token_at n c s
-          ≡ cond (is_quote c) (quoted_from n here s) (cond (is_bracket c) (refused (faulty rangeBracket here)) (cond (is_wildcard c) (refused (faulty wildcard here)) (term_from n (c ∷ s))))
+          ≡ cond (is_quote c) (quoted_from n here s) (cond (is_bracket c) (refused (faulty range_bracket here)) (cond (is_wildcard c) (refused (faulty wildcard here)) (term_from n (c ∷ s))))
       unfolding token_at double_kind
       after_double = rw (eq-eqb (sign_kind c) 0 sign) (pick (doubled 0x26 c s) (doubled 0x7c c s) _ _ _ double)
         where
@@ -66,10 +66,10 @@ module _ (n c : ℕ) (s : List ℕ) where
         unfolding bad_start
         starts_bad some = rw (after_double, quote) (pick (is_bracket c) (is_wildcard c) _ some)
           where
-            pick : (x y : Bool) (o : Read Lexed) → (cond x (fault_number rangeBracket) (cond y (fault_number wildcard) 0) ≡ 0 → ⊥)
-                → (f : Fault) × (cond x (refused (faulty rangeBracket here)) (cond y (refused (faulty wildcard here)) o) ≡ refused (faulty f here))
-                × (cond x (fault_number rangeBracket) (cond y (fault_number wildcard) 0) ≡ fault_number f)
-            pick true y o n = (rangeBracket, refl, refl)
+            pick : (x y : Bool) (o : Read Lexed) → (cond x (fault_number range_bracket) (cond y (fault_number wildcard) 0) ≡ 0 → ⊥)
+                → (f : Fault) × (cond x (refused (faulty range_bracket here)) (cond y (refused (faulty wildcard here)) o) ≡ refused (faulty f here))
+                × (cond x (fault_number range_bracket) (cond y (fault_number wildcard) 0) ≡ fault_number f)
+            pick true y o n = (range_bracket, refl, refl)
             pick false true o n = (wildcard, refl, refl)
             pick false false o n = absurd (n refl)
 
@@ -77,8 +77,8 @@ module _ (n c : ℕ) (s : List ℕ) where
         unfolding bad_start
         starts_term e = after_double ∙ rw quote (pick (is_bracket c) (is_wildcard c) _ e)
           where
-            pick : (x y : Bool) (o : Read Lexed) → cond x (fault_number rangeBracket) (cond y (fault_number wildcard) 0) ≡ 0
-                → cond x (refused (faulty rangeBracket here)) (cond y (refused (faulty wildcard here)) o) ≡ o
+            pick : (x y : Bool) (o : Read Lexed) → cond x (fault_number range_bracket) (cond y (fault_number wildcard) 0) ≡ 0
+                → cond x (refused (faulty range_bracket here)) (cond y (refused (faulty wildcard here)) o) ≡ o
             pick true y o e = absurd (omega arith)
             pick false true o e = absurd (omega arith)
             pick false false o e = refl

@@ -1,6 +1,6 @@
 -- What reading one token answers.
 use Rattle.std.specs.Prelude.{◌≡◌, Bool, cond, ◌&&◌, ℕ, ◌+◌, ◌≤◌, ◌<◌, List, length, take, drop, leb, eqb}
-use Rattle.rules.specs.Numbers.{Fault, fault_number, faulty, rangeBracket, wildcard, Read, got, refused, chunk_most}
+use Rattle.rules.specs.Numbers.{Fault, fault_number, faulty, range_bracket, wildcard, Read, got, refused, chunk_most}
 use Rattle.rules.specs.Lexing.{Lexed, lexed, end_kind, term_kind, and_kind, or_kind, is_bracket, is_wildcard}
 use Rattle.row.specs.Row.{word_note}
 use Rattle.texts.specs.Texts.{Spelled}
@@ -29,4 +29,4 @@ double_kind c d = cond (eqb c 0x26 && eqb d 0x26) and_kind (cond (eqb c 0x7c && 
 
 -- the number of the refusal of a byte that begins no token, else 0
 unfoldable pub bad_start : ℕ → ℕ
-bad_start c = cond (is_bracket c) (fault_number rangeBracket) (cond (is_wildcard c) (fault_number wildcard) 0)
+bad_start c = cond (is_bracket c) (fault_number range_bracket) (cond (is_wildcard c) (fault_number wildcard) 0)

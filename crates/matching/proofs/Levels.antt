@@ -9,7 +9,7 @@ use lib.Dec.{leb, eqb}
 use mathlib.Core.Logic.{◌⊎◌, inl, inr, ⊎_elim}
 use borrow.Author.Tests.{eqb-true, eq-eqb, ne_eqb, le-leb, leb-true}
 use Rattle.rules.specs.Numbers.{must_tag, should_tag, must_not_tag}
-use Rattle.rules.specs.Query.{Kind, must, should, mustNot, filter, Query, boolean, Clauses, none, clause}
+use Rattle.rules.specs.Query.{Kind, must, should, must_not, filter, Query, boolean, Clauses, none, clause}
 use Rattle.rules.specs.Reading.{kind_of}
 use Rattle.rules.specs.Lists.{Entry}
 use Rattle.rules.specs.Rewriting.{is_needed}
@@ -96,7 +96,7 @@ some_met true x k y n = refl
 some_met false x must y n = refl
 some_met false x should true n = or_r x (le-leb 1 (1 + n) (omega arith))
 some_met false x should false n = ap (λ (m : ℕ). x || leb 1 m) (zero-add n)
-some_met false x mustNot y n = ap (λ (m : ℕ). x || leb 1 m) (zero-add n)
+some_met false x must_not y n = ap (λ (m : ℕ). x || leb 1 m) (zero-add n)
 some_met false x filter y n = refl
 
 module _ (es : List Entry) where

@@ -1,6 +1,6 @@
 -- A Boolean whose clauses are asked one after the other: what it still needs, and what the clauses that are left make of that.
 use Rattle.std.specs.Prelude.{ℕ, ◌-◌, ◌/◌, ◌%◌, List, Bool, true, false, ◌&&◌, ◌||◌, leb, eqb}
-use Rattle.rules.specs.Query.{Kind, must, should, mustNot, filter, Clauses}
+use Rattle.rules.specs.Query.{Kind, must, should, must_not, filter, Clauses}
 use Rattle.rules.specs.Reading.{kind_of}
 use Rattle.rules.specs.Lists.{Entry}
 use Rattle.rules.specs.Matching.{allows, counts_for, any_needed, all_allow, shoulds_true}
@@ -19,7 +19,7 @@ level_of v = record {
 abbrev pub meets : Kind → Bool → Bool
 meets must b = true
 meets should b = b
-meets mustNot b = false
+meets must_not b = false
 meets filter b = true
 
 -- after its clause

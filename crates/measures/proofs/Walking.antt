@@ -10,7 +10,7 @@ use lib.Dec.{leb, eqb}
 use borrow.Author.Tests.{ne_eqb}
 use Rattle.rules.specs.Numbers.{term_tag, phrase_tag, boolean_tag, boost_tag, constant_score_tag, match_all_tag, match_none_tag, whole_range_tag, float_range_tag, field_tag, text_tag, must_tag}
 use Rattle.rules.specs.Bytes.{is_empty, part, tag_of, size_of, rest_of}
-use Rattle.rules.specs.Query.{Kind, must, should, mustNot, filter, whole, float, Query, term, phrase, boolean, boost, constant_score, matchAll, matchNone, range, Clauses, none, clause}
+use Rattle.rules.specs.Query.{Kind, must, should, must_not, filter, whole, float, Query, term, phrase, boolean, boost, constant_score, match_all, match_none, range, Clauses, none, clause}
 use Rattle.rules.specs.Stored.{kind_tag, encode_bound, encode_words, encode, encodes, Valid, Valids}
 use Rattle.rules.specs.Checked.{Is, Stored}
 use Rattle.rules.specs.Rewriting.{weight, weights, largest, largests}
@@ -131,8 +131,8 @@ step_one (constant_score q) ps v S = record {
   worth = omega arith;
   least = omega arith;
 }
-step_one matchAll ps v S = leaf matchAll match_all_tag [] ps refl (λ e. omega arith) refl refl S
-step_one matchNone ps v S = leaf matchNone match_none_tag [] ps refl (λ e. omega arith) refl refl S
+step_one match_all ps v S = leaf match_all match_all_tag [] ps refl (λ e. omega arith) refl refl S
+step_one match_none ps v S = leaf match_none match_none_tag [] ps refl (λ e. omega arith) refl refl S
 step_one (range whole f l u) ps v S =
     leaf (range whole f l u) whole_range_tag (part field_tag f ++ encode_bound l ++ encode_bound u) ps refl (λ e. omega arith) refl refl S
 step_one (range float f l u) ps v S =
@@ -148,7 +148,7 @@ record KindIs (k : Kind) (r : List ℕ) : Type 0 where
 kind_is : (k : Kind) (r : List ℕ) → KindIs k r
 kind_is must r = record { skips = refl; adds = refl; has = refl; other = λ e. omega arith }
 kind_is should r = record { skips = refl; adds = refl; has = refl; other = λ e. omega arith }
-kind_is mustNot r = record { skips = refl; adds = refl; has = refl; other = λ e. omega arith }
+kind_is must_not r = record { skips = refl; adds = refl; has = refl; other = λ e. omega arith }
 kind_is filter r = record { skips = refl; adds = refl; has = refl; other = λ e. omega arith }
 
 step_clause : (k : Kind) (q : Query) (cs : Clauses) (ps : Pieces) → Valid q → Valids cs → Sound ps

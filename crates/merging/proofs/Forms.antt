@@ -9,7 +9,7 @@ use lib.ListN.{length, take, drop}
 use lib.Dec.{leb, eqb}
 use borrow.Author.Tests.{eqb-true, eq-eqb}
 use Rattle.rules.specs.Bytes.{of_big, tag_of, body_of, rest_of}
-use Rattle.rules.specs.Query.{Kind, must, should, mustNot, filter, Query, term, phrase, boolean, boost, constant_score, matchAll, matchNone, range, whole, float, Clauses, none}
+use Rattle.rules.specs.Query.{Kind, must, should, must_not, filter, Query, term, phrase, boolean, boost, constant_score, match_all, match_none, range, whole, float, Clauses, none}
 use Rattle.rules.specs.Stored.{kind_tag, encode, Valid}
 use Rattle.rules.specs.Checked.{Is, Are}
 use Rattle.rules.specs.Reading.{kind_of}
@@ -72,8 +72,8 @@ is_boost_lem s x i h = subst (λ (l : List ℕ). Boosted l x) i.form (go x i.val
       bits = ap widened (read_big 4 b (boost_below b v.0));
     }
     go (constant_score q) v h = absurd (omega arith)
-    go matchAll v h = absurd (omega arith)
-    go matchNone v h = absurd (omega arith)
+    go match_all v h = absurd (omega arith)
+    go match_none v h = absurd (omega arith)
     go (range whole f l u) v h = absurd (omega arith)
     go (range float f l u) v h = absurd (omega arith)
 
@@ -87,8 +87,8 @@ no_boost s x i h = go x i (λ z. h (sym (ap tag_of i.form) ∙ z))
     go (boolean m cs) i h = (i, widened_one)
     go (boost b q) i h = absurd (h refl)
     go (constant_score q) i h = (i, widened_one)
-    go matchAll i h = (i, widened_one)
-    go matchNone i h = (i, widened_one)
+    go match_all i h = (i, widened_one)
+    go match_none i h = (i, widened_one)
     go (range n f l u) i h = (i, widened_one)
 
 -- ---- kinds, by their tags
@@ -102,7 +102,7 @@ same_kind i l e = sym (kind_back i) ∙ ap kind_of e ∙ kind_back l
 pub needed : (j : Kind) (k : ℕ) → kind_tag j ≡ k → (k ≡ 0x20 → ⊥) → eqb k 0x23 ≡ is_needed j
 needed must k e n = absurd (n (sym e))
 needed should k e n = ap (λ (x : ℕ). eqb x 0x23) (sym e)
-needed mustNot k e n = ap (λ (x : ℕ). eqb x 0x23) (sym e)
+needed must_not k e n = ap (λ (x : ℕ). eqb x 0x23) (sym e)
 needed filter k e n = ap (λ (x : ℕ). eqb x 0x23) (sym e)
 
 pub needed_must : (j : Kind) (k : ℕ) → kind_tag j ≡ k → k ≡ 0x20 → true ≡ is_needed j
@@ -114,7 +114,7 @@ counts j k e h = sym (ap if_should (kind_is j 0x21 (e ∙ h)))
 pub counts_not : (j : Kind) (k : ℕ) → kind_tag j ≡ k → (k ≡ 0x21 → ⊥) → 0 ≡ if_should j
 counts_not must k e n = refl
 counts_not should k e n = absurd (n (sym e))
-counts_not mustNot k e n = refl
+counts_not must_not k e n = refl
 counts_not filter k e n = refl
 
 module _ (m : ℕ) (j : Kind) (k : ℕ) (e : kind_tag j ≡ k) where
@@ -130,7 +130,7 @@ module _ (m : ℕ) (j : Kind) (k : ℕ) (e : kind_tag j ≡ k) where
       go : (j : Kind) → kind_tag j ≡ k → false ≡ summable m j
       go must e = absurd (n (sym e))
       go should e = absurd (o (sym e))
-      go mustNot e = refl
+      go must_not e = refl
       go filter e = refl
 
 -- a clause of its own kind
@@ -144,7 +144,7 @@ module _ (strict : Bool) (m : ℕ) (l : Kind) (k : ℕ) (e : kind_tag l ≡ k) w
       go : (l : Kind) → true ≡ stands_for false m l l
       go must = refl
       go should = refl
-      go mustNot = refl
+      go must_not = refl
       go filter = refl
 
   pub own_other : (k ≡ 0x21 → ⊥) → true ≡ stands_for strict m l l
@@ -153,7 +153,7 @@ module _ (strict : Bool) (m : ℕ) (l : Kind) (k : ℕ) (e : kind_tag l ≡ k) w
       go : (l : Kind) → kind_tag l ≡ k → true ≡ stands_for strict m l l
       go must e = refl
       go should e = absurd (n (sym e))
-      go mustNot e = refl
+      go must_not e = refl
       go filter e = refl
 
 module _ (strict : Bool) (m : ℕ) (i l : Kind) (j k : ℕ) (ei : kind_tag i ≡ j) (el : kind_tag l ≡ k) where

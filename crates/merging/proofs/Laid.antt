@@ -8,7 +8,7 @@ use lib.ListN.{length, take, drop, length-append}
 use lib.Ieee.{Float}
 use Rattle.rules.specs.Numbers.{boost_tag}
 use Rattle.rules.specs.Bytes.{big, part}
-use Rattle.rules.specs.Query.{Kind, must, should, mustNot, filter, Query, term, phrase, boolean, boost, constant_score, matchAll, matchNone, range}
+use Rattle.rules.specs.Query.{Kind, must, should, must_not, filter, Query, term, phrase, boolean, boost, constant_score, match_all, match_none, range}
 use Rattle.rules.specs.Stored.{kind_tag, encode}
 use Rattle.rules.specs.Checked.{Is}
 use Rattle.rules.specs.Floats.{one, widened, narrowed, is_one}
@@ -67,7 +67,7 @@ boost_bytes x h n e en = rw (e, en)
 scoring : (m : ℕ) (k : Kind) → summable m k ≡ true → scores k ≡ true
 scoring m must e = refl
 scoring m should e = refl
-scoring m mustNot e = e
+scoring m must_not e = e
 scoring m filter e = e
 
 -- a kind that is not summed has the sum 1
@@ -120,8 +120,8 @@ own_base (phrase f ws) = of_one _
 own_base (boolean m cs) = of_one _
 own_base (boost b q) = omega (arith, size_within (widened b) (length (encode q)))
 own_base (constant_score q) = of_one _
-own_base matchAll = of_one _
-own_base matchNone = of_one _
+own_base match_all = of_one _
+own_base match_none = of_one _
 own_base (range n f l u) = of_one _
 
 pub own_size : (m : ℕ) (k : Kind) (q : Query) → merged_size (own_sum m k q) (length (encode (held m k q))) ≤ 3 + length (encode q)
@@ -145,8 +145,8 @@ base_end (boost b q) =
     let z : length (encode (boost b q)) - length (encode q) ≡ 7 = omega arith in
     (ap (λ (n : ℕ). drop n (encode (boost b q))) z, omega arith)
 base_end (constant_score q) = (drop_same _, omega arith)
-base_end matchAll = (drop_same _, omega arith)
-base_end matchNone = (drop_same _, omega arith)
+base_end match_all = (drop_same _, omega arith)
+base_end match_none = (drop_same _, omega arith)
 base_end (range n f l u) = (drop_same _, omega arith)
 
 pub held_end : (m : ℕ) (k : Kind) (q : Query)

@@ -9,7 +9,7 @@ use lib.ListN.{length, get_or, take, drop, take-append-drop}
 use lib.Seq.{length-take-le}
 use lib.Ieee.{Float}
 use Rattle.rules.specs.Bytes.{part, size_of}
-use Rattle.rules.specs.Query.{Kind, Query, term, phrase, boolean, boost, constant_score, matchAll, matchNone, range, Clauses, none, clause}
+use Rattle.rules.specs.Query.{Kind, Query, term, phrase, boolean, boost, constant_score, match_all, match_none, range, Clauses, none, clause}
 use Rattle.rules.specs.Stored.{kind_tag, encode, encodes, Valid, Valids}
 use Rattle.rules.specs.Checked.{Is, Are}
 use Rattle.rules.specs.Floats.{one}
@@ -36,8 +36,8 @@ valid_base (phrase f ws) v = v
 valid_base (boolean m cs) v = v
 valid_base (boost b q) v = v.1
 valid_base (constant_score q) v = v
-valid_base matchAll v = v
-valid_base matchNone v = v
+valid_base match_all v = v
+valid_base match_none v = v
 valid_base (range n f l u) v = v
 
 valid_held : (m : ℕ) (k : Kind) (q : Query) → Valid q → Valid (held m k q)

@@ -8,9 +8,9 @@ use native.Mathlib.Omega.{arith}
 use lib.Dec.{leb}
 use lib.ListN.{length, take, drop, get_or, replicate, get_or-eq_default}
 use borrow.Author.Tests.{le-leb, lt-leb, leb-true}
-use Rattle.rules.specs.Numbers.{text_most, Refusal, number, place_of, faulty, Read, got, refused, need, on_read, and_then, placed, longText, notAscii, badSetup, unexpectedToken, long_answer, field_most, selection_bytes}
+use Rattle.rules.specs.Numbers.{text_most, Refusal, number, place_of, faulty, Read, got, refused, need, on_read, and_then, placed, long_text, not_ascii, bad_setup, unexpected_token, long_answer, field_most, selection_bytes}
 use Rattle.rules.specs.Bytes.{is_text, is_field, all}
-use Rattle.rules.specs.Query.{Query, matchNone, Clauses, none}
+use Rattle.rules.specs.Query.{Query, match_none, Clauses, none}
 use Rattle.rules.specs.Stored.{encode}
 use Rattle.rules.specs.Lexing.{Token, end_kind, lex}
 use Rattle.rules.specs.Setup.{FieldEntry, is_analyzer, is_field_entry, Setup, is_setup, entries_in, setup_with, read_setup}
@@ -22,7 +22,7 @@ use Rattle.rules.proofs.Text.Tokenizing.{Standing, lex_few, lex_standing}
 use Rattle.numbers.specs.Laid.{laid, Put, header}
 use Rattle.numbers.proofs.Laying.{laid_front}
 use Rattle.row.specs.Row.{room_least, tokens_of}
-use Rattle.lexer.specs.Lexing.{Row, answer_of as lexedOf}
+use Rattle.lexer.specs.Lexing.{Row, answer_of as lexed_of}
 use Rattle.lexer.specs.declared.Lexed.TheVariants as lexed
 use Rattle.counted.specs.Kinds.{is_alone, made_bytes, made_length, Sums}
 use Rattle.clauses.specs.Measured.{place_at, Spaced, Rowed, Tuned, MeansKept, MeantClauses}
@@ -84,14 +84,14 @@ delivers_as out out' p e D = subst (λ (Z : Read Query). Delivers Z out p out') 
 -- ---- the setup
 
 module _ (o a : ℕ) (f es : List ℕ) (k : Setup → Read Query) where
-  pub setup_refused : read_setup o a f es ≡ refused badSetup → and_then (read_setup o a f es) k ≡ refused badSetup
+  pub setup_refused : read_setup o a f es ≡ refused bad_setup → and_then (read_setup o a f es) k ≡ refused bad_setup
   setup_refused e = rw e
 
 module _ (o a : ℕ) (f es : List ℕ) (entries : List FieldEntry) (e : entries_in (length es) es ≡ got entries) where
   abbrev pub the_setup : Setup
   the_setup = record { operator = o; analyzer = a; field = f; entries = entries }
 
-  pub setup_plain : (leb o 1 && (is_analyzer a && is_field f)) ≡ false → read_setup o a f es ≡ refused badSetup
+  pub setup_plain : (leb o 1 && (is_analyzer a && is_field f)) ≡ false → read_setup o a f es ≡ refused bad_setup
   unfolding read_setup setup_with is_setup
   setup_plain h = rw e (rw (no_three (leb o 1) (is_analyzer a) (is_field f) (leb (length entries) 8 && all is_field_entry entries) h))
     where
@@ -126,12 +126,12 @@ plain_field o a f h = by (leb o 1) (is_analyzer a) (leb (length f) field_most) (
 -- ---- the text
 
 module _ (st : Setup) (text : List ℕ) where
-  pub text_long : 1024 < length text → parse st text ≡ refused longText
+  pub text_long : 1024 < length text → parse st text ≡ refused long_text
   unfolding parse
   text_long h = rw (lt-leb (length text) 1024 h)
 
   module _ (h : length text ≤ 1024) where
-    pub text_other : is_text text ≡ false → parse st text ≡ refused notAscii
+    pub text_other : is_text text ≡ false → parse st text ≡ refused not_ascii
     unfolding parse
     text_other e = rw (le-leb (length text) 1024 h, e)
 
@@ -206,11 +206,11 @@ some_made (made q) n e h = (q, refl)
 
 module _ (cs : Clauses) (len : ℕ) (e : len ≡ made_length (query_of cs)) (out : List ℕ) where
   pub none_short : len ≡ 0 → length out < 3 → Delivers (got (or_match_none (query_of cs))) out (Refused 18 0) out
-  none_short z h = rw (none_made (query_of cs) (sym z ∙ e)) (fits_not out matchNone (omega (arith, length_match_none)))
+  none_short z h = rw (none_made (query_of cs) (sym z ∙ e)) (fits_not out match_none (omega (arith, length_match_none)))
 
   pub none_fits : len ≡ 0 → 3 ≤ length out → {r : ℕ} {out' : List ℕ} → Put out 0 (header 7 0) r out' → Delivers (got (or_match_none (query_of cs))) out (Bytes 3) out'
   unfolding encode
-  none_fits z h {out' = out'} P = rw (none_made (query_of cs) (sym z ∙ e)) (fits out out' matchNone 3 refl h (P.bytes ∙ laid_front out (header 7 0)) (omega arith))
+  none_fits z h {out' = out'} P = rw (none_made (query_of cs) (sym z ∙ e)) (fits out out' match_none 3 refl h (P.bytes ∙ laid_front out (header 7 0)) (omega arith))
 
   pub some_short : (len ≡ 0 → ⊥) → length out < len → Delivers (got (or_match_none (query_of cs))) out (Refused 18 0) out
   some_short z h = let q = some_made (query_of cs) len e z in rw q.1 (fits_not out q.0 (omega (arith, e ∙ ap made_length q.1)))
@@ -257,7 +257,7 @@ module _ (st : Setup) (room : List ℕ) (n : ℕ) (f : List ℕ) (ef : st.field 
     unfolding whole_query
     tokens_more {next = next} e b p w l out =
         let z = means_as e in
-        refuses out 11 p {x = faulty unexpectedToken (start_of end (tokens_of room n) next)} (placed_as {r = refused (faulty unexpectedToken next)} (answered z.1 ∙ rw b)) refl w l
+        refuses out 11 p {x = faulty unexpected_token (start_of end (tokens_of room n) next)} (placed_as {r = refused (faulty unexpected_token next)} (answered z.1 ∙ rw b)) refl w l
 
   module _ {count tag bytes next : ℕ} (e : g ≡ Many count tag bytes next) where
     pub tokens_kept : Clauses
@@ -282,14 +282,14 @@ module _ (st : Setup) (room : List ℕ) (n : ℕ) (f : List ℕ) (ef : st.field 
 
 -- ---- what the lexer answered
 
-pub lexed_refused : (o : Read (List Token)) (e p : ℕ) → lexed.Refused e p ≡ lexedOf o → (x : Refusal) × (o ≡ refused x) × (e ≡ number x) × (p ≡ place_of x)
+pub lexed_refused : (o : Read (List Token)) (e p : ℕ) → lexed.Refused e p ≡ lexed_of o → (x : Refusal) × (o ≡ refused x) × (e ≡ number x) × (p ≡ place_of x)
 lexed_refused (refused x) e p h = (x, refl, cc, cc)
 lexed_refused (got ts) e p h = absurd (never e p (length ts) h)
   where
     never : (e p n : ℕ) → lexed.Refused e p ≡ lexed.Tokens n → ⊥
     never e p n h = let z : ◌≡◌ {A = ℕ} 0 1 = cc in omega arith
 
-pub lexed_tokens : (o : Read (List Token)) (n : ℕ) → lexed.Tokens n ≡ lexedOf o → (ts : List Token) × (o ≡ got ts) × (n ≡ length ts)
+pub lexed_tokens : (o : Read (List Token)) (n : ℕ) → lexed.Tokens n ≡ lexed_of o → (ts : List Token) × (o ≡ got ts) × (n ≡ length ts)
 lexed_tokens (got ts) n h = (ts, refl, cc)
 lexed_tokens (refused x) n h = absurd (never n (number x) (place_of x) h)
   where

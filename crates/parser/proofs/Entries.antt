@@ -11,7 +11,7 @@ use lib.Dec.{leb}
 use lib.ListN.{length, take, drop, get_or, set, length-append, length-drop, length-set, drop_of_length-le}
 use lib.Seq.{drop-cons, drop-drop, set-get_or, set-set, get_or-set_same, get_or-set_other, take-suc, take-length, length-take-le}
 use borrow.Author.Tests.{le-leb, lt-leb, leb-true}
-use Rattle.rules.specs.Numbers.{Read, got, refused, need, on_read, badSetup}
+use Rattle.rules.specs.Numbers.{Read, got, refused, need, on_read, bad_setup}
 use Rattle.rules.specs.Bytes.{is_text, all, is_field}
 use Rattle.rules.specs.Setup.{FieldEntry, field_entry, is_analyzer, is_field_entry, is_setup, entries_step, entries_in, setup_with, read_setup}
 use Rattle.rules.proofs.Bools.{clash, both, and_l, and_r, and_no_l, and_no_r}
@@ -41,7 +41,7 @@ row_end r s k h l e = let n : k ≡ length s = omega arith in ap (λ (x : ℕ). 
 -- ---- reading
 
 -- what was read is all right, or the setup is refused
-entries_or : (k : ℕ) (s : List ℕ) → ((es : List FieldEntry) × (entries_in k s ≡ got es)) ⊎ (entries_in k s ≡ refused badSetup)
+entries_or : (k : ℕ) (s : List ℕ) → ((es : List FieldEntry) × (entries_in k s ≡ got es)) ⊎ (entries_in k s ≡ refused bad_setup)
 unfolding entries_in entries_step
 entries_or zero [] = inl ([], refl)
 entries_or zero (c ∷ s) = inr refl
@@ -49,9 +49,9 @@ entries_or (suc k) [] = inl ([], refl)
 entries_or (suc k) (a ∷ []) = inr refl
 entries_or (suc k) (a ∷ n ∷ s) = by (leb n (length s)) (entries_or k (drop n s))
   where
-    by : (b : Bool) → ((es : List FieldEntry) × (entries_in k (drop n s) ≡ got es)) ⊎ (entries_in k (drop n s) ≡ refused badSetup)
-        → ((es : List FieldEntry) × (need b badSetup (on_read (λ es. field_entry a (take n s) ∷ es) (entries_in k (drop n s))) ≡ got es))
-        ⊎ (need b badSetup (on_read (λ es. field_entry a (take n s) ∷ es) (entries_in k (drop n s))) ≡ refused badSetup)
+    by : (b : Bool) → ((es : List FieldEntry) × (entries_in k (drop n s) ≡ got es)) ⊎ (entries_in k (drop n s) ≡ refused bad_setup)
+        → ((es : List FieldEntry) × (need b bad_setup (on_read (λ es. field_entry a (take n s) ∷ es) (entries_in k (drop n s))) ≡ got es))
+        ⊎ (need b bad_setup (on_read (λ es. field_entry a (take n s) ∷ es) (entries_in k (drop n s))) ≡ refused bad_setup)
     by false o = inr refl
     by true (inl (es, e)) = inl (field_entry a (take n s) ∷ es, rw e)
     by true (inr e) = inr (rw e)
@@ -61,14 +61,14 @@ unfolding entries_in entries_step
 entries_none zero s e = rw e
 entries_none (suc k) s e = rw e
 
-entries_cut : (k : ℕ) (s : List ℕ) → 0 < k → 0 < length s → length s < 2 → entries_in k s ≡ refused badSetup
+entries_cut : (k : ℕ) (s : List ℕ) → 0 < k → 0 < length s → length s < 2 → entries_in k s ≡ refused bad_setup
 unfolding entries_in entries_step
 entries_cut zero s h l m = absurd (omega arith)
 entries_cut (suc k) [] h l m = absurd (omega arith)
 entries_cut (suc k) (a ∷ []) h l m = refl
 entries_cut (suc k) (a ∷ b ∷ s) h l m = absurd (omega arith)
 
-entries_short : (k a n : ℕ) (s : List ℕ) → length s < n → entries_in (suc k) (a ∷ n ∷ s) ≡ refused badSetup
+entries_short : (k a n : ℕ) (s : List ℕ) → length s < n → entries_in (suc k) (a ∷ n ∷ s) ≡ refused bad_setup
 unfolding entries_in entries_step
 entries_short k a n s h = rw (lt-leb n (length s) h)
 
@@ -83,16 +83,16 @@ two_more s at h =
 
 -- ---- a setup that is refused
 
-entries_bad : (o a : ℕ) (f fields : List ℕ) → entries_in (length fields) fields ≡ refused badSetup → read_setup o a f fields ≡ refused badSetup
+entries_bad : (o a : ℕ) (f fields : List ℕ) → entries_in (length fields) fields ≡ refused bad_setup → read_setup o a f fields ≡ refused bad_setup
 unfolding read_setup
 entries_bad o a f fields e = rw e
 
-setup_many : (o a : ℕ) (f : List ℕ) (es : List FieldEntry) → 8 < length es → setup_with o a f es ≡ refused badSetup
+setup_many : (o a : ℕ) (f : List ℕ) (es : List FieldEntry) → 8 < length es → setup_with o a f es ≡ refused bad_setup
 unfolding setup_with is_setup
 setup_many o a f es h =
     rw (and_no_r (leb o 1) (and_no_r (is_analyzer a) (and_no_r (is_field f) (and_no_l (all is_field_entry es) (lt-leb (length es) 8 h)))))
 
-setup_broken : (o a : ℕ) (f : List ℕ) (es : List FieldEntry) → all is_field_entry es ≡ false → setup_with o a f es ≡ refused badSetup
+setup_broken : (o a : ℕ) (f : List ℕ) (es : List FieldEntry) → all is_field_entry es ≡ false → setup_with o a f es ≡ refused bad_setup
 unfolding setup_with is_setup
 setup_broken o a f es h = rw (and_no_r (leb o 1) (and_no_r (is_analyzer a) (and_no_r (is_field f) (and_no_r (leb (length es) 8) h))))
 
@@ -258,10 +258,10 @@ module _ {fields : List ℕ} {names : List (List ℕ)} {lengths analyzers : List
   }
 
   -- nine stands for entries that break a rule
-  nine : ((o a : ℕ) (f : List ℕ) → read_setup o a f fields ≡ refused badSetup) → Entered fields names lengths analyzers 9
+  nine : ((o a : ℕ) (f : List ℕ) → read_setup o a f fields ≡ refused bad_setup) → Entered fields names lengths analyzers 9
   nine b = record { held = λ few. absurd (omega arith); broken = λ many. b }
 
-  rest_refused : entries_in (length fields - count) (drop at fields) ≡ refused badSetup → Entered fields names lengths analyzers 9
+  rest_refused : entries_in (length fields - count) (drop at fields) ≡ refused bad_setup → Entered fields names lengths analyzers 9
   rest_refused e = nine (λ o a f. entries_bad o a f fields (E.reads ∙ rw e))
 
   module _ (h : at < length fields) where
@@ -301,7 +301,7 @@ module _ {fields : List ℕ} {names : List (List ℕ)} {lengths analyzers : List
             E.reads ∙ ap (on_read (λ rest. entries_to names lengths analyzers count ++ rest)) one
             ∙ ap (λ (r : Read (List FieldEntry)). on_read (λ rest. entries_to names lengths analyzers count ++ rest) (on_read (λ rest. field_entry a name ∷ rest) r)) e
 
-        by_rest : ((rest : List FieldEntry) → (o b : ℕ) (f : List ℕ) → setup_with o b f (entries_to names lengths analyzers count ++ field_entry a name ∷ rest) ≡ refused badSetup)
+        by_rest : ((rest : List FieldEntry) → (o b : ℕ) (f : List ℕ) → setup_with o b f (entries_to names lengths analyzers count ++ field_entry a name ∷ rest) ≡ refused bad_setup)
             → Entered fields names lengths analyzers 9
         unfolding read_setup
         by_rest g =

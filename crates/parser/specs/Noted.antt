@@ -1,6 +1,6 @@
 -- The entries of a setup in arrays, and the analyzers noted at field names.
 use Rattle.std.specs.Prelude.{◌≡◌, ℕ, ◌≤◌, ◌<◌, List, Bool, true, length, set}
-use Rattle.rules.specs.Numbers.{got, refused, badSetup}
+use Rattle.rules.specs.Numbers.{got, refused, bad_setup}
 use Rattle.rules.specs.Bytes.{is_text, all}
 use Rattle.rules.specs.Setup.{FieldEntry, is_field_entry, analyzer_among, entries_in, read_setup}
 use Rattle.rules.specs.Parsing.{text_at}
@@ -19,7 +19,7 @@ pub record RowPut (names : List (List ℕ)) (k : ℕ) (s : List ℕ) (b : Bool) 
 -- what the arrays hold of the entries' bytes: all of them, where they keep the rules, else the setup is refused
 pub record Entered (fields : List ℕ) (names : List (List ℕ)) (lengths analyzers : List ℕ) (count : ℕ) : Type 0 where
   pub held : count ≤ 8 → (entries_in (length fields) fields ≡ got (array_entries names lengths analyzers count)) × (all is_field_entry (array_entries names lengths analyzers count) ≡ true) × (length (array_entries names lengths analyzers count) ≡ count)
-  pub broken : 8 < count → (o a : ℕ) (f : List ℕ) → read_setup o a f fields ≡ refused badSetup
+  pub broken : 8 < count → (o a : ℕ) (f : List ℕ) → read_setup o a f fields ≡ refused bad_setup
 
 -- the tokens are as they were, and each field name has its field's analyzer
 pub record Noted (n : ℕ) (entries : List FieldEntry) (default : ℕ) (before after : List ℕ) : Type 0 where

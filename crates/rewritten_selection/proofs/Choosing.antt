@@ -16,7 +16,7 @@ use Rattle.rules.specs.Stored.{encode}
 use Rattle.rules.specs.Reading.{read_for_rewriting}
 use Rattle.rules.specs.Rewriting.{weight, Rewritten, rewritten, rewrite, result_of, count_of}
 use Rattle.rules.specs.Lists.{Entry, read_list}
-use Rattle.rules.specs.Answers.{Reply, Left as CallLeft, zeros, leave as callLeaves, fitting as replyFitting, call, rewritten_reply, rewrite_reply, rewrite_left, selected}
+use Rattle.rules.specs.Answers.{Reply, Left as CallLeft, zeros, leave as call_leaves, fitting as reply_fitting, call, rewritten_reply, rewrite_reply, rewrite_left, selected}
 use Rattle.rules.specs.Matching.{IsChosen, RisingFrom}
 use Rattle.rules.proofs.Bools.{clash}
 use Rattle.rules.proofs.Stored.Refusals.{got_same, number_some}
@@ -25,7 +25,7 @@ use Rattle.rules.proofs.Choosing.Choices.{chosen_few, selection}
 use Rattle.rules.proofs.Choosing.Demands.{Demand, demand}
 use Rattle.rules.proofs.Rewriting.Rounds.{result_after}
 use Rattle.rules.proofs.Rewriting.Bounds.{length_after}
-use Rattle.rewriter.specs.Rounds.{left as rewriterLeft}
+use Rattle.rewriter.specs.Rounds.{left as rewriter_left}
 use Rattle.selection.specs.declared.select.Selected.{Selected}
 use Rattle.selection.specs.declared.select.Selected.TheVariants.{Refused, Chosen as Rows}
 use Rattle.selection.specs.Select.{within, answer_of, rows_after, Selects}
@@ -39,15 +39,15 @@ answered (Rows n) made rows held room = left 0 n made rows held room
 
 -- ---- what is held is never too short for a rewritten query
 
-fits_held : (r : Rewritten) (n : ℕ) → length (encode (result_of r)) ≤ n → replyFitting n (rewritten_reply r) ≡ got (rewritten_reply r)
+fits_held : (r : Rewritten) (n : ℕ) → length (encode (result_of r)) ≤ n → reply_fitting n (rewritten_reply r) ≡ got (rewritten_reply r)
 fits_held (rewritten q k) n h = rw (le-leb (length (encode q)) n h)
 
-reply_fits : (strict : Bool) (s : List ℕ) → Bytes s → (n : ℕ) → held_room ≤ n → and_then (rewrite_reply strict s) (replyFitting n) ≡ rewrite_reply strict s
+reply_fits : (strict : Bool) (s : List ℕ) → Bytes s → (n : ℕ) → held_room ≤ n → and_then (rewrite_reply strict s) (reply_fitting n) ≡ rewrite_reply strict s
 unfolding rewrite_reply
 reply_fits strict s B n h = go (read_for_rewriting s) refl
   where
     go : (o : Read Query) → read_for_rewriting s ≡ o
-        → and_then (on_read (λ q. rewritten_reply (rewrite strict q)) o) (replyFitting n) ≡ on_read (λ q. rewritten_reply (rewrite strict q)) o
+        → and_then (on_read (λ q. rewritten_reply (rewrite strict q)) o) (reply_fitting n) ≡ on_read (λ q. rewritten_reply (rewrite strict q)) o
     go (refused r) e = refl
     go (got q) e =
         let S = read_sound rewriter_bytes rewriter_depth s q B e in
@@ -86,24 +86,24 @@ module _ (strict : Bool) (s l rows held room : List ℕ) where
     replied : Read Reply
     replied = need (leb rewrite_room (length room)) short_room (rewrite_reply strict s)
 
-    rewriter_leaves : rewrite_left strict s held room ≡ callLeaves replied held room
+    rewriter_leaves : rewrite_left strict s held room ≡ call_leaves replied held room
     unfolding rewrite_left call replied
     rewriter_leaves = rw (reply_fits strict s B (length held) h)
 
-    call_leaves : choice_left strict s l rows held room ≡ leave (and_then (and_then replied (chosen_by l)) (fitting (length rows))) rows held room
+    call_leaves_lem : choice_left strict s l rows held room ≡ leave (and_then (and_then replied (chosen_by l)) (fitting (length rows))) rows held room
     unfolding choice_left replied
-    call_leaves = rw (le-leb held_room (length held) h) (go (leb rewrite_room (length room)))
+    call_leaves_lem = rw (le-leb held_room (length held) h) (go (leb rewrite_room (length room)))
       where
         go : (b : Bool) → leave (need b short_room (chosen strict s l (length rows))) rows held room
             ≡ leave (and_then (and_then (need b short_room (rewrite_reply strict s)) (chosen_by l)) (fitting (length rows))) rows held room
         go true = refl
         go false = refl
 
-    module _ {refusal len made : ℕ} {held' room' : List ℕ} (L : rewriterLeft refusal len made held' room' ≡ rewrite_left strict s held room) where
+    module _ {refusal len made : ℕ} {held' room' : List ℕ} (L : rewriter_left refusal len made held' room' ≡ rewrite_left strict s held room) where
       pub refused_query : (refusal ≡ 0 → ⊥) → left refusal 0 0 rows (zeros held) room' ≡ choice_left strict s l rows held room
-      refused_query n = go replied (L ∙ rewriter_leaves) ∙ sym call_leaves
+      refused_query n = go replied (L ∙ rewriter_leaves) ∙ sym call_leaves_lem
         where
-          go : (o : Read Reply) → rewriterLeft refusal len made held' room' ≡ callLeaves o held room
+          go : (o : Read Reply) → rewriter_left refusal len made held' room' ≡ call_leaves o held room
               → left refusal 0 0 rows (zeros held) room' ≡ leave (and_then (and_then o (chosen_by l)) (fitting (length rows))) rows held room
           go (got a) e = absurd (n (ap (λ (x : CallLeft). x.answer.refusal) e))
           go (refused r) e = rw (ap (λ (x : CallLeft). x.answer.refusal) e, ap (λ (x : CallLeft). x.room) e)
@@ -122,7 +122,7 @@ module _ (strict : Bool) (s l rows held room : List ℕ) where
         written : Written
         written = go replied refl (L ∙ rewriter_leaves)
           where
-            go : (o : Read Reply) → replied ≡ o → rewriterLeft refusal len made held' room' ≡ callLeaves o held room → Written
+            go : (o : Read Reply) → replied ≡ o → rewriter_left refusal len made held' room' ≡ call_leaves o held room → Written
             go (got a) p e =
                 let n : len ≡ length a.bytes = ap (λ (x : CallLeft). x.answer.written) e in
                 let o : held' ≡ a.bytes ++ drop (length a.bytes) held = ap (λ (x : CallLeft). x.output) e in
@@ -148,7 +148,7 @@ module _ (strict : Bool) (s l rows held room : List ℕ) where
             let n : len - 0 ≡ len = omega arith in
             let here : take (len - 0) (drop 0 held') ≡ W.reply.bytes = ap (λ (k : ℕ). take k held') n ∙ W.here in
             let same : choice_left strict s l rows held room ≡ leave (and_then (chosen_by l W.reply) (fitting (length rows))) rows held room =
-            call_leaves ∙ ap (λ (x : Read Reply). leave (and_then (and_then x (chosen_by l)) (fitting (length rows))) rows held room) W.is in
+            call_leaves_lem ∙ ap (λ (x : Read Reply). leave (and_then (and_then x (chosen_by l)) (fitting (length rows))) rows held room) W.is in
             chooses rows held room (selected W.reply.bytes l) (subst (λ (t : List ℕ). Chooses (selected t l) rows rows' r) here (record { answer = S.answer; rows_left = S.rows }))
             W.counted W.cleared ∙ sym same
 

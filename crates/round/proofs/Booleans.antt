@@ -10,7 +10,7 @@ use lib.Seq.{take-take}
 use borrow.Author.Tests.{lt-ltb, le-ltb, le-leb, lt-leb}
 use Rattle.rules.specs.Numbers.{boolean_tag, minimum_tag}
 use Rattle.rules.specs.Bytes.{big, part}
-use Rattle.rules.specs.Query.{Kind, Query, boolean, matchNone, Clauses, none, clause}
+use Rattle.rules.specs.Query.{Kind, Query, boolean, match_none, Clauses, none, clause}
 use Rattle.rules.specs.Stored.{kind_tag, encode, encodes}
 use Rattle.rules.specs.Checked.{Are}
 use Rattle.rules.specs.Rewriting.{merged_boolean, lone, lone_or_merged, should_count, only_must_not, of_live, clause_counts, bulk, bulks}
@@ -68,11 +68,11 @@ module _ {end m : ℕ} {room : List ℕ} (L : Live end m room) where
 -- ---- which step it is
 
 module _ (strict : Bool) (m : ℕ) (cs : Clauses) where
-  pub of_negative : only_must_not cs ≡ true → of_live strict m cs ≡ matchNone
+  pub of_negative : only_must_not cs ≡ true → of_live strict m cs ≡ match_none
   unfolding of_live
   of_negative e = rw e
 
-  pub of_few : only_must_not cs ≡ false → should_count cs < m → of_live strict m cs ≡ matchNone
+  pub of_few : only_must_not cs ≡ false → should_count cs < m → of_live strict m cs ≡ match_none
   unfolding of_live
   of_few e h = rw (e, lt-ltb (should_count cs) m h)
 

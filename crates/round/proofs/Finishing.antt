@@ -7,7 +7,7 @@ use lib.ListN.{length, get_or, take, drop, length-append, length-take, length-dr
 use lib.Seq.{get_or-take, get_or-drop, drop-drop, length-take-le}
 use Rattle.rules.specs.Numbers.{term_tag, text_tag, boost_tag}
 use Rattle.rules.specs.Bytes.{of_big, big, part, tag_of}
-use Rattle.rules.specs.Query.{Kind, must, should, mustNot, filter, Query, term, phrase, boolean, boost, constant_score, matchAll, matchNone, range}
+use Rattle.rules.specs.Query.{Kind, must, should, must_not, filter, Query, term, phrase, boolean, boost, constant_score, match_all, match_none, range}
 use Rattle.rules.specs.Stored.{kind_tag, encode, Valid}
 use Rattle.rules.specs.Checked.{Is}
 use Rattle.rules.specs.Rewriting.{boosted, scored, lone}
@@ -47,14 +47,14 @@ score_form q h = go (at_tag (encode q) _ 5 q h refl refl)
     go : {b : List ℕ} {q : Query} → View 5 b q → (p : Query) × (q ≡ constant_score p)
     go (v_constant_score {q}) = (q, refl)
 
-pub none_form : (q : Query) → tag_of (encode q) ≡ 7 → q ≡ matchNone
+pub none_form : (q : Query) → tag_of (encode q) ≡ 7 → q ≡ match_none
 none_form q h = (Rattle.rules.proofs.Stored.Views.as_match_none (at_tag (encode q) _ 7 q h refl refl)).0
 
-pub boosted_none : (b : ℕ) (q : Query) → tag_of (encode q) ≡ 7 → boosted b q ≡ matchNone
+pub boosted_none : (b : ℕ) (q : Query) → tag_of (encode q) ≡ 7 → boosted b q ≡ match_none
 unfolding boosted
 boosted_none b q h = ap (boosted b) (none_form q h)
 
-pub scored_none : (q : Query) → tag_of (encode q) ≡ 7 → scored q ≡ matchNone
+pub scored_none : (q : Query) → tag_of (encode q) ≡ 7 → scored q ≡ match_none
 unfolding scored
 scored_none q h = ap scored (none_form q h)
 
@@ -65,8 +65,8 @@ boosted_plain b (phrase f ws) n o = refl
 boosted_plain b (boolean m cs) n o = refl
 boosted_plain b (boost c q) n o = absurd (o refl)
 boosted_plain b (constant_score q) n o = refl
-boosted_plain b matchAll n o = refl
-boosted_plain b matchNone n o = absurd (n refl)
+boosted_plain b match_all n o = refl
+boosted_plain b match_none n o = absurd (n refl)
 boosted_plain b (range k f l u) n o = refl
 
 pub scored_plain : (q : Query) → (tag_of (encode q) ≡ 7 → ⊥) → (tag_of (encode q) ≡ 5 → ⊥) → (tag_of (encode q) ≡ 4 → ⊥) → scored q ≡ constant_score q
@@ -76,13 +76,13 @@ scored_plain (phrase f ws) n m o = refl
 scored_plain (boolean k cs) n m o = refl
 scored_plain (boost c q) n m o = absurd (o refl)
 scored_plain (constant_score q) n m o = absurd (m refl)
-scored_plain matchAll n m o = refl
-scored_plain matchNone n m o = absurd (n refl)
+scored_plain match_all n m o = refl
+scored_plain match_none n m o = absurd (n refl)
 scored_plain (range k f l u) n m o = refl
 
 -- ---- what is laid
 
-pub none_put : {room room₁ : List ℕ} {p : ℕ} → Put room 0 (header 7 0) p room₁ → 3 ≤ length room → Stands 0 room p (encode matchNone) room₁
+pub none_put : {room room₁ : List ℕ} {p : ℕ} → Put room 0 (header 7 0) p room₁ → 3 ≤ length room → Stands 0 room p (encode match_none) room₁
 unfolding encode
 none_put {p = p} P h = stands_put P p P.place (omega (arith, P.place))
 
@@ -151,7 +151,7 @@ boost_inner room a n c q i fits =
 
 -- ---- a lone clause
 
-pub lone_none : (k : Kind) (q : Query) → kind_tag k ≡ 0x22 → lone k q ≡ matchNone
+pub lone_none : (k : Kind) (q : Query) → kind_tag k ≡ 0x22 → lone k q ≡ match_none
 unfolding lone
 lone_none k q e = ap (λ (j : Kind). lone j q) (kind_is k 0x22 e)
 
@@ -163,7 +163,7 @@ pub lone_plain : (k : Kind) (q : Query) → (kind_tag k ≡ 0x22 → ⊥) → (k
 unfolding lone
 lone_plain must q n o = refl
 lone_plain should q n o = refl
-lone_plain mustNot q n o = absurd (n refl)
+lone_plain must_not q n o = absurd (n refl)
 lone_plain filter q n o = absurd (o refl)
 
 -- the boost 0 over a constant score of what was moved to to + 10

@@ -7,7 +7,7 @@ use native.Mathlib.Omega.{arith}
 use lib.ListN.{length, get_or, take, drop, length-drop}
 use lib.Seq.{drop-drop}
 use Rattle.rules.specs.Bytes.{of_big, tag_of}
-use Rattle.rules.specs.Query.{Word, Query, term, phrase, boolean, boost, constant_score, matchAll, matchNone, range, Clauses}
+use Rattle.rules.specs.Query.{Word, Query, term, phrase, boolean, boost, constant_score, match_all, match_none, range, Clauses}
 use Rattle.rules.specs.Stored.{encode, encodes, Valid, Valids}
 use Rattle.rules.specs.Checked.{Is, Are}
 use Rattle.rules.specs.Floats.{widened, is_one}
@@ -70,8 +70,8 @@ plain_form strict (phrase f ws) a b c d = absurd (a refl)
 plain_form strict (boolean m cs) a b c d = absurd (b refl)
 plain_form strict (boost x q) a b c d = absurd (c refl)
 plain_form strict (constant_score q) a b c d = absurd (d refl)
-plain_form strict matchAll a b c d = refl
-plain_form strict matchNone a b c d = refl
+plain_form strict match_all a b c d = refl
+plain_form strict match_none a b c d = refl
 plain_form strict (range n f l u) a b c d = refl
 
 -- ---- a stretch that was lent
@@ -328,10 +328,10 @@ module _ {at : ℕ} {room : List ℕ} (R : Room at room) where
       boolean_long = let l = D.low in returned_long room ys 8 (omega arith) long
 
       pub boolean_dead : (strict : Bool) → ((cs : Clauses) → Are (drop at (within 8 (length room) room)) cs → is_dead (rewrite_each strict cs) ≡ true) → {r : ℕ} {room₂ : List ℕ}
-          → Stands 0 (returned 8 room ys) r (encode matchNone) room₂ → (q : Query) → Is (drop at room) q → Stands 0 room r (encode (rewrite_once strict q)) room₂
+          → Stands 0 (returned 8 room ys) r (encode match_none) room₂ → (q : Query) → Is (drop at room) q → Stands 0 room r (encode (rewrite_once strict q)) room₂
       unfolding rewrite_once rewrite_boolean
       boolean_dead strict E {r} {room₂} T =
-          let U : Stands 0 room r (encode matchNone) room₂ = record { long = T.long ∙ boolean_long; kept = refl; size = T.size; there = T.there } in
+          let U : Stands 0 room r (encode match_none) room₂ = record { long = T.long ∙ boolean_long; kept = refl; size = T.size; there = T.there } in
           for_all strict (subst (λ (q : Query). Stands 0 room r (encode (rewrite_once strict q)) room₂) (sym D.is) (rw (E D.clauses boolean_lent) U))
 
     module _ (strict : Bool) {w : ℕ} {ys : List ℕ} (T : (cs : Clauses) → Are (drop at (within 8 (length room) room)) cs → Went strict w (within 8 (length room) room) ys cs)

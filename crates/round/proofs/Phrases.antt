@@ -6,7 +6,7 @@ use native.Mathlib.Omega.{arith}
 use lib.ListN.{length, drop, length-append}
 use Rattle.rules.specs.Numbers.{phrase_tag, term_tag, field_tag, text_tag, word_tag}
 use Rattle.rules.specs.Bytes.{big, part, size_of}
-use Rattle.rules.specs.Query.{Word, word, phrase, term, matchNone}
+use Rattle.rules.specs.Query.{Word, word, phrase, term, match_none}
 use Rattle.rules.specs.Stored.{encode, encode_words}
 use Rattle.rules.specs.Checked.{Is}
 use Rattle.rules.specs.Rewriting.{phrased}
@@ -45,20 +45,20 @@ module _ (room : List ℕ) (at end : ℕ) (f : List ℕ) (ws : List Word) (i : I
     pub words_place : w ≡ at + 6 + length f
     words_place = omega (arith, field_at.size)
 
-    long_field : at + 3 + length (part field_tag f) ≡ w
-    long_field = omega (arith, words_place)
+    long_field_lem : at + 3 + length (part field_tag f) ≡ w
+    long_field_lem = omega (arith, words_place)
 
     pub field_here : within (at + 3) w room ≡ part field_tag f
-    field_here = ap (λ (k : ℕ). within (at + 3) k room) (sym long_field) ∙ first room (at + 3) end (part field_tag f) (encode_words ws) three fits body_here
+    field_here = ap (λ (k : ℕ). within (at + 3) k room) (sym long_field_lem) ∙ first room (at + 3) end (part field_tag f) (encode_words ws) three fits body_here
 
     pub words_here : within w end room ≡ encode_words ws
-    words_here = ap (λ (k : ℕ). within k end room) (sym long_field) ∙ second room (at + 3) end (part field_tag f) (encode_words ws) three fits body_here
+    words_here = ap (λ (k : ℕ). within k end room) (sym long_field_lem) ∙ second room (at + 3) end (part field_tag f) (encode_words ws) three fits body_here
 
-    pub no_word : w ≡ end → phrased f ws ≡ matchNone
+    pub no_word : w ≡ end → phrased f ws ≡ match_none
     unfolding phrased encode_words
     no_word e = go ws (omega (arith, words_place, phrase_long))
       where
-        go : (ws : List Word) → length (encode_words ws) ≡ 0 → phrased f ws ≡ matchNone
+        go : (ws : List Word) → length (encode_words ws) ≡ 0 → phrased f ws ≡ match_none
         go [] h = refl
         go (word p t ∷ ws) h = absurd (omega arith)
 

@@ -8,7 +8,7 @@ use lib.ListN.{length, get_or}
 use lib.Dec.{eqb}
 use borrow.Author.Tests.{eq-eqb, ne_eqb}
 use Rattle.rules.specs.Bytes.{rest_of, same}
-use Rattle.rules.specs.Query.{Kind, must, should, mustNot, filter, Query, Clauses, none, clause}
+use Rattle.rules.specs.Query.{Kind, must, should, must_not, filter, Query, Clauses, none, clause}
 use Rattle.rules.specs.Stored.{kind_tag, encodes}
 use Rattle.rules.specs.Checked.{Are, StoredClauses}
 use Rattle.rules.specs.Rewriting.{only_must_not, should_count, is_must_not, if_should}
@@ -18,16 +18,16 @@ use Rattle.merging.proofs.Forms.{are_same, front, no_clause, front_are}
 
 -- ---- are all of them MustNot?
 
-must_not : (k : Kind) → kind_tag k ≡ 0x22 → is_must_not k ≡ true
-must_not must e = absurd (omega arith)
-must_not should e = absurd (omega arith)
-must_not mustNot e = refl
-must_not filter e = absurd (omega arith)
+must_not_lem : (k : Kind) → kind_tag k ≡ 0x22 → is_must_not k ≡ true
+must_not_lem must e = absurd (omega arith)
+must_not_lem should e = absurd (omega arith)
+must_not_lem must_not e = refl
+must_not_lem filter e = absurd (omega arith)
 
 must_not_no : (k : Kind) → (kind_tag k ≡ 0x22 → ⊥) → is_must_not k ≡ false
 must_not_no must n = refl
 must_not_no should n = refl
-must_not_no mustNot n = absurd (n refl)
+must_not_no must_not n = absurd (n refl)
 must_not_no filter n = refl
 
 pub record Negative (s t : List ℕ) : Type 0 where
@@ -46,7 +46,7 @@ module _ {s t : List ℕ} (g : Negative s t) where
       record {
         all = g.all;
         left = record { clauses = f.others; are = rw eu (front_are f) };
-        same = g.same ∙ ap only_must_not f.split ∙ rw (must_not f.kind (sym f.tag ∙ e));
+        same = g.same ∙ ap only_must_not f.split ∙ rw (must_not_lem f.kind (sym f.tag ∙ e));
       }
 
   pub negative_no : (p : 0 < length t) → (get_or t 0 0 ≡ 0x22 → ⊥) → (cs : Clauses) → Are s cs → false ≡ only_must_not cs

@@ -3,7 +3,7 @@
 ghost use Rattle.std.specs.Prelude.{List, ◌++◌, cond, ℕ, ◌+◌, ◌-◌, ◌<◌, ◌≤◌, length, take, drop};
 ghost use Rattle.rules.specs.Numbers.{term_tag, text_tag};
 ghost use Rattle.rules.specs.Bytes.{part};
-ghost use Rattle.rules.specs.Query.{Word, Kind, Query, phrase, boolean, matchNone, Clauses, none, clause};
+ghost use Rattle.rules.specs.Query.{Word, Kind, Query, phrase, boolean, match_none, Clauses, none, clause};
 ghost use Rattle.rules.specs.Stored.{encode};
 ghost use Rattle.rules.specs.Checked.{Is, Are};
 ghost use Rattle.rules.specs.Floats.{widened, is_one};
@@ -40,7 +40,7 @@ const MINIMUM: usize = HEADER + MINIMUM_BYTES;
 
 pub fn put_none(room: &mut [u8]) -> usize
     requires { 3 ≤ length room.old }
-    ensures { Stands 0 room.old result (encode matchNone) room.new }
+    ensures { Stands 0 room.old result (encode match_none) room.new }
 {
     put_header(room, 0, MATCH_NONE_TAG, 0)
 }

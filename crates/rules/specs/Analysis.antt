@@ -4,7 +4,7 @@ use Rattle.rules.specs.Numbers.{chunk_most, whitespace_analyzer, simple_analyzer
 pub use Rattle.rules.specs.Bytes.{between, is_capital, is_letter, is_digit}
 use Rattle.rules.specs.Bytes.{ascii, is_empty, some, those}
 use Rattle.rules.specs.Query.{Word, word, text_of}
-use Rattle.rules.specs.Words.{is, extendNumLet, is_mid_letters, is_mid_numbers, word_break, words, is_stop_word}
+use Rattle.rules.specs.Words.{is, extend_num_let, is_mid_letters, is_mid_numbers, word_break, words, is_stop_word}
 
 -- ---- classes
 
@@ -30,7 +30,7 @@ flag b n = cond b n 0
 unfoldable pub class_of : ℕ → ℕ
 class_of c =
     flag (is_space c) 1 + flag (ends_term c) 2 + flag (is_mid_letters (word_break c)) 4 + flag (is_mid_numbers (word_break c)) 8
-    + flag (is (word_break c) extendNumLet) 16 + flag (is_digit c) 32 + flag (is_letter c) 64
+    + flag (is (word_break c) extend_num_let) 16 + flag (is_digit c) 32 + flag (is_letter c) 64
 
 -- the constant table of 128 entries
 unfoldable pub classes : List ℕ

@@ -1,6 +1,6 @@
 -- All selectors of a site in one call: the cut of a slice into stored queries, and their turns, each as the single call answers it. Order 2.
 use Rattle.std.specs.Prelude.{ℕ, zero, suc, ◌+◌, ◌*◌, List, [], ◌∷◌, ◌++◌, Bool, ◌&&◌, cond, length, take, drop, leb}
-use Rattle.rules.specs.Numbers.{number, Read, got, refused, need, on_read, and_then, long_answer, malformedQuery, many_queries, short_room, queries_most, select_all_room}
+use Rattle.rules.specs.Numbers.{number, Read, got, refused, need, on_read, and_then, long_answer, malformed_query, many_queries, short_room, queries_most, select_all_room}
 use Rattle.rules.specs.Bytes.{big, of_big, is_empty}
 use Rattle.rules.specs.Answers.{Answer, zeros, select_left}
 
@@ -22,10 +22,10 @@ is_first s = leb 2 (length s) && leb (2 + long_first s) (length s)
 
 -- the queries of s; n bounds their number
 unfoldable pub cut_in : ℕ → List ℕ → Read (List (List ℕ))
-cut_in zero s = need (is_empty s) malformedQuery (got [])
+cut_in zero s = need (is_empty s) malformed_query (got [])
 cut_in (suc n) s =
     let more = on_read (λ qs. first_query s ∷ qs) (cut_in n (other_queries s)) in
-    let first = need (is_first s) malformedQuery more in
+    let first = need (is_first s) malformed_query more in
     cond (is_empty s) (got []) first
 
 abbrev pub cut : List ℕ → Read (List (List ℕ))

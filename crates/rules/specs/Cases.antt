@@ -3,7 +3,7 @@ use Rattle.std.specs.Prelude.{ℕ, ◌+◌, ◌-◌, ◌*◌, List, [], ◌∷�
 use Prim.Native.String.{String}
 use Rattle.rules.specs.Numbers.{number, place_of, Read, got, refused, and_then, or_operator, and_operator, whitespace_analyzer, simple_analyzer}
 use Rattle.rules.specs.Bytes.{ascii, same}
-use Rattle.rules.specs.Query.{should, filter, Query, term, boolean, boost, constant_score, matchNone, none, clause, equal}
+use Rattle.rules.specs.Query.{should, filter, Query, term, boolean, boost, constant_score, match_none, none, clause, equal}
 use Rattle.rules.specs.Stored.{encode}
 use Rattle.rules.specs.Setup.{read_setup}
 use Rattle.rules.specs.Parsing.{parse}
@@ -113,9 +113,9 @@ table =
     -- one Filter a: Boost 0.0 of ConstantScore a, 2 rounds
     ∷ becomes original lonely_filter (boost 0 (constant_score term_a)) 2
     -- minimum 2, Should a twice: MatchNone, 3 rounds, though it matched a record with a
-    ∷ becomes original twice_should matchNone 3
+    ∷ becomes original twice_should match_none 3
     ∷ is_true (place (ascii "f") 0 (ascii "a") ∷ []) twice_should true
-    ∷ is_true (place (ascii "f") 0 (ascii "a") ∷ []) matchNone false
+    ∷ is_true (place (ascii "f") 0 (ascii "a") ∷ []) match_none false
     -- strict, it stays as it is, in 1 round
     ∷ becomes strictly twice_should twice_should 1
     ∷ []

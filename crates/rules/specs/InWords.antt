@@ -1,19 +1,19 @@
 -- Words by place, as code meets them that goes from byte to byte: what stands in a word, and the tokens that are left at a place.
 use Rattle.std.specs.Prelude.{ℕ, zero, suc, ◌-◌, List, ◌++◌, Bool, ◌&&◌, ◌||◌, cond, length, take, drop, get_or, leb}
 use Rattle.rules.specs.Bytes.{some}
-use Rattle.rules.specs.Words.{WordBreak, outside, is, aLetter, numeric, extendNumLet, is_mid_letters, is_mid_numbers, values, joined, reach, is_alphanumeric, words_from}
+use Rattle.rules.specs.Words.{WordBreak, outside, is, a_letter, numeric, extend_num_let, is_mid_letters, is_mid_numbers, values, joined, reach, is_alphanumeric, words_from}
 use Rattle.rules.specs.Analysis.{chunks, cut}
 
 -- letters and digits, and with them `_`
 abbrev pub is_solid : WordBreak → Bool
-is_solid v = is v aLetter || is v numeric
+is_solid v = is v a_letter || is v numeric
 
 abbrev pub is_inner : WordBreak → Bool
-is_inner v = is_solid v || is v extendNumLet
+is_inner v = is_solid v || is v extend_num_let
 
 -- b joins a and c
 unfoldable pub bridged : WordBreak → WordBreak → WordBreak → Bool
-bridged a b c = (is a aLetter && (is_mid_letters b && is c aLetter)) || (is a numeric && (is_mid_numbers b && is c numeric))
+bridged a b c = (is a a_letter && (is_mid_letters b && is c a_letter)) || (is a numeric && (is_mid_numbers b && is c numeric))
 
 -- the value of a byte, where two places stand before the text
 abbrev pub value_at : List ℕ → ℕ → WordBreak

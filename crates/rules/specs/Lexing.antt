@@ -1,6 +1,6 @@
 -- Lexing: the whole text, first fault from the left. Section 'Lexing and parsing'.
 use Rattle.std.specs.Prelude.{ℕ, zero, suc, ◌-◌, List, [], ◌∷◌, Bool, not, ◌&&◌, cond, length, get_or, drop, eqb}
-use Rattle.rules.specs.Numbers.{Read, got, refused, need, on_read, and_then, faulty, openQuote, nothingEscaped, rangeBracket, wildcard}
+use Rattle.rules.specs.Numbers.{Read, got, refused, need, on_read, and_then, faulty, open_quote, nothing_escaped, range_bracket, wildcard}
 use Rattle.rules.specs.Bytes.{ascii, same, some}
 use Rattle.rules.specs.Analysis.{is_space, ends_term}
 
@@ -78,7 +78,7 @@ start_in n s = n - length s
 unfoldable pub term_text : ℕ → List ℕ → Read Piece
 term_text n [] = got (piece [] [])
 term_text n (c ∷ []) =
-    let dangling = refused (faulty nothingEscaped (start_in n (c ∷ []))) in
+    let dangling = refused (faulty nothing_escaped (start_in n (c ∷ []))) in
     cond (ends_term c) (got (piece [] (c ∷ []))) (cond (is_backslash c) dangling (got (piece (c ∷ []) [])))
 term_text n (c ∷ d ∷ s) =
     let plain = before c (term_text n (d ∷ s)) in
@@ -88,10 +88,10 @@ term_text n (c ∷ d ∷ s) =
 
 -- a quoted text, up to the closing quote; the opening one stands at p
 unfoldable pub quoted_text : ℕ → ℕ → List ℕ → Read Piece
-quoted_text n p [] = refused (faulty openQuote p)
+quoted_text n p [] = refused (faulty open_quote p)
 quoted_text n p (c ∷ []) =
-    let dangling = refused (faulty nothingEscaped (start_in n (c ∷ []))) in
-    cond (is_quote c) (got (piece [] [])) (cond (is_backslash c) dangling (refused (faulty openQuote p)))
+    let dangling = refused (faulty nothing_escaped (start_in n (c ∷ []))) in
+    cond (is_quote c) (got (piece [] [])) (cond (is_backslash c) dangling (refused (faulty open_quote p)))
 quoted_text n p (c ∷ d ∷ s) =
     let plain = before c (quoted_text n p (d ∷ s)) in
     let escaped = before d (quoted_text n p s) in
@@ -157,7 +157,7 @@ token_at n c s =
     (cond (doubled 0x26 c s) (got (lexed and_kind [] (drop 1 s)))
     (cond (doubled 0x7c c s) (got (lexed or_kind [] (drop 1 s)))
     (cond (is_quote c) (quoted_from n p s)
-    (cond (is_bracket c) (refused (faulty rangeBracket p))
+    (cond (is_bracket c) (refused (faulty range_bracket p))
     (cond (is_wildcard c) (refused (faulty wildcard p))
     (term_from n (c ∷ s)))))))
 

@@ -1,6 +1,6 @@
 -- Catalogue lists: records of entries. Section 'Matching and selection'.
 use Rattle.std.specs.Prelude.{ℕ, List, Bool, ◌&&◌, ◌||◌, cond, length, take, drop, leb, eqb}
-use Rattle.rules.specs.Numbers.{Read, got, need, longList, malformedList, list_most, record_tag, place_tag, whole_tag, float_tag, value_tag}
+use Rattle.rules.specs.Numbers.{Read, got, need, long_list, malformed_list, list_most, record_tag, place_tag, whole_tag, float_tag, value_tag}
 use Rattle.rules.specs.Bytes.{of_big, is_empty, tag_of, body_of, rest_of, is_part, is_field_part, every, each}
 use Rattle.rules.specs.Query.{Numbers, whole, float}
 use Rattle.rules.specs.Reading.{is_word}
@@ -45,5 +45,5 @@ record_of s = each entry_of (body_of s)
 -- 22, 23
 unfoldable pub read_list : List ℕ → Read (List (List Entry))
 read_list s =
-    let records = need (every is_record s) malformedList (got (each record_of s)) in
-    need (leb (length s) list_most) longList records
+    let records = need (every is_record s) malformed_list (got (each record_of s)) in
+    need (leb (length s) list_most) long_list records

@@ -7,7 +7,7 @@ use Rattle.std.specs.Float.Ieee.{of_bits, is_nan, le, lt}
 use Rattle.std.specs.Int.{w64}
 use Rattle.std.proofs.Common.{to_z}
 use Rattle.rules.specs.Bytes.{same, some, all}
-use Rattle.rules.specs.Query.{Word, word, Kind, must, should, mustNot, filter, Numbers, whole, float, Bound, unbounded, included, excluded, Query, term, phrase, boolean, boost, constant_score, matchAll, matchNone, range, Clauses, none, clause}
+use Rattle.rules.specs.Query.{Word, word, Kind, must, should, must_not, filter, Numbers, whole, float, Bound, unbounded, included, excluded, Query, term, phrase, boolean, boost, constant_score, match_all, match_none, range, Clauses, none, clause}
 use Rattle.rules.specs.Rewriting.{is_needed}
 use Rattle.rules.specs.Lists.{Entry, place, value}
 
@@ -99,13 +99,13 @@ bit false = 0
 abbrev pub allows : Kind → Bool → Bool
 allows must b = b
 allows should b = true
-allows mustNot b = not b
+allows must_not b = not b
 allows filter b = b
 
 abbrev pub counts_for : Kind → Bool → ℕ
 counts_for must b = 0
 counts_for should b = bit b
-counts_for mustNot b = 0
+counts_for must_not b = 0
 counts_for filter b = 0
 
 unfoldable pub any_needed : Clauses → Bool
@@ -123,8 +123,8 @@ unfoldable mutual
   matches es (boolean m cs) = all_allow es cs && enough m (any_needed cs) (shoulds_true es cs)
   matches es (boost b q) = matches es q
   matches es (constant_score q) = matches es q
-  matches es matchAll = true
-  matches es matchNone = false
+  matches es match_all = true
+  matches es match_none = false
   matches es (range n f l u) = has_range es n f l u
 
   pub all_allow : List Entry → Clauses → Bool

@@ -167,81 +167,81 @@ float_tag = 0x45
 
 -- what is wrong with a text, met while it is lexed and parsed
 pub data Fault : Type 0 where
-  openQuote nothingEscaped : Fault
-  rangeBracket wildcard : Fault
-  fuzzyTerm sloppyPhrase : Fault
-  unexpectedEnd unexpectedToken : Fault
+  open_quote nothing_escaped : Fault
+  range_bracket wildcard : Fault
+  fuzzy_term sloppy_phrase : Fault
+  unexpected_end unexpected_token : Fault
   open_bracket : Fault
-  badNumeral noNumeral : Fault
-  longField manyBrackets longNumeral : Fault
+  bad_numeral no_numeral : Fault
+  long_field many_brackets long_numeral : Fault
 
 abbrev pub fault_number : Fault → ℕ
-fault_number openQuote = 4
-fault_number nothingEscaped = 5
-fault_number rangeBracket = 6
+fault_number open_quote = 4
+fault_number nothing_escaped = 5
+fault_number range_bracket = 6
 fault_number wildcard = 7
-fault_number fuzzyTerm = 8
-fault_number sloppyPhrase = 9
-fault_number unexpectedEnd = 10
-fault_number unexpectedToken = 11
+fault_number fuzzy_term = 8
+fault_number sloppy_phrase = 9
+fault_number unexpected_end = 10
+fault_number unexpected_token = 11
 fault_number open_bracket = 12
-fault_number badNumeral = 13
-fault_number noNumeral = 14
-fault_number longField = 15
-fault_number manyBrackets = 16
-fault_number longNumeral = 17
+fault_number bad_numeral = 13
+fault_number no_numeral = 14
+fault_number long_field = 15
+fault_number many_brackets = 16
+fault_number long_numeral = 17
 
 -- a refusal is no bare number, so that none has the number of a success; a fault stands at a place
 pub data Refusal : Type 0 where
-  longText notAscii badSetup : Refusal
+  long_text not_ascii bad_setup : Refusal
   faulty : Fault → ℕ → Refusal
   long_answer : Refusal
-  longQuery malformedQuery deepQuery : Refusal
-  longList malformedList : Refusal
+  long_query malformed_query deep_query : Refusal
+  long_list malformed_list : Refusal
   many_queries : Refusal
   short_room : Refusal
 
 abbrev pub number : Refusal → ℕ
-number longText = 1
-number notAscii = 2
-number badSetup = 3
+number long_text = 1
+number not_ascii = 2
+number bad_setup = 3
 number (faulty f p) = fault_number f
 number long_answer = 18
-number longQuery = 19
-number malformedQuery = 20
-number deepQuery = 21
-number longList = 22
-number malformedList = 23
+number long_query = 19
+number malformed_query = 20
+number deep_query = 21
+number long_list = 22
+number malformed_list = 23
 number many_queries = 24
 number short_room = 32
 
 -- the place of a fault; all other refusals give 0
 abbrev pub place_of : Refusal → ℕ
-place_of longText = 0
-place_of notAscii = 0
-place_of badSetup = 0
+place_of long_text = 0
+place_of not_ascii = 0
+place_of bad_setup = 0
 place_of (faulty f p) = p
 place_of long_answer = 0
-place_of longQuery = 0
-place_of malformedQuery = 0
-place_of deepQuery = 0
-place_of longList = 0
-place_of malformedList = 0
+place_of long_query = 0
+place_of malformed_query = 0
+place_of deep_query = 0
+place_of long_list = 0
+place_of malformed_list = 0
 place_of many_queries = 0
 place_of short_room = 0
 
 -- the same refusal, a fault's place counted anew by g
 abbrev pub moved : (ℕ → ℕ) → Refusal → Refusal
-moved g longText = longText
-moved g notAscii = notAscii
-moved g badSetup = badSetup
+moved g long_text = long_text
+moved g not_ascii = not_ascii
+moved g bad_setup = bad_setup
 moved g (faulty f p) = faulty f (g p)
 moved g long_answer = long_answer
-moved g longQuery = longQuery
-moved g malformedQuery = malformedQuery
-moved g deepQuery = deepQuery
-moved g longList = longList
-moved g malformedList = malformedList
+moved g long_query = long_query
+moved g malformed_query = malformed_query
+moved g deep_query = deep_query
+moved g long_list = long_list
+moved g malformed_list = malformed_list
 moved g many_queries = many_queries
 moved g short_room = short_room
 

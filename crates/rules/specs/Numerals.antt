@@ -2,7 +2,7 @@
 use Rattle.std.specs.Prelude.{◌≡◌, ◌⊎◌, ℕ, suc, ◌+◌, ◌-◌, ◌*◌, ◌/◌, ◌%◌, ◌^◌, ◌<◌, ◌≤◌, List, [], ◌∷◌, Bool, false, not, ◌||◌, cond, length, leb, ltb, eqb}
 use Rattle.std.specs.Float.{binary32}
 use Rattle.std.specs.Float.Ieee.{round, to_bits}
-use Rattle.rules.specs.Numbers.{Read, got, refused, need, faulty, badNumeral, longNumeral, numeral_most}
+use Rattle.rules.specs.Numbers.{Read, got, refused, need, faulty, bad_numeral, long_numeral, numeral_most}
 pub use Rattle.rules.specs.Bytes.{is_digit}
 use Rattle.rules.specs.Bytes.{ascii, same, is_empty}
 use Rattle.rules.specs.Stored.{the_nan}
@@ -12,7 +12,7 @@ use Rattle.rules.specs.Analysis.{lowercase, front, after}
 
 -- no numeral; an infinity; the NaN; or the number d * 10 ^ u / 10 ^ n
 pub data Numeral : Type 0 where
-  bad infinite notNumber : Numeral
+  bad infinite not_number : Numeral
   decimal : ℕ → ℕ → ℕ → Numeral
 
 -- the number that the digits of s make, after d
@@ -53,7 +53,7 @@ unsigned s =
     let w = front is_digit s in
     let digits = after_whole (not (is_empty w)) (digits_on 0 w) (after is_digit s) in
     let l = lowercase s in
-    cond (same l (ascii "inf") || same l (ascii "infinity")) infinite (cond (same l (ascii "nan")) notNumber digits)
+    cond (same l (ascii "inf") || same l (ascii "infinity")) infinite (cond (same l (ascii "nan")) not_number digits)
 
 -- ---- the nearest 32-bit float
 
@@ -88,13 +88,13 @@ signed minus p = cond minus (2 ^ 31) 0 + p
 
 -- the one NaN has no sign
 abbrev pub bits_of : Bool → Numeral → Read ℕ
-bits_of minus bad = refused (faulty badNumeral 0)
+bits_of minus bad = refused (faulty bad_numeral 0)
 bits_of minus infinite = got (signed minus infinity)
-bits_of minus notNumber = got the_nan
+bits_of minus not_number = got the_nan
 bits_of minus (decimal d u n) = got (signed minus (nearest (d * 10 ^ u) (10 ^ n)))
 
 -- 17 before 13; both at the numeral's own start
 unfoldable pub numeral_bits : List ℕ → Read ℕ
 numeral_bits s =
     let bits = bits_of (is_minus s) (unsigned (after_sign s)) in
-    need (leb (length s) numeral_most) (faulty longNumeral 0) bits
+    need (leb (length s) numeral_most) (faulty long_numeral 0) bits

@@ -1,8 +1,8 @@
 -- Parsing, with every refusal where it is met. Section 'Lexing and parsing', from 'The grammar is mutual', and 'Parse order'.
 use Rattle.std.specs.Prelude.{ℕ, zero, suc, ◌+◌, ◌-◌, List, [], ◌∷◌, Bool, not, ◌&&◌, ◌||◌, cond, length, get_or, leb, ltb, eqb}
-use Rattle.rules.specs.Numbers.{Read, got, refused, need, on_read, and_then, placed, faulty, longText, notAscii, fuzzyTerm, sloppyPhrase, unexpectedEnd, unexpectedToken, open_bracket, noNumeral, longField, manyBrackets, text_most, field_most, brackets_most, and_operator}
+use Rattle.rules.specs.Numbers.{Read, got, refused, need, on_read, and_then, placed, faulty, long_text, not_ascii, fuzzy_term, sloppy_phrase, unexpected_end, unexpected_token, open_bracket, no_numeral, long_field, many_brackets, text_most, field_most, brackets_most, and_operator}
 use Rattle.rules.specs.Bytes.{is_text}
-use Rattle.rules.specs.Query.{Word, word, Kind, must, should, mustNot, filter, Query, term, phrase, boolean, boost, matchNone, Clauses, none, clause}
+use Rattle.rules.specs.Query.{Word, word, Kind, must, should, must_not, filter, Query, term, phrase, boolean, boost, match_none, Clauses, none, clause}
 use Rattle.rules.specs.Analysis.{tokenize}
 use Rattle.rules.specs.Lexing.{Token, end_kind, term_kind, quoted_kind, colon_kind, plus_kind, minus_kind, not_kind, and_kind, or_kind, open_kind, close_kind, caret_kind, tilde_kind, lex}
 use Rattle.rules.specs.Numerals.{numeral_bits}
@@ -74,18 +74,18 @@ module _ (st : Setup) (ts : List Token) where
   boost_at m i =
       let bits = placed (λ p. i + 1) (numeral_bits (text_at ts (i + 1))) in
       let boosted = on_read (λ b. found (on_made (boost b) m) (i + 2)) bits in
-      let taken = need (is_at term_kind ts (i + 1)) (faulty noNumeral (i + 1)) boosted in
+      let taken = need (is_at term_kind ts (i + 1)) (faulty no_numeral (i + 1)) boosted in
       cond (is_at caret_kind ts i) taken (got (found m i))
 
   unfoldable pub plain_at : List ℕ → ℕ → Read Found
   plain_at f i =
       let m = term_of st.operator f (tokenize (analyzer_of st f) (text_at ts i)) in
-      need (not (is_at tilde_kind ts (i + 1))) (faulty fuzzyTerm (i + 1)) (boost_at m (i + 1))
+      need (not (is_at tilde_kind ts (i + 1))) (faulty fuzzy_term (i + 1)) (boost_at m (i + 1))
 
   unfoldable pub quoted_at : List ℕ → ℕ → Read Found
   quoted_at f i =
       let m = phrase_of f (tokenize (analyzer_of st f) (text_at ts i)) in
-      need (not (is_at tilde_kind ts (i + 1))) (faulty sloppyPhrase (i + 1)) (boost_at m (i + 1))
+      need (not (is_at tilde_kind ts (i + 1))) (faulty sloppy_phrase (i + 1)) (boost_at m (i + 1))
 
   -- after the query in brackets
   unfoldable pub closed_at : Found → Read Found
@@ -95,25 +95,25 @@ module _ (st : Setup) (ts : List Token) where
     unfoldable pub bracket_at : List ℕ → ℕ → ℕ → Read Found
     bracket_at f d i =
         let inner = and_then (sub f (suc d) (i + 1)) closed_at in
-        need (ltb d brackets_most) (faulty manyBrackets i) inner
+        need (ltb d brackets_most) (faulty many_brackets i) inner
 
     unfoldable pub body_at : List ℕ → ℕ → ℕ → Read Found
     body_at f d i =
         cond (is_at term_kind ts i) (plain_at f i)
         (cond (is_at open_kind ts i) (bracket_at f d i)
         (cond (is_at quoted_kind ts i) (quoted_at f i)
-        (cond (is_at end_kind ts i) (refused (faulty unexpectedEnd i)) (refused (faulty unexpectedToken i)))))
+        (cond (is_at end_kind ts i) (refused (faulty unexpected_end i)) (refused (faulty unexpected_token i)))))
 
     -- a field name and a colon may stand before
     unfoldable pub clause_at : List ℕ → ℕ → ℕ → Read Found
     clause_at f d i =
-        let named = need (leb (length (text_at ts i)) field_most) (faulty longField i) (body_at (text_at ts i) d (i + 2)) in
+        let named = need (leb (length (text_at ts i)) field_most) (faulty long_field i) (body_at (text_at ts i) d (i + 2)) in
         cond (is_at term_kind ts i && is_at colon_kind ts (i + 1)) named (body_at f d i)
 
 -- ---- a query: its clauses, kinds set as in `add_clause`
 
 pub data Conjunction : Type 0 where
-  unjoined joinedByAnd joinedByOr : Conjunction
+  unjoined joined_by_and joined_by_or : Conjunction
 
 pub data Modifier : Type 0 where
   unmodified required prohibited : Modifier
@@ -121,12 +121,12 @@ pub data Modifier : Type 0 where
 -- looked for only when some clause has been kept
 abbrev pub conjunction_at : Clauses → List Token → ℕ → Conjunction
 conjunction_at none ts i = unjoined
-conjunction_at (clause k q cs) ts i = cond (is_at and_kind ts i) joinedByAnd (cond (is_at or_kind ts i) joinedByOr unjoined)
+conjunction_at (clause k q cs) ts i = cond (is_at and_kind ts i) joined_by_and (cond (is_at or_kind ts i) joined_by_or unjoined)
 
 abbrev pub after_conjunction : Conjunction → ℕ → ℕ
 after_conjunction unjoined i = i
-after_conjunction joinedByAnd i = i + 1
-after_conjunction joinedByOr i = i + 1
+after_conjunction joined_by_and i = i + 1
+after_conjunction joined_by_or i = i + 1
 
 abbrev pub modifier_at : List Token → ℕ → Modifier
 modifier_at ts i = cond (is_at plus_kind ts i) required (cond (is_at minus_kind ts i || is_at not_kind ts i) prohibited unmodified)
@@ -139,24 +139,24 @@ after_modifier prohibited i = i + 1
 -- what a conjunction makes of the kind before it
 abbrev pub kind_before : ℕ → Conjunction → Kind → Kind
 kind_before o unjoined k = k
-kind_before o joinedByAnd must = must
-kind_before o joinedByAnd should = must
-kind_before o joinedByAnd mustNot = mustNot
-kind_before o joinedByAnd filter = must
-kind_before o joinedByOr must = cond (eqb o and_operator) should must
-kind_before o joinedByOr should = should
-kind_before o joinedByOr mustNot = mustNot
-kind_before o joinedByOr filter = cond (eqb o and_operator) should filter
+kind_before o joined_by_and must = must
+kind_before o joined_by_and should = must
+kind_before o joined_by_and must_not = must_not
+kind_before o joined_by_and filter = must
+kind_before o joined_by_or must = cond (eqb o and_operator) should must
+kind_before o joined_by_or should = should
+kind_before o joined_by_or must_not = must_not
+kind_before o joined_by_or filter = cond (eqb o and_operator) should filter
 
 -- the kind of a clause after a conjunction and a modifier
 abbrev pub kind_after : ℕ → Conjunction → Modifier → Kind
-kind_after o c prohibited = mustNot
+kind_after o c prohibited = must_not
 kind_after o unjoined unmodified = operator_kind o
 kind_after o unjoined required = must
-kind_after o joinedByAnd unmodified = must
-kind_after o joinedByAnd required = must
-kind_after o joinedByOr unmodified = should
-kind_after o joinedByOr required = cond (eqb o and_operator) should must
+kind_after o joined_by_and unmodified = must
+kind_after o joined_by_and required = must
+kind_after o joined_by_or unmodified = should
+kind_after o joined_by_or required = cond (eqb o and_operator) should must
 
 -- the clauses kept so far stand with the last one first
 unfoldable pub touched : ℕ → Conjunction → Clauses → Clauses
@@ -171,7 +171,7 @@ in_order_before cs (clause k q ds) = in_order_before (clause k q cs) ds
 abbrev pub alone : Kind → Query → Query
 alone must q = q
 alone should q = q
-alone mustNot q = boolean 0 (clause mustNot q none)
+alone must_not q = boolean 0 (clause must_not q none)
 alone filter q = boolean 0 (clause filter q none)
 
 unfoldable pub query_of : Clauses → Made
@@ -197,7 +197,7 @@ stops_at ts i = is_at close_kind ts i || is_at end_kind ts i
 
 -- the clauses from i on, with cs kept before them; n is above the number of unread tokens
 unfoldable pub parse_clauses : Setup → List Token → ℕ → List ℕ → ℕ → Clauses → ℕ → Read Kept
-parse_clauses st ts zero f d cs i = refused (faulty unexpectedEnd i)
+parse_clauses st ts zero f d cs i = refused (faulty unexpected_end i)
 parse_clauses st ts (suc n) f d cs i =
     let c = conjunction_at cs ts i in
     let j = after_conjunction c i in
@@ -213,11 +213,11 @@ parse_query st ts n f d i = on_read query_found (parse_clauses st ts n f d none 
 -- ---- the text
 
 abbrev pub or_match_none : Made → Query
-or_match_none nothing = matchNone
+or_match_none nothing = match_none
 or_match_none (made q) = q
 
 unfoldable pub whole_query : List Token → Found → Read Query
-whole_query ts (found m j) = need (is_at end_kind ts j) (faulty unexpectedToken j) (got (or_match_none m))
+whole_query ts (found m j) = need (is_at end_kind ts j) (faulty unexpected_token j) (got (or_match_none m))
 
 unfoldable pub parse_tokens : Setup → List Token → Read Query
 parse_tokens st ts = and_then (parse_query st ts (suc (length ts)) st.field 0 0) (whole_query ts)
@@ -226,5 +226,5 @@ parse_tokens st ts = and_then (parse_query st ts (suc (length ts)) st.field 0 0)
 unfoldable pub parse : Setup → List ℕ → Read Query
 parse st s =
     let parsed = and_then (lex s) (λ ts. placed (start_of (length s) ts) (parse_tokens st ts)) in
-    let plain = need (is_text s) notAscii parsed in
-    need (leb (length s) text_most) longText plain
+    let plain = need (is_text s) not_ascii parsed in
+    need (leb (length s) text_most) long_text plain

@@ -13,7 +13,7 @@ abbrev pub text_of : Word → List ℕ
 text_of (word p t) = t
 
 pub data Kind : Type 0 where
-  must should mustNot filter : Kind
+  must should must_not filter : Kind
   deriving Discrete as kind_discrete
 
 -- the numbers of a range and of an entry: whole or float, by their 64 bits
@@ -34,7 +34,7 @@ mutual
     boolean : ℕ → Clauses → Query
     boost : ℕ → Query → Query
     constant_score : Query → Query
-    matchAll matchNone : Query
+    match_all match_none : Query
     range : Numbers → List ℕ → Bound → Bound → Query
     deriving Discrete as query_discrete
 
@@ -50,8 +50,8 @@ unfoldable mutual
   depth (boolean m cs) = 1 + depths cs
   depth (boost b q) = 1 + depth q
   depth (constant_score q) = 1 + depth q
-  depth matchAll = 1
-  depth matchNone = 1
+  depth match_all = 1
+  depth match_none = 1
   depth (range n f l u) = 1
 
   pub depths : Clauses → ℕ

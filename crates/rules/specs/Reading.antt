@@ -2,9 +2,9 @@
 -- At a header: three bytes are there, the tag is allowed, the length lies within the part around it; then depth; then the body;
 -- and what is left over in a part is met after what stands before it. The depth that is left is what the reading recurses on.
 use Rattle.std.specs.Prelude.{ℕ, zero, suc, List, Bool, ◌&&◌, ◌||◌, cond, length, take, drop, leb, eqb}
-use Rattle.rules.specs.Numbers.{term_tag, phrase_tag, boolean_tag, boost_tag, constant_score_tag, match_all_tag, match_none_tag, whole_range_tag, float_range_tag, text_tag, word_tag, minimum_tag, must_tag, should_tag, must_not_tag, filter_tag, open_tag, included_tag, excluded_tag, malformedQuery, deepQuery, longQuery, number, Read, got, refused, need, on_read, rewriter_bytes, rewriter_depth, selection_bytes, selection_depth}
+use Rattle.rules.specs.Numbers.{term_tag, phrase_tag, boolean_tag, boost_tag, constant_score_tag, match_all_tag, match_none_tag, whole_range_tag, float_range_tag, text_tag, word_tag, minimum_tag, must_tag, should_tag, must_not_tag, filter_tag, open_tag, included_tag, excluded_tag, malformed_query, deep_query, long_query, number, Read, got, refused, need, on_read, rewriter_bytes, rewriter_depth, selection_bytes, selection_depth}
 use Rattle.rules.specs.Bytes.{of_big, is_empty, is_text, tag_of, body_of, rest_of, whole_of, is_part, is_field_part, every, each}
-use Rattle.rules.specs.Query.{Word, word, Kind, must, should, mustNot, filter, Numbers, whole, float, Bound, unbounded, included, excluded, Query, term, phrase, boolean, boost, constant_score, matchAll, matchNone, range, Clauses, none, clause}
+use Rattle.rules.specs.Query.{Word, word, Kind, must, should, must_not, filter, Numbers, whole, float, Bound, unbounded, included, excluded, Query, term, phrase, boolean, boost, constant_score, match_all, match_none, range, Clauses, none, clause}
 use Rattle.rules.specs.Stored.{is_boost}
 
 -- the number that an answer gives for it: 0 for what was read
@@ -14,7 +14,7 @@ number_of (refused r) = number r
 
 -- a test that has to pass
 abbrev pub sound : {A : Type 0} → Bool → Read A → Read A
-sound b o = need b malformedQuery o
+sound b o = need b malformed_query o
 
 -- what was read, if nothing is left over
 unfoldable pub closed : Read Query → Bool → Read Query
@@ -74,7 +74,7 @@ abbrev pub is_kind : ℕ → Bool
 is_kind t = leb must_tag t && leb t filter_tag
 
 abbrev pub kind_of : ℕ → Kind
-kind_of t = cond (eqb t must_tag) must (cond (eqb t should_tag) should (cond (eqb t must_not_tag) mustNot filter))
+kind_of t = cond (eqb t must_tag) must (cond (eqb t should_tag) should (cond (eqb t must_not_tag) must_not filter))
 
 -- a clause and those that follow it: a fault of the first comes first
 unfoldable pub added : Kind → Read Query → Read Clauses → Read Clauses
@@ -107,21 +107,21 @@ body_in sub t b =
     (cond (eqb t boolean_tag) (boolean_in sub b)
     (cond (eqb t boost_tag) (boost_in sub b)
     (cond (eqb t constant_score_tag) (constant_score_in sub b)
-    (cond (eqb t match_all_tag) (empty_in matchAll b)
-    (cond (eqb t match_none_tag) (empty_in matchNone b)
+    (cond (eqb t match_all_tag) (empty_in match_all b)
+    (cond (eqb t match_none_tag) (empty_in match_none b)
     (cond (eqb t whole_range_tag) (range_in whole b)
     (range_in float b))))))))
 
 -- one query that fills s, of at most d records one in another
 unfoldable pub decode : ℕ → List ℕ → Read Query
-decode zero s = sound (whole_of s && is_query (tag_of s)) (refused deepQuery)
+decode zero s = sound (whole_of s && is_query (tag_of s)) (refused deep_query)
 decode (suc d) s =
     let record-read = closed (body_in (decode d) (tag_of s) (body_of s)) (is_empty (rest_of s)) in
     sound (whole_of s && is_query (tag_of s)) record-read
 
 -- 19, then 20 and 21 in reading order
 abbrev pub read_within : ℕ → ℕ → List ℕ → Read Query
-read_within most d s = let q = decode d s in need (leb (length s) most) longQuery q
+read_within most d s = let q = decode d s in need (leb (length s) most) long_query q
 
 -- as the rewriter and as selection read a query
 abbrev pub read_for_rewriting : List ℕ → Read Query

@@ -1,6 +1,6 @@
 -- Weight, one round of rewriting, all rounds and their count. Section 'One round of rewriting'.
 use Rattle.std.specs.Prelude.{ℕ, zero, suc, ◌+◌, ◌≤◌, max, List, [], ◌∷◌, Bool, true, false, not, ◌&&◌, ◌||◌, cond, length, leb, ltb, Float}
-use Rattle.rules.specs.Query.{Word, word, Kind, must, should, mustNot, filter, Query, term, phrase, boolean, boost, constant_score, matchAll, matchNone, range, Clauses, none, clause, equal}
+use Rattle.rules.specs.Query.{Word, word, Kind, must, should, must_not, filter, Query, term, phrase, boolean, boost, constant_score, match_all, match_none, range, Clauses, none, clause, equal}
 use Rattle.rules.specs.Stored.{encode_bound, encode_words}
 use Rattle.rules.specs.Floats.{one, widened, narrowed, plus, times, is_one}
 
@@ -13,8 +13,8 @@ unfoldable mutual
   weight (boolean m cs) = 3 + weights cs
   weight (boost b q) = 1 + weight q
   weight (constant_score q) = 1 + weight q
-  weight matchAll = 1
-  weight matchNone = 1
+  weight match_all = 1
+  weight match_none = 1
   weight (range n f l u) = 1
 
   pub weights : Clauses → ℕ
@@ -29,8 +29,8 @@ unfoldable mutual
   largest (boolean m cs) = max m (largests cs)
   largest (boost b q) = largest q
   largest (constant_score q) = largest q
-  largest matchAll = 0
-  largest matchNone = 0
+  largest match_all = 0
+  largest match_none = 0
   largest (range n f l u) = 0
 
   pub largests : Clauses → ℕ
@@ -45,8 +45,8 @@ unfoldable mutual
   clause_count (boolean m cs) = clause_counts cs
   clause_count (boost b q) = clause_count q
   clause_count (constant_score q) = clause_count q
-  clause_count matchAll = 0
-  clause_count matchNone = 0
+  clause_count match_all = 0
+  clause_count match_none = 0
   clause_count (range n f l u) = 0
 
   pub clause_counts : Clauses → ℕ
@@ -61,8 +61,8 @@ unfoldable mutual
   bulk (boolean m cs) = 8 + bulks cs
   bulk (boost b q) = 7 + bulk q
   bulk (constant_score q) = 3 + bulk q
-  bulk matchAll = 3
-  bulk matchNone = 3
+  bulk match_all = 3
+  bulk match_none = 3
   bulk (range n f l u) = 6 + length f + length (encode_bound l) + length (encode_bound u)
 
   pub bulks : Clauses → ℕ
@@ -77,8 +77,8 @@ is_none (phrase f ws) = false
 is_none (boolean m cs) = false
 is_none (boost b q) = false
 is_none (constant_score q) = false
-is_none matchAll = false
-is_none matchNone = true
+is_none match_all = false
+is_none match_none = true
 is_none (range n f l u) = false
 
 -- a nested boost is one 32-bit product
@@ -88,8 +88,8 @@ boosted b (phrase f ws) = boost b (phrase f ws)
 boosted b (boolean m cs) = boost b (boolean m cs)
 boosted b (boost c q) = boost (times c b) q
 boosted b (constant_score q) = boost b (constant_score q)
-boosted b matchAll = boost b matchAll
-boosted b matchNone = matchNone
+boosted b match_all = boost b match_all
+boosted b match_none = match_none
 boosted b (range n f l u) = boost b (range n f l u)
 
 unfoldable pub scored : Query → Query
@@ -98,12 +98,12 @@ scored (phrase f ws) = constant_score (phrase f ws)
 scored (boolean m cs) = constant_score (boolean m cs)
 scored (boost c q) = constant_score q
 scored (constant_score q) = constant_score q
-scored matchAll = constant_score matchAll
-scored matchNone = matchNone
+scored match_all = constant_score match_all
+scored match_none = match_none
 scored (range n f l u) = constant_score (range n f l u)
 
 unfoldable pub phrased : List ℕ → List Word → Query
-phrased f [] = matchNone
+phrased f [] = match_none
 phrased f (word p t ∷ []) = term f t
 phrased f (v ∷ w ∷ ws) = phrase f (v ∷ w ∷ ws)
 
@@ -125,32 +125,32 @@ Fair false n = n ≤ 1
 abbrev pub is_needed : Kind → Bool
 is_needed must = true
 is_needed should = false
-is_needed mustNot = false
+is_needed must_not = false
 is_needed filter = true
 
 abbrev pub is_must_not : Kind → Bool
 is_must_not must = false
 is_must_not should = false
-is_must_not mustNot = true
+is_must_not must_not = true
 is_must_not filter = false
 
 abbrev pub if_should : Kind → ℕ
 if_should must = 0
 if_should should = 1
-if_should mustNot = 0
+if_should must_not = 0
 if_should filter = 0
 
 abbrev pub scores : Kind → Bool
 scores must = true
 scores should = true
-scores mustNot = false
+scores must_not = false
 scores filter = false
 
 -- Must, and Should when the minimum is at most 1
 abbrev pub summable : ℕ → Kind → Bool
 summable m must = true
 summable m should = leb m 1
-summable m mustNot = false
+summable m must_not = false
 summable m filter = false
 
 -- an equal clause of kind j, kept before, stands for one of kind k: of its own kind, and a Must for a Filter. Strict, a Should stands for no other while
@@ -158,19 +158,19 @@ summable m filter = false
 abbrev pub stands_for : Bool → ℕ → Kind → Kind → Bool
 stands_for strict m must must = true
 stands_for strict m must should = false
-stands_for strict m must mustNot = false
+stands_for strict m must must_not = false
 stands_for strict m must filter = true
 stands_for strict m should must = false
 stands_for strict m should should = not strict || leb m 1
-stands_for strict m should mustNot = false
+stands_for strict m should must_not = false
 stands_for strict m should filter = false
-stands_for strict m mustNot must = false
-stands_for strict m mustNot should = false
-stands_for strict m mustNot mustNot = true
-stands_for strict m mustNot filter = false
+stands_for strict m must_not must = false
+stands_for strict m must_not should = false
+stands_for strict m must_not must_not = true
+stands_for strict m must_not filter = false
 stands_for strict m filter must = false
 stands_for strict m filter should = false
-stands_for strict m filter mustNot = false
+stands_for strict m filter must_not = false
 stands_for strict m filter filter = true
 
 -- ---- the merging of clauses
@@ -182,8 +182,8 @@ base (phrase f ws) = phrase f ws
 base (boolean m cs) = boolean m cs
 base (boost b q) = q
 base (constant_score q) = constant_score q
-base matchAll = matchAll
-base matchNone = matchNone
+base match_all = match_all
+base match_none = match_none
 base (range n f l u) = range n f l u
 
 unfoldable pub boost_of : Query → Float
@@ -192,8 +192,8 @@ boost_of (phrase f ws) = one
 boost_of (boolean m cs) = one
 boost_of (boost b q) = widened b
 boost_of (constant_score q) = one
-boost_of matchAll = one
-boost_of matchNone = one
+boost_of match_all = one
+boost_of match_none = one
 boost_of (range n f l u) = one
 
 -- a merged clause: kind, base and running sum
@@ -234,7 +234,7 @@ merged_boolean strict m cs = boolean m (clauses_of (merge_onto strict m empty cs
 unfoldable pub lone : Kind → Query → Query
 lone must q = q
 lone should q = q
-lone mustNot q = matchNone
+lone must_not q = match_none
 lone filter q = boost 0 (constant_score q)
 
 unfoldable pub lone_or_merged : Bool → ℕ → Clauses → Query
@@ -251,7 +251,7 @@ only_must_not none = true
 only_must_not (clause k q cs) = is_must_not k && only_must_not cs
 
 unfoldable pub of_live : Bool → ℕ → Clauses → Query
-of_live strict m cs = cond (only_must_not cs) matchNone (cond (ltb (should_count cs) m) matchNone (lone_or_merged strict m cs))
+of_live strict m cs = cond (only_must_not cs) match_none (cond (ltb (should_count cs) m) match_none (lone_or_merged strict m cs))
 
 -- a Must or a Filter that is MatchNone
 unfoldable pub is_dead : Clauses → Bool
@@ -264,7 +264,7 @@ live none = none
 live (clause k q cs) = cond (is_none q) (live cs) (clause k q (live cs))
 
 unfoldable pub rewrite_boolean : Bool → ℕ → Clauses → Query
-rewrite_boolean strict m cs = cond (is_dead cs) matchNone (of_live strict m (live cs))
+rewrite_boolean strict m cs = cond (is_dead cs) match_none (of_live strict m (live cs))
 
 -- ---- one round, children first
 
@@ -275,8 +275,8 @@ unfoldable mutual
   rewrite_once strict (boolean m cs) = rewrite_boolean strict m (rewrite_each strict cs)
   rewrite_once strict (boost b q) = cond (is_one (widened b)) (rewrite_once strict q) (boosted b (rewrite_once strict q))
   rewrite_once strict (constant_score q) = scored (rewrite_once strict q)
-  rewrite_once strict matchAll = matchAll
-  rewrite_once strict matchNone = matchNone
+  rewrite_once strict match_all = match_all
+  rewrite_once strict match_none = match_none
   rewrite_once strict (range n f l u) = range n f l u
 
   pub rewrite_each : Bool → Clauses → Clauses

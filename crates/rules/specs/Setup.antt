@@ -1,6 +1,6 @@
 -- The setup, and the analyzer of a field. Section 'What is ported'.
 use Rattle.std.specs.Prelude.{ℕ, zero, suc, List, [], ◌∷◌, Bool, ◌&&◌, cond, length, take, drop, leb}
-use Rattle.rules.specs.Numbers.{Read, got, refused, need, on_read, and_then, badSetup, entries_most, and_operator, whitespace_analyzer, english_analyzer}
+use Rattle.rules.specs.Numbers.{Read, got, refused, need, on_read, and_then, bad_setup, entries_most, and_operator, whitespace_analyzer, english_analyzer}
 use Rattle.rules.specs.Bytes.{same, is_empty, is_field, all}
 use Rattle.rules.specs.Analysis.{between}
 
@@ -40,20 +40,20 @@ analyzer_of s f = analyzer_among s.analyzer s.entries f
 -- the entries in s; `more` reads what follows the first
 unfoldable pub entries_step : (List ℕ → Read (List FieldEntry)) → List ℕ → Read (List FieldEntry)
 entries_step more [] = got []
-entries_step more (a ∷ []) = refused badSetup
+entries_step more (a ∷ []) = refused bad_setup
 entries_step more (a ∷ n ∷ s) =
     let these = on_read (λ es. field_entry a (take n s) ∷ es) (more (drop n s)) in
-    need (leb n (length s)) badSetup these
+    need (leb n (length s)) bad_setup these
 
 -- k bounds their number
 unfoldable pub entries_in : ℕ → List ℕ → Read (List FieldEntry)
-entries_in zero s = need (is_empty s) badSetup (got [])
+entries_in zero s = need (is_empty s) bad_setup (got [])
 entries_in (suc k) s = entries_step (λ t. entries_in k t) s
 
 unfoldable pub setup_with : ℕ → ℕ → List ℕ → List FieldEntry → Read Setup
 setup_with o a f es =
     let s : Setup = record { operator = o; analyzer = a; field = f; entries = es } in
-    need (is_setup s) badSetup (got s)
+    need (is_setup s) bad_setup (got s)
 
 -- the setup of a call, or refusal 3
 unfoldable pub read_setup : ℕ → ℕ → List ℕ → List ℕ → Read Setup

@@ -1,8 +1,8 @@
 -- The show text of a query. Section 'Both sides of each line', from 'The show program'.
 use Rattle.std.specs.Prelude.{ℕ, zero, suc, ◌+◌, ◌/◌, ◌%◌, List, [], ◌∷◌, ◌++◌, Bool, not, ◌&&◌, ◌||◌, cond, drop, ltb, eqb}
-use Rattle.rules.specs.Numbers.{number, place_of, Read, got, refused, need, on_read, and_then, badSetup, or_operator, and_operator, simple_analyzer}
+use Rattle.rules.specs.Numbers.{number, place_of, Read, got, refused, need, on_read, and_then, bad_setup, or_operator, and_operator, simple_analyzer}
 use Rattle.rules.specs.Bytes.{ascii, same, big, is_empty}
-use Rattle.rules.specs.Query.{Word, word, Kind, must, should, mustNot, filter, Numbers, whole, float, Bound, unbounded, included, excluded, Query, term, phrase, boolean, boost, constant_score, matchAll, matchNone, range, Clauses, none, clause}
+use Rattle.rules.specs.Query.{Word, word, Kind, must, should, must_not, filter, Numbers, whole, float, Bound, unbounded, included, excluded, Query, term, phrase, boolean, boost, constant_score, match_all, match_none, range, Clauses, none, clause}
 use Rattle.rules.specs.Stored.{encode}
 use Rattle.rules.specs.Reading.{read_for_rewriting}
 use Rattle.rules.specs.Analysis.{between, front, after}
@@ -47,7 +47,7 @@ shown_field f = cond (is_empty f) (ascii "\\") (shown f)
 abbrev pub kind_name : Kind → List ℕ
 kind_name must = ascii "must"
 kind_name should = ascii "should"
-kind_name mustNot = ascii "mustnot"
+kind_name must_not = ascii "mustnot"
 kind_name filter = ascii "filter"
 
 unfoldable pub shown_words : List Word → List ℕ
@@ -77,8 +77,8 @@ unfoldable mutual
   show d k (boolean m cs) = line d k (ascii "boolean " ++ decimal m) ++ show_clauses (suc d) cs
   show d k (boost b q) = line d k (ascii "boost " ++ hex (big 4 b)) ++ show (suc d) no_kind q
   show d k (constant_score q) = line d k (ascii "constantscore") ++ show (suc d) no_kind q
-  show d k matchAll = line d k (ascii "matchall")
-  show d k matchNone = line d k (ascii "matchnone")
+  show d k match_all = line d k (ascii "matchall")
+  show d k match_none = line d k (ascii "matchnone")
   show d k (range n f l u) = line d k (shown_numbers n ++ shown_field f ++ shown_bound l ++ shown_bound u)
 
   pub show_clauses : ℕ → Clauses → List ℕ
@@ -104,12 +104,12 @@ in_word c = not (eqb c 0x20)
 unfoldable pub operator_in : List ℕ → Read ℕ
 operator_in w =
     cond (same w (ascii "or")) (got or_operator)
-    (cond (same w (ascii "and")) (got and_operator) (refused badSetup))
+    (cond (same w (ascii "and")) (got and_operator) (refused bad_setup))
 
 unfoldable pub show_setup : List ℕ → Read Setup
 show_setup s =
     let setup = and_then (operator_in (front in_word s)) (λ o. read_setup o simple_analyzer (drop 1 (after in_word s)) []) in
-    need (not (is_empty (after in_word s))) badSetup setup
+    need (not (is_empty (after in_word s))) bad_setup setup
 
 -- the two queries, as they are stored
 unfoldable pub show_rewritten : Query → Rewritten → List ℕ

@@ -4,12 +4,12 @@ use Rattle.std.specs.Float.{binary32}
 use Rattle.std.specs.Float.Ieee.{nan_bits}
 use Rattle.rules.specs.Numbers.{term_tag, phrase_tag, boolean_tag, boost_tag, constant_score_tag, match_all_tag, match_none_tag, whole_range_tag, float_range_tag, field_tag, text_tag, word_tag, minimum_tag, must_tag, should_tag, must_not_tag, filter_tag, open_tag, included_tag, excluded_tag}
 use Rattle.rules.specs.Bytes.{big, part, is_text, is_field}
-use Rattle.rules.specs.Query.{Word, word, Kind, must, should, mustNot, filter, Numbers, whole, float, Bound, unbounded, included, excluded, Query, term, phrase, boolean, boost, constant_score, matchAll, matchNone, range, Clauses, none, clause}
+use Rattle.rules.specs.Query.{Word, word, Kind, must, should, must_not, filter, Numbers, whole, float, Bound, unbounded, included, excluded, Query, term, phrase, boolean, boost, constant_score, match_all, match_none, range, Clauses, none, clause}
 
 abbrev pub kind_tag : Kind → ℕ
 kind_tag must = must_tag
 kind_tag should = should_tag
-kind_tag mustNot = must_not_tag
+kind_tag must_not = must_not_tag
 kind_tag filter = filter_tag
 
 abbrev pub range_tag : Numbers → ℕ
@@ -32,8 +32,8 @@ unfoldable mutual
   encode (boolean m cs) = part boolean_tag (part minimum_tag (big 2 m) ++ encodes cs)
   encode (boost b q) = part boost_tag (big 4 b ++ encode q)
   encode (constant_score q) = part constant_score_tag (encode q)
-  encode matchAll = part match_all_tag []
-  encode matchNone = part match_none_tag []
+  encode match_all = part match_all_tag []
+  encode match_none = part match_none_tag []
   encode (range n f l u) = part (range_tag n) (part field_tag f ++ encode_bound l ++ encode_bound u)
 
   pub encodes : Clauses → List ℕ
@@ -65,8 +65,8 @@ unfoldable mutual
   Valid (boolean m cs) = (m < 2 ^ 16) × Valids cs
   Valid (boost b q) = (is_boost b ≡ true) × Valid q
   Valid (constant_score q) = Valid q
-  Valid matchAll = Unit {0}
-  Valid matchNone = Unit {0}
+  Valid match_all = Unit {0}
+  Valid match_none = Unit {0}
   Valid (range n f l u) = (is_field f ≡ true) × ValidBound l × ValidBound u
 
   pub Valids : Clauses → Type 0

@@ -1,7 +1,7 @@
 -- What the result is free of: no Boolean has two Must clauses, or two Should clauses with a minimum of at most 1, that are equal after one outer boost is taken off.
 -- Section 'One round of rewriting'. These are the kinds that are `summable`.
 use Rattle.std.specs.Prelude.{◌≡◌, ℕ, true}
-use Rattle.rules.specs.Query.{Kind, Query, term, phrase, boolean, boost, constant_score, matchAll, matchNone, range, Clauses, none, clause}
+use Rattle.rules.specs.Query.{Kind, Query, term, phrase, boolean, boost, constant_score, match_all, match_none, range, Clauses, none, clause}
 use Rattle.rules.specs.Rewriting.{summable, base}
 
 -- no clause of kind k is p after one outer boost is taken off
@@ -22,8 +22,8 @@ unfoldable mutual
   Tidy (boolean m cs) = Distinct m cs × Tidies cs
   Tidy (boost b q) = Tidy q
   Tidy (constant_score q) = Tidy q
-  Tidy matchAll = Unit {0}
-  Tidy matchNone = Unit {0}
+  Tidy match_all = Unit {0}
+  Tidy match_none = Unit {0}
   Tidy (range n f l u) = Unit {0}
 
   pub Tidies : Clauses → Type 0

@@ -10,8 +10,8 @@ pub data WordBreak : Type 0 where
   outside : WordBreak
   cr lf newline : WordBreak
   w_seg_space : WordBreak
-  aLetter numeric extendNumLet : WordBreak
-  midLetter midNum midNumLet singleQuote : WordBreak
+  a_letter numeric extend_num_let : WordBreak
+  mid_letter mid_num mid_num_let single_quote : WordBreak
   other : WordBreak
 
 -- `"` is Double_Quote, which only Hebrew letters ask for
@@ -21,13 +21,13 @@ word_break c =
     (cond (eqb c 0x0a) lf
     (cond (between 0x0b 0x0c c) newline
     (cond (eqb c 0x20) w_seg_space
-    (cond (is_letter c) aLetter
+    (cond (is_letter c) a_letter
     (cond (is_digit c) numeric
-    (cond (some (eqb c) (ascii "_")) extendNumLet
-    (cond (some (eqb c) (ascii ":")) midLetter
-    (cond (some (eqb c) (ascii ",;")) midNum
-    (cond (some (eqb c) (ascii ".")) midNumLet
-    (cond (some (eqb c) (ascii "'")) singleQuote other))))))))))
+    (cond (some (eqb c) (ascii "_")) extend_num_let
+    (cond (some (eqb c) (ascii ":")) mid_letter
+    (cond (some (eqb c) (ascii ",;")) mid_num
+    (cond (some (eqb c) (ascii ".")) mid_num_let
+    (cond (some (eqb c) (ascii "'")) single_quote other))))))))))
 
 abbrev pub code : WordBreak → ℕ
 code outside = 0
@@ -35,30 +35,30 @@ code cr = 1
 code lf = 2
 code newline = 3
 code w_seg_space = 4
-code aLetter = 5
+code a_letter = 5
 code numeric = 6
-code extendNumLet = 7
-code midLetter = 8
-code midNum = 9
-code midNumLet = 10
-code singleQuote = 11
+code extend_num_let = 7
+code mid_letter = 8
+code mid_num = 9
+code mid_num_let = 10
+code single_quote = 11
 code other = 12
 
 abbrev pub is : WordBreak → WordBreak → Bool
 is v w = eqb (code v) (code w)
 
 -- the annex's macros: AHLetter, MidNumLetQ; and (MidLetter | MidNumLetQ), (MidNum | MidNumLetQ), (Newline | CR | LF), as its rules have them
-abbrev pub is_aHLetter : WordBreak → Bool
-is_aHLetter v = is v aLetter
+abbrev pub is_ah_letter : WordBreak → Bool
+is_ah_letter v = is v a_letter
 
 abbrev pub is_mid_num_let_q : WordBreak → Bool
-is_mid_num_let_q v = is v midNumLet || is v singleQuote
+is_mid_num_let_q v = is v mid_num_let || is v single_quote
 
 abbrev pub is_mid_letters : WordBreak → Bool
-is_mid_letters v = is v midLetter || is_mid_num_let_q v
+is_mid_letters v = is v mid_letter || is_mid_num_let_q v
 
 abbrev pub is_mid_numbers : WordBreak → Bool
-is_mid_numbers v = is v midNum || is_mid_num_let_q v
+is_mid_numbers v = is v mid_num || is_mid_num_let_q v
 
 abbrev pub is_line_end : WordBreak → Bool
 is_line_end v = is v newline || (is v cr || is v lf)
@@ -90,27 +90,27 @@ joins a b c d =
     (unbroken (is b w_seg_space && is c w_seg_space)
     -- WB4: X (Extend | Format | ZWJ)* → X, not in ASCII
     -- WB5: AHLetter × AHLetter
-    (unbroken (is_aHLetter b && is_aHLetter c)
+    (unbroken (is_ah_letter b && is_ah_letter c)
     -- WB6: AHLetter × (MidLetter | MidNumLetQ) AHLetter
-    (unbroken (is_aHLetter b && (is_mid_letters c && is_aHLetter d))
+    (unbroken (is_ah_letter b && (is_mid_letters c && is_ah_letter d))
     -- WB7: AHLetter (MidLetter | MidNumLetQ) × AHLetter
-    (unbroken (is_aHLetter a && (is_mid_letters b && is_aHLetter c))
+    (unbroken (is_ah_letter a && (is_mid_letters b && is_ah_letter c))
     -- WB7a, WB7b, WB7c: Hebrew_Letter, not in ASCII
     -- WB8: Numeric × Numeric
     (unbroken (is b numeric && is c numeric)
     -- WB9: AHLetter × Numeric
-    (unbroken (is_aHLetter b && is c numeric)
+    (unbroken (is_ah_letter b && is c numeric)
     -- WB10: Numeric × AHLetter
-    (unbroken (is b numeric && is_aHLetter c)
+    (unbroken (is b numeric && is_ah_letter c)
     -- WB11: Numeric (MidNum | MidNumLetQ) × Numeric
     (unbroken (is a numeric && (is_mid_numbers b && is c numeric))
     -- WB12: Numeric × (MidNum | MidNumLetQ) Numeric
     (unbroken (is b numeric && (is_mid_numbers c && is d numeric))
     -- WB13: Katakana × Katakana, not in ASCII
     -- WB13a: (AHLetter | Numeric | Katakana | ExtendNumLet) × ExtendNumLet
-    (unbroken ((is_aHLetter b || (is b numeric || is b extendNumLet)) && is c extendNumLet)
+    (unbroken ((is_ah_letter b || (is b numeric || is b extend_num_let)) && is c extend_num_let)
     -- WB13b: ExtendNumLet × (AHLetter | Numeric | Katakana)
-    (unbroken (is b extendNumLet && (is_aHLetter c || is c numeric))
+    (unbroken (is b extend_num_let && (is_ah_letter c || is c numeric))
     -- WB15, WB16: Regional_Indicator, not in ASCII
     -- WB999: Any ÷ Any
     false)))))))))))))))

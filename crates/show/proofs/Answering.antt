@@ -29,7 +29,7 @@ use Rattle.rules.proofs.Rewriting.Weights.{few_rounds, valid_rewrite}
 use Rattle.rules.proofs.Rewriting.Bounds.{within_bytes}
 use Rattle.numbers.specs.Laid.{laid}
 use Rattle.numbers.proofs.Laying.{laid_front}
-use Rattle.parser.specs.Parsed.{left_of as parsedLeft}
+use Rattle.parser.specs.Parsed.{left_of as parsed_left}
 use Rattle.parser.specs.declared.parse.Parsed.{Parsed as parsed-type}
 use Rattle.parser.specs.declared.parse.Parsed.TheVariants as parsed
 use Rattle.rewriter.specs.Rounds.{left}
@@ -100,18 +100,18 @@ module _ (X : Read Query) (first room : List ℕ) (h : parse_room ≤ length roo
   as_long : {q : Query} → X ≡ got q → length first < length (encode q) → whole ≡ leave_at (refused long_answer) first room
   as_long {q} e l = called ∙ rw (e, lt-leb (length (encode q)) (length first) l)
 
-  pub parse_room_lem : (p : parsed-type) (first' room' : List ℕ) → parsedLeft p first' room' ≡ whole → room' ≡ zeros room
+  pub parse_room_lem : (p : parsed-type) (first' room' : List ℕ) → parsed_left p first' room' ≡ whole → room' ≡ zeros room
   parse_room_lem p first' room' E = ap (λ (l : Left). l.room) (E ∙ called) ∙ leave_room place_of (and_then (on_read stored_reply X) (fitting (length first))) first room
 
   abbrev pub Unparsed : ℕ → ℕ → Type 0
   Unparsed e w =
       ((x : Refusal) × (X ≡ refused x) × (e ≡ number x) × (w ≡ place_of x)) ⊎ ((q : Query) × (X ≡ got q) × (length first < length (encode q)) × (e ≡ 18) × (w ≡ 0))
 
-  pub parse_refused : (e w : ℕ) (first' room' : List ℕ) {p : parsed-type} → p ≡ parsed.Refused e w → parsedLeft p first' room' ≡ whole → Unparsed e w
+  pub parse_refused : (e w : ℕ) (first' room' : List ℕ) {p : parsed-type} → p ≡ parsed.Refused e w → parsed_left p first' room' ≡ whole → Unparsed e w
   parse_refused e w first' room' ep Ep = by X refl
     where
-      E : parsedLeft (parsed.Refused e w) first' room' ≡ whole
-      E = ap (λ (p : parsed-type). parsedLeft p first' room') (sym ep) ∙ Ep
+      E : parsed_left (parsed.Refused e w) first' room' ≡ whole
+      E = ap (λ (p : parsed-type). parsed_left p first' room') (sym ep) ∙ Ep
 
       fits : (q : Query) → X ≡ got q → (b : Bool) → leb (length (encode q)) (length first) ≡ b → Unparsed e w
       fits q eX true t =
@@ -135,11 +135,11 @@ module _ (X : Read Query) (first room : List ℕ) (h : parse_room ≤ length roo
     pub fits : n ≤ length first
     pub there : first' ≡ encode query ++ drop n first
 
-  pub parse_bytes : (n : ℕ) (first' room' : List ℕ) {p : parsed-type} → p ≡ parsed.Bytes n → parsedLeft p first' room' ≡ whole → Parsed n first'
+  pub parse_bytes : (n : ℕ) (first' room' : List ℕ) {p : parsed-type} → p ≡ parsed.Bytes n → parsed_left p first' room' ≡ whole → Parsed n first'
   parse_bytes n first' room' ep Ep = by X refl
     where
-      E : parsedLeft (parsed.Bytes n) first' room' ≡ whole
-      E = ap (λ (p : parsed-type). parsedLeft p first' room') (sym ep) ∙ Ep
+      E : parsed_left (parsed.Bytes n) first' room' ≡ whole
+      E = ap (λ (p : parsed-type). parsed_left p first' room') (sym ep) ∙ Ep
 
       fits : (q : Query) → X ≡ got q → (b : Bool) → leb (length (encode q)) (length first) ≡ b → Parsed n first'
       fits q eX true t =

@@ -8,7 +8,7 @@ use native.Mathlib.Numerals.{add-one}
 use lib.ListN.{length, get_or, take, drop, length-append}
 use lib.Seq.{drop-cons, drop-length, drop-drop}
 use borrow.Author.Tests.{eq-eqb, ne_eqb}
-use Rattle.rules.specs.Numbers.{Read, got, refused, need, and_then, on_read, badSetup, parse_room, simple_analyzer}
+use Rattle.rules.specs.Numbers.{Read, got, refused, need, and_then, on_read, bad_setup, parse_room, simple_analyzer}
 use Rattle.rules.specs.Bytes.{ascii, same, is_empty}
 use Rattle.rules.specs.Analysis.{front, after}
 use Rattle.rules.specs.Setup.{Setup, read_setup, entries_in, setup_with, is_setup}
@@ -93,7 +93,7 @@ module _ (s : List ℕ) {w : List ℕ} (e : w ≡ front in_word s) where
 
 -- ---- the setup
 
-pub two_refused : (f : List ℕ) → read_setup 2 simple_analyzer f [] ≡ refused badSetup
+pub two_refused : (f : List ℕ) → read_setup 2 simple_analyzer f [] ≡ refused bad_setup
 unfolding read_setup entries_in setup_with is_setup
 two_refused f = refl
 
@@ -105,7 +105,7 @@ show_setup_lem s = by (is_empty (after in_word s)) (same (front in_word s) (asci
     F o = read_setup o simple_analyzer (drop 1 (after in_word s)) []
 
     by : (e o a : Bool) → read_setup (cond e 2 (cond o 0 (cond a 1 2))) simple_analyzer (drop 1 (after in_word s)) []
-        ≡ need (not e) badSetup (and_then (cond o (got 0) (cond a (got 1) (refused badSetup))) (λ n. read_setup n simple_analyzer (drop 1 (after in_word s)) []))
+        ≡ need (not e) bad_setup (and_then (cond o (got 0) (cond a (got 1) (refused bad_setup))) (λ n. read_setup n simple_analyzer (drop 1 (after in_word s)) []))
     by true o a = two_refused (drop 1 (after in_word s))
     by false true a = refl
     by false false true = refl

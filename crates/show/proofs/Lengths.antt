@@ -6,7 +6,7 @@ use mathlib.Core.Bool.{Bool, true, false, cond}
 use native.Mathlib.Omega.{arith}
 use lib.ListN.{length, length-append}
 use Rattle.rules.specs.Bytes.{ascii, big}
-use Rattle.rules.specs.Query.{Word, word, Kind, must, should, mustNot, filter, Numbers, whole, float, Bound, unbounded, included, excluded, Query, term, phrase, boolean, boost, constant_score, matchAll, matchNone, range, Clauses, none, clause}
+use Rattle.rules.specs.Query.{Word, word, Kind, must, should, must_not, filter, Numbers, whole, float, Bound, unbounded, included, excluded, Query, term, phrase, boolean, boost, constant_score, match_all, match_none, range, Clauses, none, clause}
 use Rattle.rules.specs.Stored.{encode, encodes, encode_words, Valid, Valids, ValidWords}
 use Rattle.rules.specs.Show.{decimal, hex, is_plain, shown, shown_field, shown_words, shown_numbers, shown_bound, kind_name, no_kind, line, show, show_clauses}
 use Rattle.rules.proofs.Stored.Bigs.{length_big}
@@ -44,7 +44,7 @@ kind_length : (k : Kind) → length (kind_name k) ≤ 7
 unfolding ascii
 kind_length must = omega arith
 kind_length should = omega arith
-kind_length mustNot = omega arith
+kind_length must_not = omega arith
 kind_length filter = omega arith
 
 words_length : (ws : List Word) → ValidWords ws → length (shown_words ws) ≤ 0x2_0000_0000 * length (encode_words ws)
@@ -109,8 +109,8 @@ mutual
   show_length (constant_score q) d k v h l =
       let e = length_constant_score q in
       omega (arith, length-append (line d k (ascii "constantscore")) (show (suc d) no_kind q), line_length d k (ascii "constantscore") (omega arith) l, show_length q (suc d) no_kind v (omega arith) (omega arith))
-  show_length matchAll d k v h l = omega (arith, line_length d k (ascii "matchall") (omega arith) l, length_match_all)
-  show_length matchNone d k v h l = omega (arith, line_length d k (ascii "matchnone") (omega arith) l, length_match_none)
+  show_length match_all d k v h l = omega (arith, line_length d k (ascii "matchall") (omega arith) l, length_match_all)
+  show_length match_none d k v h l = omega (arith, line_length d k (ascii "matchnone") (omega arith) l, length_match_none)
   show_length (range n f x u) d k v h l =
       omega (arith, line_length d k (shown_numbers n ++ shown_field f ++ shown_bound x ++ shown_bound u) (omega arith) l, range_length n f x u, length_range n f x u)
 

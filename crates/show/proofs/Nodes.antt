@@ -8,7 +8,7 @@ use lib.ListN.{length, take}
 use lib.Seq.{length-take-le, take-length}
 use Rattle.rules.specs.Numbers.{field_tag, text_tag, word_tag, open_tag, included_tag, excluded_tag, minimum_tag}
 use Rattle.rules.specs.Bytes.{Bytes, ascii, big, of_big, tag_of, body_of, rest_of, whole_of, is_field_part, each}
-use Rattle.rules.specs.Query.{Numbers, whole, float, Query, term, phrase, boolean, boost, constant_score, matchAll, matchNone, range, Clauses, none, clause, depth, depths}
+use Rattle.rules.specs.Query.{Numbers, whole, float, Query, term, phrase, boolean, boost, constant_score, match_all, match_none, range, Clauses, none, clause, depth, depths}
 use Rattle.rules.specs.Stored.{range_tag, encode, encodes}
 use Rattle.rules.specs.Reading.{is_word, word_of, is_bound, bound_of}
 use Rattle.rules.specs.Checked.{Is, Stored}
@@ -35,8 +35,8 @@ mutual
   depth_length (boolean m cs) = omega (arith, length_boolean m cs, depths_length cs)
   depth_length (boost b q) = omega (arith, length_boost b q, depth_length q)
   depth_length (constant_score q) = omega (arith, length_constant_score q, depth_length q)
-  depth_length matchAll = omega (arith, length_encode matchAll)
-  depth_length matchNone = omega (arith, length_encode matchNone)
+  depth_length match_all = omega (arith, length_encode match_all)
+  depth_length match_none = omega (arith, length_encode match_none)
   depth_length (range n f l u) = omega (arith, length_encode (range n f l u))
 
   pub depths_length : (cs : Clauses) → depths cs ≤ length (encodes cs)

@@ -9,7 +9,7 @@ use lib.ListN.{length, take, drop, length-take, length-drop, length-append}
 use lib.Seq.{drop-drop, take_all}
 use lib.Dec.{leb}
 use borrow.Author.Tests.{lt-leb}
-use Rattle.rules.specs.Numbers.{Read, got, refused, need, and_then, badSetup, text_most, simple_analyzer, field_most}
+use Rattle.rules.specs.Numbers.{Read, got, refused, need, and_then, bad_setup, text_most, simple_analyzer, field_most}
 use Rattle.rules.specs.Bytes.{ascii, same, is_empty}
 use Rattle.rules.specs.Analysis.{front, after}
 use Rattle.rules.specs.Setup.{Setup, read_setup, entries_in, setup_with, is_setup}
@@ -32,26 +32,26 @@ drop_take (suc k) n (suc m) (x ∷ s) e = drop_take k n m s (omega arith)
 
 -- ---- a first line over 36 bytes is no setup
 
-field_long : (o : ℕ) (f : List ℕ) → field_most < length f → read_setup o simple_analyzer f [] ≡ refused badSetup
+field_long : (o : ℕ) (f : List ℕ) → field_most < length f → read_setup o simple_analyzer f [] ≡ refused bad_setup
 unfolding read_setup entries_in setup_with is_setup
 field_long o f h = rw (lt-leb (length f) field_most h) (by (leb o 1))
   where
-    by : (b : Bool) → need {A = Setup} (b && false) badSetup (got (record { operator = o; analyzer = simple_analyzer; field = f; entries = [] })) ≡ refused badSetup
+    by : (b : Bool) → need {A = Setup} (b && false) bad_setup (got (record { operator = o; analyzer = simple_analyzer; field = f; entries = [] })) ≡ refused bad_setup
     by true = refl
     by false = refl
 
-setup_long : (s : List ℕ) → 36 < length s → show_setup s ≡ refused badSetup
+setup_long : (s : List ℕ) → 36 < length s → show_setup s ≡ refused bad_setup
 unfolding line_operator operator_number ascii
 setup_long s h = sym (show_setup_lem s) ∙ by (is_empty (after in_word s)) (same (front in_word s) (ascii "or")) (same (front in_word s) (ascii "and")) refl refl
   where
     sum : length (front in_word s) + length (after in_word s) ≡ length s
     sum = sym (length-append (front in_word s) (after in_word s)) ∙ ap length (front_after in_word s)
 
-    worded : (o : ℕ) → length (front in_word s) ≤ 3 → read_setup o simple_analyzer (drop 1 (after in_word s)) [] ≡ refused badSetup
+    worded : (o : ℕ) → length (front in_word s) ≤ 3 → read_setup o simple_analyzer (drop 1 (after in_word s)) [] ≡ refused bad_setup
     worded o l = field_long o (drop 1 (after in_word s)) (omega (arith, sum, length-drop 1 (after in_word s)))
 
     by : (e o a : Bool) → same (front in_word s) (ascii "or") ≡ o → same (front in_word s) (ascii "and") ≡ a
-        → read_setup (cond e 2 (cond o 0 (cond a 1 2))) simple_analyzer (drop 1 (after in_word s)) [] ≡ refused badSetup
+        → read_setup (cond e 2 (cond o 0 (cond a 1 2))) simple_analyzer (drop 1 (after in_word s)) [] ≡ refused bad_setup
     by true o a p q = two_refused (drop 1 (after in_word s))
     by false true a p q = worded 0 (omega (arith, ap length (same_eq (front in_word s) (ascii "or") p)))
     by false false true p q = worded 1 (omega (arith, ap length (same_eq (front in_word s) (ascii "and") q)))

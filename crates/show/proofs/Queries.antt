@@ -7,7 +7,7 @@ use native.Mathlib.Omega.{arith}
 use native.Mathlib.Numerals.{add-one}
 use lib.ListN.{length, drop, length-drop}
 use Rattle.rules.specs.Bytes.{tag_of, body_of, rest_of, whole_of}
-use Rattle.rules.specs.Query.{Kind, must, should, mustNot, filter, Query, term, phrase, boolean, boost, constant_score, matchAll, matchNone, range, Clauses}
+use Rattle.rules.specs.Query.{Kind, must, should, must_not, filter, Query, term, phrase, boolean, boost, constant_score, match_all, match_none, range, Clauses}
 use Rattle.rules.specs.Stored.{kind_tag, encode, encodes}
 use Rattle.rules.specs.Checked.{Are, Stored, StoredClauses}
 use Rattle.rules.specs.Show.{kind_name, line, no_kind, show, show_clauses}
@@ -30,8 +30,8 @@ show_split d k (phrase f ws) = append-nil _
 show_split d k (boolean m cs) = rw (add-one d)
 show_split d k (boost b q) = rw (add-one d)
 show_split d k (constant_score q) = rw (add-one d)
-show_split d k matchAll = append-nil _
-show_split d k matchNone = append-nil _
+show_split d k match_all = append-nil _
+show_split d k match_none = append-nil _
 show_split d k (range n f l u) = append-nil _
 
 pub whole_text_lem : (d : ℕ) (k s : List ℕ) {x : List ℕ} → x ≡ inside (d + 1) (query_in s) → line d k (node (query_in s)) ++ x ≡ show d k (query_in s)
@@ -78,8 +78,8 @@ module _ {s : List ℕ} (S : Stored s) {b : List ℕ} (eb : b ≡ body_of s) {t 
       by (boolean m cs) h = absurd (n3 (tagged (boolean m cs) h))
       by (boost b q) h = absurd (n4 (tagged (boost b q) h))
       by (constant_score q) h = absurd (n5 (tagged (constant_score q) h))
-      by matchAll h = refl
-      by matchNone h = refl
+      by match_all h = refl
+      by match_none h = refl
       by (range n f l u) h = refl
 
 -- what each nested part is to be shown from: it is shorter than what is around it
@@ -114,7 +114,7 @@ kind_text_lem : (k : Kind) → kind_text (kind_tag k) ≡ kind_name k
 unfolding kind_text
 kind_text_lem must = refl
 kind_text_lem should = refl
-kind_text_lem mustNot = refl
+kind_text_lem must_not = refl
 kind_text_lem filter = refl
 
 module _ {t : List ℕ} (S : StoredClauses t) (h : 0 < length t) where

@@ -1,6 +1,6 @@
 -- What an input asks to be shown, from the numbers of the calls and the stored bytes that they left; and what the public call leaves.
 use Rattle.std.specs.Prelude.{◌≡◌, ℕ, ◌+◌, ◌≤◌, List, ◌++◌, cond, length, take, eqb}
-use Rattle.rules.specs.Numbers.{number, long_answer, longQuery, got, rewrite_room}
+use Rattle.rules.specs.Numbers.{number, long_answer, long_query, got, rewrite_room}
 use Rattle.rules.specs.Bytes.{ascii}
 use Rattle.rules.specs.Checked.{Stored}
 use Rattle.rules.specs.Rewriting.{rewritten}
@@ -12,7 +12,7 @@ use Rattle.show.specs.declared.call.Shown.TheVariants.{Refused, Bytes}
 
 -- a query too long for the stretch that is lent to parsing is too long to be rewritten
 abbrev pub shown_refusal : ℕ → ℕ
-shown_refusal e = cond (eqb e (number long_answer)) (number longQuery) e
+shown_refusal e = cond (eqb e (number long_answer)) (number long_query) e
 
 unfoldable pub refusal_text : ℕ → ℕ → List ℕ
 refusal_text r p = ascii "refused " ++ decimal r ++ ascii " " ++ decimal p ++ ascii "\n"

@@ -2,7 +2,7 @@
 use Rattle.std.specs.Prelude.{◌≡◌, ℕ, ◌+◌, ◌≤◌, List, [], ◌++◌, true, cond, length, take, drop, eqb}
 use Rattle.rules.specs.Numbers.{Read, got, refused, must_tag, should_tag, must_not_tag, filter_tag, text_tag, minimum_tag, whole_range_tag}
 use Rattle.rules.specs.Bytes.{ascii, big, of_big, body_of, rest_of, is_part, is_field_part, every, each}
-use Rattle.rules.specs.Query.{must, should, filter, whole, float, Query, term, phrase, boolean, boost, constant_score, matchAll, matchNone, range, Clauses, none}
+use Rattle.rules.specs.Query.{must, should, filter, whole, float, Query, term, phrase, boolean, boost, constant_score, match_all, match_none, range, Clauses, none}
 use Rattle.rules.specs.Reading.{is_word, word_of, is_bound, bound_of, decode, clauses_in}
 use Rattle.rules.specs.Checked.{Stored, StoredClauses}
 use Rattle.rules.specs.Show.{decimal, hex, shown, shown_field, shown_words, shown_numbers, shown_bound, no_kind, show, show_clauses}
@@ -11,7 +11,7 @@ use Rattle.rules.specs.Show.{decimal, hex, shown, shown_field, shown_words, show
 
 abbrev or_none : Read Query → Query
 or_none (got q) = q
-or_none (refused r) = matchNone
+or_none (refused r) = match_none
 
 abbrev or_empty : Read Clauses → Clauses
 or_empty (got cs) = cs
@@ -31,8 +31,8 @@ node (phrase f ws) = ascii "phrase " ++ shown_field f ++ shown_words ws
 node (boolean m cs) = ascii "boolean " ++ decimal m
 node (boost b q) = ascii "boost " ++ hex (big 4 b)
 node (constant_score q) = ascii "constantscore"
-node matchAll = ascii "matchall"
-node matchNone = ascii "matchnone"
+node match_all = ascii "matchall"
+node match_none = ascii "matchnone"
 node (range n f l u) = shown_numbers n ++ shown_field f ++ shown_bound l ++ shown_bound u
 
 unfoldable pub inside : ℕ → Query → List ℕ
@@ -41,8 +41,8 @@ inside d (phrase f ws) = []
 inside d (boolean m cs) = show_clauses d cs
 inside d (boost b q) = show d no_kind q
 inside d (constant_score q) = show d no_kind q
-inside d matchAll = []
-inside d matchNone = []
+inside d match_all = []
+inside d match_none = []
 inside d (range n f l u) = []
 
 -- the kind of a clause, by its tag; 0 for a query that is no clause's

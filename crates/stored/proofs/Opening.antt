@@ -9,7 +9,7 @@ use lib.ListN.{length, take, drop, length-drop}
 use lib.Seq.{take-take, drop-drop, take_all, take-nil, length-take-le}
 use lib.Dec.{leb, eqb}
 use borrow.Author.Tests.{eq-eqb, ne_eqb, eqb-true, leb-true}
-use Rattle.rules.specs.Numbers.{boolean_tag, boost_tag, constant_score_tag, minimum_tag, malformedQuery, deepQuery, number, Read}
+use Rattle.rules.specs.Numbers.{boolean_tag, boost_tag, constant_score_tag, minimum_tag, malformed_query, deep_query, number, Read}
 use Rattle.rules.specs.Bytes.{of_big, is_empty, tag_of, size_of, body_of, rest_of, whole_of, is_part}
 use Rattle.rules.specs.Query.{Query}
 use Rattle.rules.specs.Stored.{is_boost}
@@ -95,11 +95,11 @@ boosted_long b h = leb-true 4 (length b) (and_l (leb 4 (length b)) (is_boost (of
 
 -- ---- a record: code has its end e and its body b
 
-pub fault_bad : (d : ℕ) (s : List ℕ) → is_record s ≡ false → IsFault (decode d s) (number malformedQuery)
-fault_bad d s h = record { some = number_some malformedQuery; is = λ g. record_bad g d s h }
+pub fault_bad : (d : ℕ) (s : List ℕ) → is_record s ≡ false → IsFault (decode d s) (number malformed_query)
+fault_bad d s h = record { some = number_some malformed_query; is = λ g. record_bad g d s h }
 
-pub fault_deep : (d : ℕ) (s : List ℕ) → d ≡ 0 → is_record s ≡ true → IsFault (decode d s) (number deepQuery)
-fault_deep d s z h = record { some = number_some deepQuery; is = λ g. record_deep g d s z h }
+pub fault_deep : (d : ℕ) (s : List ℕ) → d ≡ 0 → is_record s ≡ true → IsFault (decode d s) (number deep_query)
+fault_deep d s z h = record { some = number_some deep_query; is = λ g. record_deep g d s z h }
 
 module _ (d : ℕ) (q b : List ℕ) (e : ℕ) (n : d ≡ 0 → ⊥) (ok : is_record q ≡ true) (ee : e ≡ 3 + size_of q) (le : size_of q < 65536) (eb : b ≡ body_of q) where
   abbrev sub : List ℕ → Read Query
@@ -126,8 +126,8 @@ module _ (d : ℕ) (q b : List ℕ) (e : ℕ) (n : d ≡ 0 → ⊥) (ok : is_rec
       let l = whole_le q w in
       record { some = omega arith; order = omega (arith, long); end = omega arith; short = omega arith }
 
-  pub record_fault : ((g : ℕ) → verdict g (body_in sub (tag_of q) b) ≡ number malformedQuery) → IsFault (decode d q) (number malformedQuery)
-  record_fault f = record { some = number_some malformedQuery; is = λ g. by_body g ∙ f (closed_at e q g) }
+  pub record_fault : ((g : ℕ) → verdict g (body_in sub (tag_of q) b) ≡ number malformed_query) → IsFault (decode d q) (number malformed_query)
+  record_fault f = record { some = number_some malformed_query; is = λ g. by_body g ∙ f (closed_at e q g) }
 
   pub boolean_row : tag_of q ≡ boolean_tag → is_minimum b ≡ true → HoldsRow d q 8 e (d - 1)
   boolean_row t h =
@@ -139,7 +139,7 @@ module _ (d : ℕ) (q b : List ℕ) (e : ℕ) (n : d ≡ 0 → ⊥) (ok : is_rec
             ∙ ap (λ (l : List ℕ). verdict (closed_at e q g) (row_of (d - 1) l)) (m.1 ∙ behind 5);
       }
 
-  pub boolean_fault : tag_of q ≡ boolean_tag → is_minimum b ≡ false → IsFault (decode d q) (number malformedQuery)
+  pub boolean_fault : tag_of q ≡ boolean_tag → is_minimum b ≡ false → IsFault (decode d q) (number malformed_query)
   boolean_fault t h = record_fault (λ g. ap (verdict g) (in_boolean sub b (tag_of q) t) ∙ boolean_is_bad g sub b h)
 
   pub boost_query : tag_of q ≡ boost_tag → is_boosted b ≡ true → HoldsQuery d q 7 e
@@ -150,7 +150,7 @@ module _ (d : ℕ) (q b : List ℕ) (e : ℕ) (n : d ≡ 0 → ⊥) (ok : is_rec
         ∙ ap (λ (l : List ℕ). verdict (closed_at e q g) (sub l)) (behind 4);
   }
 
-  pub boost_fault : tag_of q ≡ boost_tag → is_boosted b ≡ false → IsFault (decode d q) (number malformedQuery)
+  pub boost_fault : tag_of q ≡ boost_tag → is_boosted b ≡ false → IsFault (decode d q) (number malformed_query)
   boost_fault t h = record_fault (λ g. ap (verdict g) (in_boost sub b (tag_of q) t) ∙ boost_is_bad g sub b h)
 
   pub constant_query : tag_of q ≡ constant_score_tag → HoldsQuery d q 3 e
@@ -168,7 +168,7 @@ module _ (d : ℕ) (q b : List ℕ) (e : ℕ) (n : d ≡ 0 → ⊥) (ok : is_rec
       is = λ g. by_body g ∙ sym (inside_leaf (closed_at e q g) sub (tag_of q) b x y z) ∙ rw h;
     }
 
-    pub leaf_fault_lem : is_leaf (tag_of q) b ≡ false → IsFault (decode d q) (number malformedQuery)
+    pub leaf_fault_lem : is_leaf (tag_of q) b ≡ false → IsFault (decode d q) (number malformed_query)
     leaf_fault_lem h = record_fault (λ g. sym (inside_leaf g sub (tag_of q) b x y z) ∙ rw h)
 
 -- where there is something inside, there is depth left for it

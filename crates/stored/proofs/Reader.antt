@@ -9,9 +9,9 @@ use lib.Dec.{ltb, eqb}
 use lib.Ieee.{binary32}
 use lib.Ieee.Bits.{nan_bits_above}
 use borrow.Author.Tests.{lt-ltb, le-ltb, ne_eqb}
-use Rattle.rules.specs.Numbers.{term_tag, phrase_tag, boolean_tag, boost_tag, constant_score_tag, match_all_tag, match_none_tag, whole_range_tag, field_tag, open_tag, included_tag, excluded_tag, number, malformedQuery, deepQuery, longQuery, Read, got, refused, on_read}
+use Rattle.rules.specs.Numbers.{term_tag, phrase_tag, boolean_tag, boost_tag, constant_score_tag, match_all_tag, match_none_tag, whole_range_tag, field_tag, open_tag, included_tag, excluded_tag, number, malformed_query, deep_query, long_query, Read, got, refused, on_read}
 use Rattle.rules.specs.Bytes.{of_big, is_empty, tag_of, body_of, rest_of, whole_of, is_field_part}
-use Rattle.rules.specs.Query.{whole, float, Query, matchAll, matchNone, boolean, boost, constant_score, clause}
+use Rattle.rules.specs.Query.{whole, float, Query, match_all, match_none, boolean, boost, constant_score, clause}
 use Rattle.rules.specs.Stored.{the_nan, is_boost}
 use Rattle.rules.specs.Reading.{number_of, sound, closed, empty_in, term_in, phrase_in, is_bound, range_in, boost_in, constant_score_in, kind_of, added, boolean_in, body_in, decode, read_within}
 use Rattle.rules.proofs.Stored.Parts.{field_is, part_is}
@@ -72,7 +72,7 @@ module _ (g : ℕ) where
   -- ---- a body that holds no query
 
   abbrev leaf_of : List ℕ → Bool → Bool → Bool → Bool → Bool → Read Query
-  leaf_of b t p a n w = cond t (term_in b) (cond p (phrase_in b) (cond a (empty_in matchAll b) (cond n (empty_in matchNone b) (cond w (range_in whole b) (range_in float b)))))
+  leaf_of b t p a n w = cond t (term_in b) (cond p (phrase_in b) (cond a (empty_in match_all b) (cond n (empty_in match_none b) (cond w (range_in whole b) (range_in float b)))))
 
   leaf_said : (b : List ℕ) (t p a n w : Bool)
       → said (cond t (is_term b) (cond p (is_phrase b) (cond a (is_empty b) (cond n (is_empty b) (is_range b))))) g ≡ verdict g (leaf_of b t p a n w)
@@ -99,15 +99,15 @@ module _ (g : ℕ) where
     constant_verdict b = verdict_on constant_score (sub b)
 
     module _ (b : List ℕ) where
-      pub boost_is_bad : is_boosted b ≡ false → verdict g (boost_in sub b) ≡ number malformedQuery
+      pub boost_is_bad : is_boosted b ≡ false → verdict g (boost_in sub b) ≡ number malformed_query
       unfolding boost_in
-      boost_is_bad h = ap (verdict g) (need_no malformedQuery _ h)
+      boost_is_bad h = ap (verdict g) (need_no malformed_query _ h)
 
       pub boost_verdict : is_boosted b ≡ true → verdict g (boost_in sub b) ≡ verdict g (sub (drop 4 b))
       unfolding boost_in
-      boost_verdict h = ap (verdict g) (need_yes malformedQuery _ h) ∙ verdict_on (boost (of_big (take 4 b))) (sub (drop 4 b))
+      boost_verdict h = ap (verdict g) (need_yes malformed_query _ h) ∙ verdict_on (boost (of_big (take 4 b))) (sub (drop 4 b))
 
-      pub boolean_is_bad : is_minimum b ≡ false → verdict g (boolean_in sub b) ≡ number malformedQuery
+      pub boolean_is_bad : is_minimum b ≡ false → verdict g (boolean_in sub b) ≡ number malformed_query
       boolean_is_bad h = ap (verdict g) (boolean_bad sub b h)
 
       pub boolean_verdict : is_minimum b ≡ true → verdict g (boolean_in sub b) ≡ verdict g (clauses_of sub (rest_of b))
@@ -118,7 +118,7 @@ module _ (g : ℕ) where
     pub clauses_end : (s : List ℕ) → is_empty s ≡ true → verdict g (clauses_of sub s) ≡ g
     clauses_end s e = ap (verdict g) (clauses_done sub s e)
 
-    pub clauses_are_bad : (s : List ℕ) → is_empty s ≡ false → is_clause s ≡ false → verdict g (clauses_of sub s) ≡ number malformedQuery
+    pub clauses_are_bad : (s : List ℕ) → is_empty s ≡ false → is_clause s ≡ false → verdict g (clauses_of sub s) ≡ number malformed_query
     clauses_are_bad s e h = ap (verdict g) (clauses_bad sub s e h)
 
     added_bad : (s : List ℕ) (o : Read Query) → (verdict 0 o ≡ 0 → ⊥) → verdict g (added (kind_of (tag_of s)) o (clauses_of sub (rest_of s))) ≡ verdict 0 o
@@ -149,10 +149,10 @@ module _ (g : ℕ) where
 -- ---- a record
 
 module _ (g d : ℕ) (s : List ℕ) where
-  pub record_bad : is_record s ≡ false → verdict g (decode d s) ≡ number malformedQuery
+  pub record_bad : is_record s ≡ false → verdict g (decode d s) ≡ number malformed_query
   record_bad h = ap (verdict g) (decode_bad d s h)
 
-  pub record_deep : d ≡ 0 → is_record s ≡ true → verdict g (decode d s) ≡ number deepQuery
+  pub record_deep : d ≡ 0 → is_record s ≡ true → verdict g (decode d s) ≡ number deep_query
   record_deep z h = ap (verdict g) (decode_deep d s z h)
 
   pub record_in : (d ≡ 0 → ⊥) → is_record s ≡ true
@@ -161,7 +161,7 @@ module _ (g d : ℕ) (s : List ℕ) where
 
 -- ---- a whole query
 
-pub whole_long : (most d : ℕ) (s : List ℕ) → most < length s → number longQuery ≡ number_of (read_within most d s)
+pub whole_long : (most d : ℕ) (s : List ℕ) → most < length s → number long_query ≡ number_of (read_within most d s)
 whole_long most d s h = sym (ap number_of (read_long most d s h))
 
 pub whole_in : (most d : ℕ) (s : List ℕ) (r : ℕ) → length s ≤ most → verdict 0 (decode d s) ≡ r → r ≡ number_of (read_within most d s)

@@ -7,7 +7,7 @@ use native.Mathlib.Omega.{arith}
 use native.Mathlib.Numerals.{add-one}
 use lib.ListN.{length, get_or, drop, set, length-set}
 use lib.Seq.{get_or-set_same, get_or-set_other}
-use Rattle.rules.specs.Numbers.{malformedQuery, number}
+use Rattle.rules.specs.Numbers.{malformed_query, number}
 use Rattle.rules.specs.Bytes.{is_empty}
 use Rattle.rules.specs.Reading.{decode}
 use Rattle.rules.proofs.Stored.Parts.{less_empty}
@@ -53,11 +53,11 @@ module _ (g d : ℕ) (t : List ℕ) where
       ap (λ (k : ℕ). after k (said_of g x.0 x.1 rs)) (I.is 0)
       ∙ after_assoc (verdict 0 (row_of l (cut a e t))) (verdict 0 (row_of d (drop e t))) (said_of g x.0 x.1 rs)
 
-  said_last : (a e l : ℕ) → LastClause d t a e l → (rs : List Row) → said_of g d t rs ≡ said_of (number malformedQuery) l (cut a e t) []
+  said_last : (a e l : ℕ) → LastClause d t a e l → (rs : List Row) → said_of g d t rs ≡ said_of (number malformed_query) l (cut a e t) []
   unfolding said_of
   said_last a e l L [] = L.is g
   said_last a e l L (x ∷ rs) =
-      ap (λ (k : ℕ). after k (said_of g x.0 x.1 rs)) (L.is 0) ∙ after_some (verdict (number malformedQuery) (row_of l (cut a e t))) _ (verdict_some (row_of l (cut a e t)))
+      ap (λ (k : ℕ). after k (said_of g x.0 x.1 rs)) (L.is 0) ∙ after_some (verdict (number malformed_query) (row_of l (cut a e t))) _ (verdict_some (row_of l (cut a e t)))
 
   said_next : is_empty t ≡ true → (r : Row) (rs : List Row) → said_of g d t (r ∷ rs) ≡ said_of g r.0 r.1 rs
   unfolding said_of
@@ -192,7 +192,7 @@ module _ (first sound : ℕ) (s es ls : List ℕ) (n at end left good : ℕ) (R 
           ∙ ap (said_of good l (cut (at + a) (at + e) s)) (sym waiting_more);
     }
 
-  pub last : (a e l : ℕ) → LastClause left row a e l → Rowing first sound s es ls 0 (at + a) (at + e) l (number malformedQuery)
+  pub last : (a e l : ℕ) → LastClause left row a e l → Rowing first sound s es ls 0 (at + a) (at + e) l (number malformed_query)
   unfolding Kept waiting
   last a e l L = record {
     ends_long = R.ends_long;
@@ -202,7 +202,7 @@ module _ (first sound : ℕ) (s es ls : List ℕ) (n at end left good : ℕ) (R 
     short = R.short;
     kept = omega (arith, L.at.end, row_length, R.order, inside);
     is = R.is ∙ said_last good left row a e l L (waiting s es ls n end)
-        ∙ ap (λ (m : List ℕ). said_of (number malformedQuery) l m []) (cut_cut at end a e s (omega (arith, L.at.end, row_length)));
+        ∙ ap (λ (m : List ℕ). said_of (number malformed_query) l m []) (cut_cut at end a e s (omega (arith, L.at.end, row_length)));
   }
 
   -- ---- at the end of a row

@@ -8,7 +8,7 @@ use lib.ListN.{length, take, drop}
 use lib.Seq.{drop-drop}
 use lib.Dec.{eqb}
 use borrow.Author.Tests.{eq-eqb, ne_eqb, eqb-false, not-true}
-use Rattle.rules.specs.Numbers.{term_tag, malformedQuery, number, Read, got, refused}
+use Rattle.rules.specs.Numbers.{term_tag, malformed_query, number, Read, got, refused}
 use Rattle.rules.specs.Bytes.{is_empty, tag_of, size_of, body_of, rest_of, whole_of, is_part}
 use Rattle.rules.specs.Reading.{is_kind, is_query, term_in, body_in, decode}
 use Rattle.rules.proofs.Bools.{and_l, and_four, both}
@@ -20,8 +20,8 @@ use Rattle.stored.proofs.Reader.{clauses_are_bad, clause_fault, clause_good, cla
 use Rattle.stored.proofs.Opening.{cut_cut}
 
 -- no verdict is a success where sound bytes are not
-pub verdict_some : {A : Type 0} (o : Read A) → verdict (number malformedQuery) o ≡ 0 → ⊥
-verdict_some (got a) z = number_some malformedQuery z
+pub verdict_some : {A : Type 0} (o : Read A) → verdict (number malformed_query) o ≡ 0 → ⊥
+verdict_some (got a) z = number_some malformed_query z
 verdict_some (refused r) z = number_some r z
 
 -- one sound Term and nothing more is sound
@@ -33,10 +33,10 @@ simple_good d q s =
     let n : d ≡ 0 → ⊥ = eqb-false d 0 (not-true (eqb d 0) c.0) in
     record_in 0 d q n (both i.0 (ap is_query i.1))
     ∙ ap (λ (b : Bool). verdict (said b 0) (body_in (decode (d - 1)) (tag_of q) (body_of q))) c.3
-    ∙ ap (verdict 0) (in_term (decode (d - 1)) (body_of q) (tag_of q) i.1 ∙ need_yes malformedQuery _ c.2)
+    ∙ ap (verdict 0) (in_term (decode (d - 1)) (body_of q) (tag_of q) i.1 ∙ need_yes malformed_query _ c.2)
 
-pub clause_bad : (d : ℕ) (t : List ℕ) → 0 < length t → is_clause t ≡ false → IsFault (row_of d t) (number malformedQuery)
-clause_bad d t h k = record { some = number_some malformedQuery; is = λ g. clauses_are_bad g (decode d) t (more_empty t h) k }
+pub clause_bad : (d : ℕ) (t : List ℕ) → 0 < length t → is_clause t ≡ false → IsFault (row_of d t) (number malformed_query)
+clause_bad d t h k = record { some = number_some malformed_query; is = λ g. clauses_are_bad g (decode d) t (more_empty t h) k }
 
 module _ (d : ℕ) (t q : List ℕ) (h : 0 < length t) (ok : is_clause t ≡ true) (eq : q ≡ body_of t) where
   abbrev n : ℕ
@@ -86,10 +86,10 @@ module _ (d : ℕ) (t q : List ℕ) (h : 0 < length t) (ok : is_clause t ≡ tru
   pub step_past : (e : ℕ) → IsLeafRecord d q e → e ≡ length q → PastClause d t (3 + length q)
   step_past e L f = step_good (L.is 0 ∙ rw (eq-eqb e (length q) f))
 
-  pub step_more : (e : ℕ) → IsLeafRecord d q e → (e ≡ length q → ⊥) → IsFault (row_of d t) (number malformedQuery)
+  pub step_more : (e : ℕ) → IsLeafRecord d q e → (e ≡ length q → ⊥) → IsFault (row_of d t) (number malformed_query)
   step_more e L f =
-      let x : verdict 0 (decode d q) ≡ number malformedQuery = L.is 0 ∙ rw (ne_eqb e (length q) f) in
-      faulty (number malformedQuery) (λ z. number_some malformedQuery (sym x ∙ z)) x
+      let x : verdict 0 (decode d q) ≡ number malformed_query = L.is 0 ∙ rw (ne_eqb e (length q) f) in
+      faulty (number malformed_query) (λ z. number_some malformed_query (sym x ∙ z)) x
 
   within_clause : (a e : ℕ) → Within q a e → Within t (3 + a) (3 + e)
   within_clause a e W = record {
@@ -118,8 +118,8 @@ module _ (d : ℕ) (t q : List ℕ) (h : 0 < length t) (ok : is_clause t ≡ tru
 
   pub step_last : (a e l : ℕ) → HoldsRow d q a e l → (e ≡ length q → ⊥) → LastClause d t (3 + a) (3 + e) l
   step_last a e l R f =
-      let x : verdict 0 (decode d q) ≡ verdict (number malformedQuery) (row_of l (cut (3 + a) (3 + e) t)) =
+      let x : verdict 0 (decode d q) ≡ verdict (number malformed_query) (row_of l (cut (3 + a) (3 + e) t)) =
       R.is 0 ∙ ap (λ (k : ℕ). verdict k (row_of l (cut a e q))) (rw (ne_eqb e (length q) f))
-      ∙ ap (λ (m : List ℕ). verdict (number malformedQuery) (row_of l m)) (inner_at a e R.at.end) in
+      ∙ ap (λ (m : List ℕ). verdict (number malformed_query) (row_of l m)) (inner_at a e R.at.end) in
       let F = faulty _ (λ z. verdict_some (row_of l (cut (3 + a) (3 + e) t)) (sym x ∙ z)) x in
       record { at = within_clause a e R.at; less = R.less; is = F.is }

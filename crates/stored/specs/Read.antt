@@ -1,6 +1,6 @@
 -- What the reader's functions say: the tests of `rules`, each by a name, and a number that is `good` where the reading succeeds.
 use Rattle.std.specs.Prelude.{◌≡◌, ℕ, zero, suc, ◌-◌, ◌≤◌, ◌<◌, List, Bool, not, ◌&&◌, cond, length, take, drop, leb, eqb}
-use Rattle.rules.specs.Numbers.{term_tag, phrase_tag, match_all_tag, match_none_tag, text_tag, minimum_tag, number, malformedQuery, Read, got, refused}
+use Rattle.rules.specs.Numbers.{term_tag, phrase_tag, match_all_tag, match_none_tag, text_tag, minimum_tag, number, malformed_query, Read, got, refused}
 use Rattle.rules.specs.Bytes.{of_big, is_empty, is_text, tag_of, body_of, rest_of, whole_of, is_part, is_field_part, every}
 use Rattle.rules.specs.Query.{Clauses}
 use Rattle.rules.specs.Stored.{is_boost}
@@ -17,7 +17,7 @@ verdict good (got a) = good
 verdict good (refused r) = number r
 
 abbrev pub said : Bool → ℕ → ℕ
-said ok good = cond ok good (number malformedQuery)
+said ok good = cond ok good (number malformed_query)
 
 -- ---- bodies that hold no query
 
@@ -125,7 +125,7 @@ pub record IntoClause (d : ℕ) (t : List ℕ) (a e l : ℕ) : Type 0 where
 pub record LastClause (d : ℕ) (t : List ℕ) (a e l : ℕ) : Type 0 where
   pub at : Within t a e
   pub less : l < d
-  pub is : (g : ℕ) → verdict g (row_of d t) ≡ verdict (number malformedQuery) (row_of l (cut a e t))
+  pub is : (g : ℕ) → verdict g (row_of d t) ≡ verdict (number malformed_query) (row_of l (cut a e t))
 
 abbrev pub OfNext : ℕ → List ℕ → Next → Type 0
 OfNext d t (next.Fault r) = IsFault (row_of d t) r

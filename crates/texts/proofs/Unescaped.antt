@@ -9,7 +9,7 @@ use native.Mathlib.Nat.{add-zero}
 use native.Mathlib.Numerals.{add-one}
 use lib.ListN.{length, get_or, take, drop, set, length-set, length-drop, drop_of_length-le}
 use lib.Seq.{drop-cons, drop-set-add, take-suc-set, take-set-le, drop-set-lt}
-use Rattle.rules.specs.Numbers.{Fault, fault_number, faulty, openQuote, nothingEscaped, text_most, Read, got, refused, on_read}
+use Rattle.rules.specs.Numbers.{Fault, fault_number, faulty, open_quote, nothing_escaped, text_most, Read, got, refused, on_read}
 use Rattle.rules.specs.Lexing.{Piece, piece, before, is_quote, is_backslash, term_text, quoted_text}
 use Rattle.rules.specs.Bytes.{all}
 use Rattle.rules.specs.Analysis.{ends_term, is_letter}
@@ -49,17 +49,17 @@ module _ (F : List ℕ → Read Piece) (stop : ℕ → Bool) (text : List ℕ) (
           let k : j ≡ i = e ∙ rw b (add-zero i) in
           rw (k, add-one, drop-cons text i 0 h) (U.plain (get_or text i 0) (drop (suc i) text) go b)
 
-  pub no_byte : length text ≤ j → F (drop i text) ≡ refused (faulty nothingEscaped i)
+  pub no_byte : length text ≤ j → F (drop i text) ≡ refused (faulty nothing_escaped i)
   no_byte l = ⊎_elim escaped plain (split (is_backslash (get_or text i 0)))
     where
-      escaped : is_backslash (get_or text i 0) ≡ true → F (drop i text) ≡ refused (faulty nothingEscaped i)
+      escaped : is_backslash (get_or text i 0) ≡ true → F (drop i text) ≡ refused (faulty nothing_escaped i)
       escaped b =
           let k : j ≡ suc i = e ∙ rw b (add-one i) in
           let n : length text ≤ suc i = omega arith in
           let p : length text - 1 ≡ i = omega arith in
           rw (drop-cons text i 0 h, drop_of_length-le text n) (rw p at (U.dangling (get_or text i 0) go b))
 
-      plain : is_backslash (get_or text i 0) ≡ false → F (drop i text) ≡ refused (faulty nothingEscaped i)
+      plain : is_backslash (get_or text i 0) ≡ false → F (drop i text) ≡ refused (faulty nothing_escaped i)
       plain b = absurd (let k : j ≡ i + 0 = e ∙ rw b in omega arith)
 
 -- ---- a turn of the loop
@@ -135,7 +135,7 @@ module _ (F : List ℕ → Read Piece) {o : Read Piece} (text : List ℕ) (at : 
           (omega arith) (omega arith) m (omega arith)
 
       pub reading_dangling : length text ≤ i + x → Kept at room₀ room × Reads (Refused 5 i) o text at room
-      reading_dangling l = reading_fault nothingEscaped i (no_byte F stop text U i (i + x) h go (ap (λ (y : ℕ). i + y) e) l) h
+      reading_dangling l = reading_fault nothing_escaped i (no_byte F stop text U i (i + x) h go (ap (λ (y : ℕ). i + y) e) l) h
 
 -- ---- the ends of both
 
@@ -154,7 +154,7 @@ module _ (text : List ℕ) (i : ℕ) where
   pub quote_ends : (p : ℕ) → i < length text → is_quote (get_or text i 0) ≡ true → quoted_text (length text) p (drop i text) ≡ got (piece [] (drop (i + 1) text))
   quote_ends p h e = rw (drop-cons text i 0 h, add-one) (quoted_stop (length text) p (get_or text i 0) (drop (suc i) text) e)
 
-  pub quote_over : (p : ℕ) → length text ≤ i → quoted_text (length text) p (drop i text) ≡ refused (faulty openQuote p)
+  pub quote_over : (p : ℕ) → length text ≤ i → quoted_text (length text) p (drop i text) ≡ refused (faulty open_quote p)
   unfolding quoted_text
   quote_over p h = rw (drop_of_length-le text h)
 

@@ -5,7 +5,7 @@ use mathlib.Core.List.{List, [], ◌∷◌}
 use mathlib.Core.Bool.{Bool, true, false, ◌&&◌, ◌||◌}
 use borrow.Author.Tests.{eq-eqb}
 use Rattle.rules.specs.Bytes.{same, some, all}
-use Rattle.rules.specs.Query.{Word, word, Numbers, Bound, Query, term, phrase, boolean, boost, constant_score, matchAll, matchNone, range, Clauses, none, clause}
+use Rattle.rules.specs.Query.{Word, word, Numbers, Bound, Query, term, phrase, boolean, boost, constant_score, match_all, match_none, range, Clauses, none, clause}
 use Rattle.rules.specs.Lists.{Entry, place, value}
 use Rattle.rules.specs.Matching.{is_here, has_term, follows_from, starts_on, has_phrase, same_numbers, lies_in, is_inside, has_range, matches, all_allow, shoulds_true}
 use Rattle.rules.proofs.Bools.{clash, fails, and_l, and_r, or_l, or_r}
@@ -30,8 +30,8 @@ module _ (es : List Entry) where
     quiet_empty (boolean m cs) h = rw (quiet_allow cs h, quiet_shoulds cs h)
     quiet_empty (boost b q) h = quiet_empty q h
     quiet_empty (constant_score q) h = quiet_empty q h
-    quiet_empty matchAll h = refl
-    quiet_empty matchNone h = refl
+    quiet_empty match_all h = refl
+    quiet_empty match_none h = refl
     quiet_empty (range n f l u) h = h
 
     pub quiet_allow : (cs : Clauses) → Quiets es cs → all_allow es cs ≡ all_allow [] cs
@@ -77,8 +77,8 @@ module _ (h : Hash) (w : ℕ → Bool) (v : List ℕ → Bool) (es : List Entry)
     quiet_by (boolean m cs) a b = quiets_by cs a b
     quiet_by (boost c q) a b = quiet_by q a b
     quiet_by (constant_score q) a b = quiet_by q a b
-    quiet_by matchAll a b = tt
-    quiet_by matchNone a b = tt
+    quiet_by match_all a b = tt
+    quiet_by match_none a b = tt
     quiet_by (range n f l u) a b = absent (is_inside n f l u) (inside_calls n f l u b)
 
     pub quiets_by : (cs : Clauses) → ((n : ℕ) → wants_in h cs n ≡ true → w n ≡ true) → ((f : List ℕ) → wants_numbers_in cs f ≡ true → v f ≡ true) → Quiets es cs
@@ -98,8 +98,8 @@ mutual
   numbers_ranges (boolean m cs) f h = numbers_ranges_in cs f h
   numbers_ranges (boost b q) f h = numbers_ranges q f h
   numbers_ranges (constant_score q) f h = numbers_ranges q f h
-  numbers_ranges matchAll f h = h
-  numbers_ranges matchNone f h = h
+  numbers_ranges match_all f h = h
+  numbers_ranges match_none f h = h
   numbers_ranges (range n g l u) f h = refl
 
   numbers_ranges_in : (cs : Clauses) (f : List ℕ) → wants_numbers_in cs f ≡ true → has_ranges_in cs ≡ true

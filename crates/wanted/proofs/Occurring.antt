@@ -11,7 +11,7 @@ use lib.Dec.{leb}
 use borrow.Author.Tests.{eqb-true, leb-true}
 use Rattle.rules.specs.Numbers.{field_most, field_tag, text_tag, word_tag, term_tag, phrase_tag, boolean_tag, boost_tag, constant_score_tag, minimum_tag, open_tag, included_tag, excluded_tag}
 use Rattle.rules.specs.Bytes.{is_text, is_field, big, part, body_of, rest_of, is_part, some}
-use Rattle.rules.specs.Query.{Word, word, Numbers, whole, float, Bound, unbounded, included, excluded, Query, term, phrase, boolean, boost, constant_score, matchAll, matchNone, range, Clauses, none, clause}
+use Rattle.rules.specs.Query.{Word, word, Numbers, whole, float, Bound, unbounded, included, excluded, Query, term, phrase, boolean, boost, constant_score, match_all, match_none, range, Clauses, none, clause}
 use Rattle.rules.specs.Stored.{kind_tag, range_tag, encode_bound, encode_words, encode, encodes, Valid, Valids}
 use Rattle.rules.specs.Checked.{Is}
 use Rattle.rules.specs.Lists.{Entry}
@@ -95,8 +95,8 @@ mutual
   words_there (boolean m cs) r n v h = inside_behind boolean_tag (part minimum_tag (big 2 m)) (encodes cs) r (words_there_in cs r n v.1 h)
   words_there (boost b q) r n v h = inside_behind boost_tag (big 4 b) (encode q) r (words_there q r n v.1 h)
   words_there (constant_score q) r n v h = inside constant_score_tag (encode q) r (words_there q r n v h)
-  words_there matchAll r n v h = clash h refl
-  words_there matchNone r n v h = clash h refl
+  words_there match_all r n v h = clash h refl
+  words_there match_none r n v h = clash h refl
   words_there (range k f l u) r n v h = clash h refl
 
   words_there_in : (cs : Clauses) (r : List ℕ) (n : ℕ) → Valids cs → wants_in hash_of cs n ≡ true → Somewhere (WordAt n) (encodes cs ++ r)
@@ -117,8 +117,8 @@ mutual
   ranges_there (boolean m cs) r g v h = inside_behind boolean_tag (part minimum_tag (big 2 m)) (encodes cs) r (ranges_there_in cs r g v.1 h)
   ranges_there (boost b q) r g v h = inside_behind boost_tag (big 4 b) (encode q) r (ranges_there q r g v.1 h)
   ranges_there (constant_score q) r g v h = inside constant_score_tag (encode q) r (ranges_there q r g v h)
-  ranges_there matchAll r g v h = clash h refl
-  ranges_there matchNone r g v h = clash h refl
+  ranges_there match_all r g v h = clash h refl
+  ranges_there match_none r g v h = clash h refl
   ranges_there (range whole f l u) r g v h = range_there_in (range_tag whole) f l u r v.0
   ranges_there (range float f l u) r g v h = range_there_in (range_tag float) f l u r v.0
 

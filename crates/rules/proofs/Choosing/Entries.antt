@@ -6,7 +6,7 @@ use mathlib.Core.List.{List}
 use mathlib.Core.Bool.{Bool, true, false, ◌&&◌, and-false, or-false}
 use lib.ListN.{length, take, drop}
 use borrow.Author.Tests.{le-leb, lt-leb, ne_eqb}
-use Rattle.rules.specs.Numbers.{record_tag, place_tag, whole_tag, float_tag, longList, malformedList, list_most, number}
+use Rattle.rules.specs.Numbers.{record_tag, place_tag, whole_tag, float_tag, long_list, malformed_list, list_most, number}
 use Rattle.rules.specs.Bytes.{of_big, is_empty, tag_of, body_of, rest_of, whole_of, is_part, is_field_part, every}
 use Rattle.rules.specs.Query.{Numbers, whole, float}
 use Rattle.rules.specs.Reading.{number_of, is_word}
@@ -84,11 +84,11 @@ field_with P b h =
 -- ---- the reading of a list, by its number
 
 module _ (l : List ℕ) where
-  pub list_long : list_most < length l → number longList ≡ number_of (read_list l)
+  pub list_long : list_most < length l → number long_list ≡ number_of (read_list l)
   unfolding read_list
   list_long h = rw (read_list, lt-leb (length l) list_most h)
 
-  pub list_bad : length l ≤ list_most → every is_record l ≡ false → number malformedList ≡ number_of (read_list l)
+  pub list_bad : length l ≤ list_most → every is_record l ≡ false → number malformed_list ≡ number_of (read_list l)
   unfolding read_list
   list_bad h e = rw (read_list, le-leb (length l) list_most h, e)
 

@@ -30,6 +30,7 @@ module _ {A : Type 0} (P : A → Bool) where
 
   pub some_in : (x : A) (xs : List A) → Memᴰ x xs → P x ≡ true → some P xs ≡ true
   unfolding some
+  some_in x [] m h = elim m [ ]
   some_in x (y ∷ xs) (Memᴰ.head e) h = or_l (some P xs) (ap P (sym e) ∙ h)
   some_in x (y ∷ xs) (Memᴰ.tail m) h = or_r (P y) (some_in x xs m h)
 

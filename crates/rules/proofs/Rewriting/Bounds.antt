@@ -6,7 +6,7 @@ use mathlib.Core.Bool.{Bool}
 use native.Mathlib.Omega.{arith}
 use lib.ListN.{length}
 use Rattle.rules.specs.Numbers.{rewriter_bytes, rewriter_depth, selection_bytes, selection_depth}
-use Rattle.rules.specs.Query.{Kind, must, should, mustNot, filter, Query, term, phrase, boolean, boost, constant_score, matchAll, matchNone, range, Clauses, none, clause, depth}
+use Rattle.rules.specs.Query.{Kind, must, should, must_not, filter, Query, term, phrase, boolean, boost, constant_score, match_all, match_none, range, Clauses, none, clause, depth}
 use Rattle.rules.specs.Stored.{encode_words, encode}
 use Rattle.rules.specs.Rewriting.{largest, largests, base, lone, rewrite_once, rounds, result_of, clause_count, bulk, bulks}
 use Rattle.rules.proofs.Stored.Sizes.{length_word}
@@ -33,8 +33,8 @@ base_bounded (phrase f ws) = omega arith
 base_bounded (boolean m cs) = omega arith
 base_bounded (boost b q) = omega arith
 base_bounded (constant_score q) = omega arith
-base_bounded matchAll = omega arith
-base_bounded matchNone = omega arith
+base_bounded match_all = omega arith
+base_bounded match_none = omega arith
 base_bounded (range n f l u) = omega arith
 
 join_bounded : (k : Kind) (q : Query) (xs cs : Clauses)
@@ -49,7 +49,7 @@ lone_bounded : (m : ℕ) (k : Kind) (q : Query) → Bounded (boolean m (clause k
 unfolding lone bulk reach largest
 lone_bounded m must q = omega (arith, unboosted_reach q)
 lone_bounded m should q = omega (arith, unboosted_reach q)
-lone_bounded m mustNot q = omega arith
+lone_bounded m must_not q = omega arith
 lone_bounded m filter q = omega (arith, unboosted_reach q)
 
 pub bounds_law : (strict : Bool) → Law strict Bounded (λ m cs ds. BoundedAll cs ds)

@@ -3,7 +3,7 @@ use mathlib.Core.Path.{◌≡◌, refl}
 use mathlib.Core.Logic.{◌⊎◌, inl, inr}
 use Prim.Native.Nat.{ℕ}
 use mathlib.Core.Bool.{Bool, true, not}
-use Rattle.rules.specs.Query.{Kind, must, should, mustNot, filter}
+use Rattle.rules.specs.Query.{Kind, must, should, must_not, filter}
 use Rattle.rules.specs.Rewriting.{is_needed, summable, stands_for}
 use Rattle.rules.specs.Matching.{allows}
 use Rattle.rules.proofs.Bools.{clash, or_r}
@@ -12,26 +12,26 @@ module _ (strict : Bool) (m : ℕ) where
   pub stands_is : (j k : Kind) → stands_for strict m j k ≡ true → (j ≡ k) ⊎ ((j ≡ must) × (k ≡ filter))
   stands_is must must h = inl refl
   stands_is must should h = clash h refl
-  stands_is must mustNot h = clash h refl
+  stands_is must must_not h = clash h refl
   stands_is must filter h = inr (refl, refl)
   stands_is should must h = clash h refl
   stands_is should should h = inl refl
-  stands_is should mustNot h = clash h refl
+  stands_is should must_not h = clash h refl
   stands_is should filter h = clash h refl
-  stands_is mustNot must h = clash h refl
-  stands_is mustNot should h = clash h refl
-  stands_is mustNot mustNot h = inl refl
-  stands_is mustNot filter h = clash h refl
+  stands_is must_not must h = clash h refl
+  stands_is must_not should h = clash h refl
+  stands_is must_not must_not h = inl refl
+  stands_is must_not filter h = clash h refl
   stands_is filter must h = clash h refl
   stands_is filter should h = clash h refl
-  stands_is filter mustNot h = clash h refl
+  stands_is filter must_not h = clash h refl
   stands_is filter filter h = inl refl
 
   -- a summable clause for those of its own kind
   pub stands_self : (k : Kind) → summable m k ≡ true → stands_for strict m k k ≡ true
   stands_self must h = refl
   stands_self should h = or_r (not strict) h
-  stands_self mustNot h = refl
+  stands_self must_not h = refl
   stands_self filter h = refl
 
   -- a law of a kind itself, and of a Must and a Filter

@@ -3,7 +3,7 @@ use mathlib.Core.Path.{◌≡◌, refl}
 use Prim.Native.Nat.{ℕ, ◌+◌, ◌*◌, ◌≤◌, max}
 use native.Mathlib.Omega.{arith}
 use lib.ListN.{length}
-use Rattle.rules.specs.Query.{Query, term, phrase, boolean, boost, constant_score, matchAll, matchNone, range, Clauses, none, clause, depth, depths}
+use Rattle.rules.specs.Query.{Query, term, phrase, boolean, boost, constant_score, match_all, match_none, range, Clauses, none, clause, depth, depths}
 use Rattle.rules.specs.Stored.{encode_bound, encode_words, encode, encodes}
 use Rattle.rules.specs.Rewriting.{weight, weights, base, clause_count, clause_counts, bulk, bulks}
 use Rattle.rules.proofs.Stored.Sizes.{length_term, length_phrase, length_boolean, length_boost, length_constant_score, length_match_all, length_match_none, length_range, length_none, length_clause}
@@ -19,8 +19,8 @@ mutual
   bulk_is (boolean m cs) = omega (arith, length_boolean m cs, bulks_are cs)
   bulk_is (boost b q) = omega (arith, length_boost b q, bulk_is q)
   bulk_is (constant_score q) = omega (arith, length_constant_score q, bulk_is q)
-  bulk_is matchAll = omega (arith, length_match_all)
-  bulk_is matchNone = omega (arith, length_match_none)
+  bulk_is match_all = omega (arith, length_match_all)
+  bulk_is match_none = omega (arith, length_match_none)
   bulk_is (range n f l u) = omega (arith, length_range n f l u)
 
   pub bulks_are : (cs : Clauses) → bulks cs ≡ length (encodes cs) + clause_counts cs
@@ -36,8 +36,8 @@ unfoldable mutual
   reach (boolean m cs) = 3 + reaches cs
   reach (boost b q) = 1 + reach q
   reach (constant_score q) = 1 + reach q
-  reach matchAll = 1
-  reach matchNone = 1
+  reach match_all = 1
+  reach match_none = 1
   reach (range n f l u) = 1
 
   pub unboosted : Query → ℕ
@@ -46,8 +46,8 @@ unfoldable mutual
   unboosted (boolean m cs) = 3 + reaches cs
   unboosted (boost b q) = reach q
   unboosted (constant_score q) = 1 + reach q
-  unboosted matchAll = 1
-  unboosted matchNone = 1
+  unboosted match_all = 1
+  unboosted match_none = 1
   unboosted (range n f l u) = 1
 
   pub reaches : Clauses → ℕ
@@ -62,8 +62,8 @@ unboosted_reach (phrase f ws) = omega arith
 unboosted_reach (boolean m cs) = omega arith
 unboosted_reach (boost b q) = omega arith
 unboosted_reach (constant_score q) = omega arith
-unboosted_reach matchAll = omega arith
-unboosted_reach matchNone = omega arith
+unboosted_reach match_all = omega arith
+unboosted_reach match_none = omega arith
 unboosted_reach (range n f l u) = omega arith
 
 pub unboosted_base : (q : Query) → unboosted q ≡ reach (base q)
@@ -73,8 +73,8 @@ unboosted_base (phrase f ws) = refl
 unboosted_base (boolean m cs) = refl
 unboosted_base (boost b q) = refl
 unboosted_base (constant_score q) = refl
-unboosted_base matchAll = refl
-unboosted_base matchNone = refl
+unboosted_base match_all = refl
+unboosted_base match_none = refl
 unboosted_base (range n f l u) = refl
 
 -- ---- what they say
@@ -89,8 +89,8 @@ mutual
   measured (boolean m cs) = omega (arith, all_measured cs)
   measured (boost b q) = omega (arith, measured q)
   measured (constant_score q) = omega (arith, measured q)
-  measured matchAll = omega arith
-  measured matchNone = omega arith
+  measured match_all = omega arith
+  measured match_none = omega arith
   measured (range n f l u) = omega arith
 
   all_measured : (cs : Clauses)

@@ -6,7 +6,7 @@ use mathlib.Core.List.{List, [], ◌∷◌}
 use mathlib.Core.Bool.{Bool, true, false, not, ◌&&◌, cond}
 use lib.Dec.{leb, ltb}
 use lib.Ieee.{Float}
-use Rattle.rules.specs.Query.{Word, word, Kind, must, should, mustNot, filter, Query, term, phrase, boolean, boost, constant_score, matchAll, matchNone, range, Clauses, none, clause, equal}
+use Rattle.rules.specs.Query.{Word, word, Kind, must, should, must_not, filter, Query, term, phrase, boolean, boost, constant_score, match_all, match_none, range, Clauses, none, clause, equal}
 use Rattle.rules.specs.Floats.{one, widened, narrowed, plus, is_one}
 use Rattle.rules.specs.Rewriting.{weight, is_none, boosted, scored, phrased, scores, summable, stands_for, base, boost_of, Merged, empty, merged, add_merged, merge_onto, reboosted, clauses_of, merged_boolean, lone, lone_or_merged, should_count, only_must_not, of_live, is_dead, live, rewrite_boolean, rewrite_once, rewrite_each, rounds, rewrite, result_of}
 use Rattle.rules.specs.Eating.{held, eats, fed}
@@ -25,8 +25,8 @@ is_boosted (phrase f ws) = false
 is_boosted (boolean m cs) = false
 is_boosted (boost b q) = true
 is_boosted (constant_score q) = false
-is_boosted matchAll = false
-is_boosted matchNone = false
+is_boosted match_all = false
+is_boosted match_none = false
 is_boosted (range n f l u) = false
 
 -- tidy, and with one outer boost taken off it is no boost
@@ -44,8 +44,8 @@ base_tidy (phrase f ws) h = h
 base_tidy (boolean m cs) h = h
 base_tidy (boost b q) h = h
 base_tidy (constant_score q) h = h
-base_tidy matchAll h = h
-base_tidy matchNone h = h
+base_tidy match_all h = h
+base_tidy match_none h = h
 base_tidy (range n f l u) h = h
 
 base_plain : (q : Query) → is_boosted q ≡ false → base q ≡ q
@@ -55,8 +55,8 @@ base_plain (phrase f ws) h = refl
 base_plain (boolean m cs) h = refl
 base_plain (boost b q) h = clash refl h
 base_plain (constant_score q) h = refl
-base_plain matchAll h = refl
-base_plain matchNone h = refl
+base_plain match_all h = refl
+base_plain match_none h = refl
 base_plain (range n f l u) h = refl
 
 -- ---- the merging of clauses
@@ -145,7 +145,7 @@ module _ (strict : Bool) where
       pass true h = h
       pass false h = (T.0, h)
 
-  none_neat : Neat matchNone
+  none_neat : Neat match_none
   unfolding base is_boosted Tidy
   none_neat = (refl, tt)
 
@@ -157,7 +157,7 @@ module _ (strict : Bool) where
   unfolding lone Tidy base is_boosted
   lone_neat must q T = T
   lone_neat should q T = T
-  lone_neat mustNot q T = (refl, tt)
+  lone_neat must_not q T = (refl, tt)
   lone_neat filter q T = (refl, T.1)
 
   module _ (m : ℕ) where
@@ -181,8 +181,8 @@ module _ (strict : Bool) where
   boosted_neat b (boolean m cs) T = T
   boosted_neat b (boost c q) T = T
   boosted_neat b (constant_score q) T = T
-  boosted_neat b matchAll T = T
-  boosted_neat b matchNone T = T
+  boosted_neat b match_all T = T
+  boosted_neat b match_none T = T
   boosted_neat b (range n f l u) T = T
 
   scored_neat : (q : Query) → Tidy q → Neat (scored q)
@@ -192,8 +192,8 @@ module _ (strict : Bool) where
   scored_neat (boolean m cs) T = (refl, T)
   scored_neat (boost c q) T = (refl, T)
   scored_neat (constant_score q) T = (refl, T)
-  scored_neat matchAll T = (refl, T)
-  scored_neat matchNone T = (refl, T)
+  scored_neat match_all T = (refl, T)
+  scored_neat match_none T = (refl, T)
   scored_neat (range n f l u) T = (refl, T)
 
   phrased_neat : (f : List ℕ) (ws : List Word) → Neat (phrased f ws)
@@ -211,8 +211,8 @@ module _ (strict : Bool) where
     once_neat (boolean m cs) = boolean_neat m (rewrite_each strict cs) (each_neat cs)
     once_neat (boost b q) = cond_neat (is_one (widened b)) _ _ (once_neat q) (boosted_neat b (rewrite_once strict q) (once_neat q))
     once_neat (constant_score q) = scored_neat (rewrite_once strict q) (once_neat q).1
-    once_neat matchAll = (refl, tt)
-    once_neat matchNone = (refl, tt)
+    once_neat match_all = (refl, tt)
+    once_neat match_none = (refl, tt)
     once_neat (range n f l u) = (refl, tt)
 
     each_neat : (cs : Clauses) → Neats (rewrite_each strict cs)

@@ -7,7 +7,7 @@ use native.Mathlib.Omega.{arith}
 use lib.Dec.{leb}
 use lib.Ieee.{Float}
 use borrow.Author.Tests.{leb-true, le-leb, lt-leb}
-use Rattle.rules.specs.Query.{Kind, must, should, mustNot, filter, Query, term, phrase, boolean, boost, constant_score, matchAll, matchNone, range, Clauses, none, clause}
+use Rattle.rules.specs.Query.{Kind, must, should, must_not, filter, Query, term, phrase, boolean, boost, constant_score, match_all, match_none, range, Clauses, none, clause}
 use Rattle.rules.specs.Floats.{narrowed, is_one}
 use Rattle.rules.specs.Rewriting.{weight, largest, Fair, largests, is_none, is_needed, is_must_not, scores, stands_for, base, reboosted, lone, should_count, only_must_not, is_dead, rewrite_once, rounds, rewrite, result_of}
 use Rattle.rules.specs.Lists.{Entry}
@@ -35,12 +35,12 @@ enough_capped m a b x y e h = cc (leb_alike m a b (λ k. omega arith) (λ k. ome
 double_capped : (strict : Bool) (m : ℕ) (j k : Kind) (x : Bool) (n : ℕ) → Fair strict m → stands_for strict m j k ≡ true
     → capped m (counts_for j x + n) ≡ capped m (counts_for j x + (counts_for k x + n))
 double_capped strict m j must x n l c = omega arith
-double_capped strict m j mustNot x n l c = omega arith
+double_capped strict m j must_not x n l c = omega arith
 double_capped strict m j filter x n l c = omega arith
 double_capped strict m must should x n l c = clash c refl
 double_capped true m should should x n l c = let h = leb-true m 1 c in omega arith
 double_capped false m should should x n l c = omega arith
-double_capped strict m mustNot should x n l c = clash c refl
+double_capped strict m must_not should x n l c = clash c refl
 double_capped strict m filter should x n l c = clash c refl
 
 bit_one : (b : Bool) → bit b ≤ 1
@@ -62,8 +62,8 @@ module _ (es : List Entry) where
   base_matches (boolean m cs) = refl
   base_matches (boost b q) = refl
   base_matches (constant_score q) = refl
-  base_matches matchAll = refl
-  base_matches matchNone = refl
+  base_matches match_all = refl
+  base_matches match_none = refl
   base_matches (range n f l u) = refl
 
   reboosted_matches : (k : Kind) (q : Query) (s : Float) → matches es (reboosted k q s) ≡ matches es q
@@ -117,11 +117,11 @@ module _ (es : List Entry) where
     num = rw (ex, ey, join_shoulds k q xs cs) (double_capped strict m j k (matches es q) (shoulds_true es (join xs cs)) l c);
   }
 
-  skip_agree : (m : ℕ) (k : Kind) (cs : Clauses) → is_needed k ≡ false → Agree m (clause k matchNone cs) cs
+  skip_agree : (m : ℕ) (k : Kind) (cs : Clauses) → is_needed k ≡ false → Agree m (clause k match_none cs) cs
   unfolding matches any_needed
   skip_agree m must cs h = clash refl h
   skip_agree m should cs h = record { ok = refl; any = refl; num = omega arith }
-  skip_agree m mustNot cs h = record { ok = refl; any = refl; num = omega arith }
+  skip_agree m must_not cs h = record { ok = refl; any = refl; num = omega arith }
   skip_agree m filter cs h = clash refl h
 
   -- ---- Booleans that match nothing
@@ -139,15 +139,15 @@ module _ (es : List Entry) where
       pass filter false e d t = rw (t d) (and_false (matches es q))
       pass should true e d t = t d
       pass should false e d t = t d
-      pass mustNot true e d t = rw (t d) (and_false (not (matches es q)))
-      pass mustNot false e d t = rw (t d) (and_false (not (matches es q)))
+      pass must_not true e d t = rw (t d) (and_false (not (matches es q)))
+      pass must_not false e d t = rw (t d) (and_false (not (matches es q)))
 
   negative_needed : (cs : Clauses) → only_must_not cs ≡ true → (any_needed cs ≡ false) × (shoulds_true es cs ≡ 0)
   unfolding only_must_not any_needed matches
   negative_needed none h = (refl, refl)
   negative_needed (clause must q cs) h = clash h refl
   negative_needed (clause should q cs) h = clash h refl
-  negative_needed (clause mustNot q cs) h = let g = negative_needed cs h in (g.0, omega arith)
+  negative_needed (clause must_not q cs) h = let g = negative_needed cs h in (g.0, omega arith)
   negative_needed (clause filter q cs) h = clash h refl
 
   shoulds_count : (cs : Clauses) → shoulds_true es cs ≤ should_count cs
@@ -155,19 +155,19 @@ module _ (es : List Entry) where
   shoulds_count none = omega arith
   shoulds_count (clause must q cs) = omega (arith, shoulds_count cs)
   shoulds_count (clause should q cs) = omega (arith, shoulds_count cs, bit_one (matches es q))
-  shoulds_count (clause mustNot q cs) = omega (arith, shoulds_count cs)
+  shoulds_count (clause must_not q cs) = omega (arith, shoulds_count cs)
   shoulds_count (clause filter q cs) = omega (arith, shoulds_count cs)
 
   module _ (m : ℕ) (cs : Clauses) where
-    none_dead : is_dead cs ≡ true → matches es matchNone ≡ matches es (boolean m cs)
+    none_dead : is_dead cs ≡ true → matches es match_none ≡ matches es (boolean m cs)
     unfolding matches
     none_dead h = rw (dead_allow cs h)
 
-    none_negative : only_must_not cs ≡ true → matches es matchNone ≡ matches es (boolean m cs)
+    none_negative : only_must_not cs ≡ true → matches es match_none ≡ matches es (boolean m cs)
     unfolding matches
     none_negative h = let g = negative_needed cs h in rw (g.0, g.1, and_false (leb m 0), and_false (all_allow es cs))
 
-    none_few : should_count cs < m → matches es matchNone ≡ matches es (boolean m cs)
+    none_few : should_count cs < m → matches es match_none ≡ matches es (boolean m cs)
     unfolding matches
     none_few h = rw (lt-leb m (shoulds_true es cs) (omega (arith, shoulds_count cs)), and_false (all_allow es cs))
 
@@ -186,7 +186,7 @@ module _ (es : List Entry) where
   unfolding matches lone should_count any_needed
   alone_matches m must q l c n = needed_alone m (matches es q) (omega arith)
   alone_matches m should q l c n = should_alone m (matches es q) l
-  alone_matches m mustNot q l c n = clash refl n
+  alone_matches m must_not q l c n = clash refl n
   alone_matches m filter q l c n = needed_alone m (matches es q) (omega arith)
 
   -- ---- the law

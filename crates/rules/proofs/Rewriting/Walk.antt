@@ -6,7 +6,7 @@ use mathlib.Core.Bool.{Bool, true, false, not, ◌&&◌, cond}
 use lib.Dec.{leb, ltb}
 use lib.Ieee.{Float}
 use borrow.Author.Tests.{leb-true, ltb-true, ltb-false}
-use Rattle.rules.specs.Query.{Word, word, Kind, Query, term, phrase, boolean, boost, constant_score, matchAll, matchNone, range, Clauses, none, clause, equal}
+use Rattle.rules.specs.Query.{Word, word, Kind, Query, term, phrase, boolean, boost, constant_score, match_all, match_none, range, Clauses, none, clause, equal}
 use Rattle.rules.specs.Floats.{one, widened, narrowed, plus, times, is_one}
 use Rattle.rules.specs.Rewriting.{is_none, boosted, scored, phrased, is_needed, is_must_not, scores, summable, stands_for, base, boost_of, Merged, empty, merged, put, add_merged, merge_onto, reboosted, clauses_of, merged_boolean, lone, lone_or_merged, should_count, only_must_not, of_live, is_dead, live, rewrite_boolean, rewrite_once, rewrite_each}
 use Rattle.rules.proofs.Bools.{clash, and_l, and_r, and_true, or_no_l, or_no_r}
@@ -27,15 +27,15 @@ pub join_none : (cs : Clauses) → join cs none ≡ cs
 join_none none = refl
 join_none (clause k q cs) = ap (clause k q) (join_none cs)
 
-pub none_is : (q : Query) → is_none q ≡ true → q ≡ matchNone
+pub none_is : (q : Query) → is_none q ≡ true → q ≡ match_none
 unfolding is_none
 none_is (term f t) h = clash h refl
 none_is (phrase f ws) h = clash h refl
 none_is (boolean m cs) h = clash h refl
 none_is (boost b q) h = clash h refl
 none_is (constant_score q) h = clash h refl
-none_is matchAll h = clash h refl
-none_is matchNone h = refl
+none_is match_all h = clash h refl
+none_is match_none h = refl
 none_is (range n f l u) h = clash h refl
 
 -- ---- what has to be shown of a law
@@ -55,16 +55,16 @@ pub record Law (strict : Bool) (R : Query → Query → Type 0) (S : ℕ → Cla
   pub off_boost : (b : ℕ) (q : Query) → R (boost b q) q
   pub off_constant : (q : Query) → R (constant_score q) q
   pub two_boosts : (b c : ℕ) (q : Query) → R (boost b (boost c q)) (boost (times c b) q)
-  pub no_words : (f : List ℕ) → R (phrase f []) matchNone
+  pub no_words : (f : List ℕ) → R (phrase f []) match_none
   pub one_word : (f t : List ℕ) (p : ℕ) → R (phrase f (word p t ∷ [])) (term f t)
   -- a Boolean
-  pub dead_none : (m : ℕ) (cs : Clauses) → is_dead cs ≡ true → R (boolean m cs) matchNone
-  pub negative_none : (m : ℕ) (cs : Clauses) → only_must_not cs ≡ true → R (boolean m cs) matchNone
-  pub few_none : (m : ℕ) (cs : Clauses) → should_count cs < m → R (boolean m cs) matchNone
+  pub dead_none : (m : ℕ) (cs : Clauses) → is_dead cs ≡ true → R (boolean m cs) match_none
+  pub negative_none : (m : ℕ) (cs : Clauses) → only_must_not cs ≡ true → R (boolean m cs) match_none
+  pub few_none : (m : ℕ) (cs : Clauses) → should_count cs < m → R (boolean m cs) match_none
   pub alone : (m : ℕ) (k : Kind) (q : Query) → m ≤ 1 → m ≤ should_count (clause k q none) → is_must_not k ≡ false
       → R (boolean m (clause k q none)) (lone k q)
   -- its clauses: one that is MatchNone, a boost that is rounded, a second one that is summed, a second one that is dropped
-  pub skip : (m : ℕ) (k : Kind) (cs : Clauses) → is_needed k ≡ false → S m (clause k matchNone cs) cs
+  pub skip : (m : ℕ) (k : Kind) (cs : Clauses) → is_needed k ≡ false → S m (clause k match_none cs) cs
   pub round : (b : ℕ) (q : Query) → R (boost b q) (boost (narrowed (widened b)) q)
   pub double : (m : ℕ) (j k : Kind) (q : Query) (s : Float) (xs cs : Clauses) → summable m k ≡ true → stands_for strict m j k ≡ true
       → S m (clause j (base q) (join xs (clause k q cs))) (clause j (boost (narrowed s) (base q)) (join xs cs))
@@ -89,8 +89,8 @@ module _ (strict : Bool) (R : Query → Query → Type 0) (S : ℕ → Clauses �
         pass true = by k _ _ cs (L.round b q)
         pass false = by k _ _ cs (L.off_boost b q)
     rebase k (constant_score q) cs = rw one_one (L.stay m _)
-    rebase k matchAll cs = rw one_one (L.stay m _)
-    rebase k matchNone cs = rw one_one (L.stay m _)
+    rebase k match_all cs = rw one_one (L.stay m _)
+    rebase k match_none cs = rw one_one (L.stay m _)
     rebase k (range n f l u) cs = rw one_one (L.stay m _)
 
     twice : (j k : Kind) (q : Query) (t u : Float) (xs cs : Clauses) → summable m k ≡ true → stands_for strict m j k ≡ true
@@ -169,10 +169,10 @@ module _ (strict : Bool) (R : Query → Query → Type 0) (S : ℕ → Clauses �
         pass false e = merged_law (clause k q none)
     lone_law (clause k q (clause j p cs)) n c = merged_law (clause k q (clause j p cs))
 
-    enough_law : (cs : Clauses) → only_must_not cs ≡ false → R (boolean m cs) (cond (ltb (should_count cs) m) matchNone (lone_or_merged strict m cs))
+    enough_law : (cs : Clauses) → only_must_not cs ≡ false → R (boolean m cs) (cond (ltb (should_count cs) m) match_none (lone_or_merged strict m cs))
     enough_law cs n = pass (ltb (should_count cs) m) refl
       where
-        pass : (b : Bool) → ltb (should_count cs) m ≡ b → R (boolean m cs) (cond b matchNone (lone_or_merged strict m cs))
+        pass : (b : Bool) → ltb (should_count cs) m ≡ b → R (boolean m cs) (cond b match_none (lone_or_merged strict m cs))
         pass true e = L.few_none m cs (ltb-true (should_count cs) m e)
         pass false e = lone_law cs n (ltb-false (should_count cs) m e)
 
@@ -181,7 +181,7 @@ module _ (strict : Bool) (R : Query → Query → Type 0) (S : ℕ → Clauses �
     of_live_law cs = pass (only_must_not cs) refl
       where
         pass : (b : Bool) → only_must_not cs ≡ b
-            → R (boolean m cs) (cond b matchNone (cond (ltb (should_count cs) m) matchNone (lone_or_merged strict m cs)))
+            → R (boolean m cs) (cond b match_none (cond (ltb (should_count cs) m) match_none (lone_or_merged strict m cs)))
         pass true e = L.negative_none m cs e
         pass false e = enough_law cs e
 
@@ -189,7 +189,7 @@ module _ (strict : Bool) (R : Query → Query → Type 0) (S : ℕ → Clauses �
     unfolding rewrite_boolean
     boolean_law cs = pass (is_dead cs) refl
       where
-        pass : (b : Bool) → is_dead cs ≡ b → R (boolean m cs) (cond b matchNone (of_live strict m (live cs)))
+        pass : (b : Bool) → is_dead cs ≡ b → R (boolean m cs) (cond b match_none (of_live strict m (live cs)))
         pass true e = L.dead_none m cs e
         pass false e = L.goes _ _ _ (L.in_boolean m cs (live cs) (live_law cs e)) (of_live_law (live cs))
 
@@ -200,8 +200,8 @@ module _ (strict : Bool) (R : Query → Query → Type 0) (S : ℕ → Clauses �
   boosted_law b (boolean m cs) = L.stays _
   boosted_law b (boost c q) = L.two_boosts b c q
   boosted_law b (constant_score q) = L.stays _
-  boosted_law b matchAll = L.stays _
-  boosted_law b matchNone = L.off_boost b matchNone
+  boosted_law b match_all = L.stays _
+  boosted_law b match_none = L.off_boost b match_none
   boosted_law b (range n f l u) = L.stays _
 
   pub scored_law : (q : Query) → R (constant_score q) (scored q)
@@ -211,8 +211,8 @@ module _ (strict : Bool) (R : Query → Query → Type 0) (S : ℕ → Clauses �
   scored_law (boolean m cs) = L.stays _
   scored_law (boost c q) = L.in_constant _ _ (L.off_boost c q)
   scored_law (constant_score q) = L.off_constant (constant_score q)
-  scored_law matchAll = L.stays _
-  scored_law matchNone = L.off_constant matchNone
+  scored_law match_all = L.stays _
+  scored_law match_none = L.off_constant match_none
   scored_law (range n f l u) = L.stays _
 
   pub phrased_law : (f : List ℕ) (ws : List Word) → R (phrase f ws) (phrased f ws)
@@ -234,8 +234,8 @@ module _ (strict : Bool) (R : Query → Query → Type 0) (S : ℕ → Clauses �
     once_law (boolean m cs) = L.goes _ _ _ (L.in_boolean m _ _ (each_law cs m)) (boolean_law m (rewrite_each strict cs))
     once_law (boost b q) = boost_law (is_one (widened b)) b q (rewrite_once strict q) (once_law q)
     once_law (constant_score q) = L.goes _ _ _ (L.in_constant _ _ (once_law q)) (scored_law (rewrite_once strict q))
-    once_law matchAll = L.stays _
-    once_law matchNone = L.stays _
+    once_law match_all = L.stays _
+    once_law match_none = L.stays _
     once_law (range n f l u) = L.stays _
 
     pub each_law : (cs : Clauses) (m : ℕ) → S m cs (rewrite_each strict cs)

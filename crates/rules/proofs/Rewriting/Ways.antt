@@ -6,7 +6,7 @@ use mathlib.Core.Bool.{true}
 use native.Mathlib.Omega.{arith}
 use lib.Ieee.{Float}
 use borrow.Author.Tests.{le-leb}
-use Rattle.rules.specs.Query.{Kind, must, should, mustNot, filter, Query, term, phrase, boolean, boost, constant_score, matchAll, matchNone, range, Clauses, none, clause}
+use Rattle.rules.specs.Query.{Kind, must, should, must_not, filter, Query, term, phrase, boolean, boost, constant_score, match_all, match_none, range, Clauses, none, clause}
 use Rattle.rules.specs.Floats.{one, plus}
 use Rattle.rules.specs.Rewriting.{largest, largests, scored, original, strictly, stands_for, base, boost_of, Merged, empty, merged, put, add_merged, merge_onto, clauses_of, merged_boolean, lone_or_merged, of_live, live, rewrite_boolean, rewrite_once, rewrite_each, rounds, rewrite, weight}
 use Rattle.rules.proofs.Rewriting.Bounds.{largest_once}
@@ -19,7 +19,7 @@ stands_original m j k (inl e) = rw e (own k)
     own : (k : Kind) → stands_for original m k k ≡ true
     own must = refl
     own should = refl
-    own mustNot = refl
+    own must_not = refl
     own filter = refl
 stands_original m j k (inr e) = rw (e.0, e.1)
 
@@ -29,19 +29,19 @@ module _ (m : ℕ) (h : m ≤ 1) where
   stands_alike : (j k : Kind) → stands_for strictly m j k ≡ stands_for original m j k
   stands_alike must must = refl
   stands_alike must should = refl
-  stands_alike must mustNot = refl
+  stands_alike must must_not = refl
   stands_alike must filter = refl
   stands_alike should must = refl
   stands_alike should should = le-leb m 1 h
-  stands_alike should mustNot = refl
+  stands_alike should must_not = refl
   stands_alike should filter = refl
-  stands_alike mustNot must = refl
-  stands_alike mustNot should = refl
-  stands_alike mustNot mustNot = refl
-  stands_alike mustNot filter = refl
+  stands_alike must_not must = refl
+  stands_alike must_not should = refl
+  stands_alike must_not must_not = refl
+  stands_alike must_not filter = refl
   stands_alike filter must = refl
   stands_alike filter should = refl
-  stands_alike filter mustNot = refl
+  stands_alike filter must_not = refl
   stands_alike filter filter = refl
 
   put_alike : (f : Float → Float) (s : Float) (k : Kind) (q : Query) (ms : Merged) → put strictly m f s k q ms ≡ put original m f s k q ms
@@ -83,8 +83,8 @@ mutual
   once_alike (boolean m cs) h = rw (each_alike cs (omega arith)) (boolean_alike m (omega arith) (rewrite_each original cs))
   once_alike (boost b q) h = rw (once_alike q h)
   once_alike (constant_score q) h = ap scored (once_alike q h)
-  once_alike matchAll h = refl
-  once_alike matchNone h = refl
+  once_alike match_all h = refl
+  once_alike match_none h = refl
   once_alike (range n f l u) h = refl
 
   each_alike : (cs : Clauses) → largests cs ≤ 1 → rewrite_each strictly cs ≡ rewrite_each original cs

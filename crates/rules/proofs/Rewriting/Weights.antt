@@ -4,7 +4,7 @@ use mathlib.Core.Logic.{◌⊎◌, inl, inr}
 use Prim.Native.Nat.{ℕ, zero, suc, ◌+◌, ◌≤◌, ◌<◌}
 use mathlib.Core.Bool.{Bool, true, false, cond}
 use native.Mathlib.Omega.{arith}
-use Rattle.rules.specs.Query.{Kind, must, should, mustNot, filter, Query, term, phrase, boolean, boost, constant_score, matchAll, matchNone, range, Clauses, none, clause, equal}
+use Rattle.rules.specs.Query.{Kind, must, should, must_not, filter, Query, term, phrase, boolean, boost, constant_score, match_all, match_none, range, Clauses, none, clause, equal}
 use Rattle.rules.specs.Stored.{ValidWords, Valid, Valids}
 use Rattle.rules.specs.Floats.{widened}
 use Rattle.rules.specs.Rewriting.{weight, weights, lone, rewrite_once, Rewritten, rewritten, one_round_more, rounds, rewrite, result_of, count_of}
@@ -37,8 +37,8 @@ one_weight (phrase f ws) = omega arith
 one_weight (boolean m cs) = omega arith
 one_weight (boost b q) = omega arith
 one_weight (constant_score q) = omega arith
-one_weight matchAll = omega arith
-one_weight matchNone = omega arith
+one_weight match_all = omega arith
+one_weight match_none = omega arith
 one_weight (range n f l u) = omega arith
 
 join_weight : (k : Kind) (q : Query) (xs cs : Clauses) → weights (join xs (clause k q cs)) ≡ 1 + weight q + weights (join xs cs)
@@ -55,14 +55,14 @@ lone_valid : (k : Kind) (q : Query) → Valid q → Valid (lone k q)
 unfolding lone Valid
 lone_valid must q v = v
 lone_valid should q v = v
-lone_valid mustNot q v = tt
+lone_valid must_not q v = tt
 lone_valid filter q v = (zero_boost, v)
 
 lone_lighter : (m : ℕ) (k : Kind) (q : Query) → weight (lone k q) < weight (boolean m (clause k q none))
 unfolding lone weight
 lone_lighter m must q = omega arith
 lone_lighter m should q = omega arith
-lone_lighter m mustNot q = omega arith
+lone_lighter m must_not q = omega arith
 lone_lighter m filter q = omega arith
 
 -- of a valid query: a boost that is rounded is a boost again, and the same

@@ -6,7 +6,7 @@ use mathlib.Core.Bool.{true}
 use lib.ListN.{length}
 use lib.Dec.{leb}
 use borrow.Author.Tests.{leb-true}
-use Rattle.rules.specs.Numbers.{longList, malformedList, list_most, got}
+use Rattle.rules.specs.Numbers.{long_list, malformed_list, list_most, got}
 use Rattle.rules.specs.Bytes.{Bytes, every, each}
 use Rattle.rules.specs.Query.{Query, depth}
 use Rattle.rules.specs.Reading.{number_of, read_within}
@@ -51,8 +51,8 @@ pub listed : (l : List ℕ) (r : ℕ) → r ≡ number_of (read_list l) → r �
 unfolding read_list
 listed l r e z =
     let g = number_got (read_list l) (sym e ∙ z) in
-    let k = need_got (leb (length l) list_most) longList _ g.0 g.1 in
-    let m = need_got (every is_record l) malformedList (got (each record_of l)) g.0 k.1 in
+    let k = need_got (leb (length l) list_most) long_list _ g.0 g.1 in
+    let m = need_got (every is_record l) malformed_list (got (each record_of l)) g.0 k.1 in
     record {
       read = g.1 ∙ sym m.1;
       records = m.0;

@@ -7,7 +7,7 @@ use native.Mathlib.Omega.{arith}
 use lib.ListN.{length, take, drop, length-drop}
 use lib.Dec.{leb}
 use borrow.Author.Tests.{leb-true}
-use Rattle.rules.specs.Numbers.{malformedQuery, Read, got, refused, need, on_read}
+use Rattle.rules.specs.Numbers.{malformed_query, Read, got, refused, need, on_read}
 use Rattle.rules.specs.Bytes.{is_empty}
 use Rattle.rules.specs.Batch.{long_first, first_query, other_queries, is_first, cut_in, cut}
 use Rattle.rules.proofs.Bools.{clash, and_l, and_r}
@@ -34,7 +34,7 @@ others_shorter s h = omega (arith, length_others s)
 
 -- what the query at the front makes of those that follow it
 abbrev cut_of : List ℕ → Read (List (List ℕ)) → Read (List (List ℕ))
-cut_of s more = need (is_first s) malformedQuery (on_read (λ qs. first_query s ∷ qs) more)
+cut_of s more = need (is_first s) malformed_query (on_read (λ qs. first_query s ∷ qs) more)
 
 cut_end : (n : ℕ) → cut_in n [] ≡ got []
 unfolding cut_in
@@ -56,11 +56,11 @@ cut_step : (s : List ℕ) → is_empty s ≡ false → cut s ≡ cut_of s (cut (
 cut_step [] e = clash refl e
 cut_step (x ∷ s) e = cut_more (length s) x s ∙ ap (cut_of (x ∷ s)) (cut_in_lem (length s) (other_queries (x ∷ s)) (others_within (length s) x s (omega arith)))
 
-pub cut_bad : (s : List ℕ) → is_empty s ≡ false → is_first s ≡ false → cut s ≡ refused malformedQuery
-cut_bad s e h = cut_step s e ∙ need_no malformedQuery _ h
+pub cut_bad : (s : List ℕ) → is_empty s ≡ false → is_first s ≡ false → cut s ≡ refused malformed_query
+cut_bad s e h = cut_step s e ∙ need_no malformed_query _ h
 
 pub cut_next : (s : List ℕ) → is_empty s ≡ false → is_first s ≡ true → cut s ≡ on_read (λ qs. first_query s ∷ qs) (cut (other_queries s))
-cut_next s e h = cut_step s e ∙ need_yes malformedQuery _ h
+cut_next s e h = cut_step s e ∙ need_yes malformed_query _ h
 
 -- a slice that was cut, by its first query and the others
 pub record Front (s : List ℕ) (qs : List (List ℕ)) : Type 0 where
@@ -71,6 +71,6 @@ pub record Front (s : List ℕ) (qs : List (List ℕ)) : Type 0 where
 
 pub front : (s : List ℕ) (qs : List (List ℕ)) → is_empty s ≡ false → cut s ≡ got qs → Front s qs
 front s qs e h =
-    let n = need_got (is_first s) malformedQuery (on_read (λ qs. first_query s ∷ qs) (cut (other_queries s))) qs (sym (cut_step s e) ∙ h) in
+    let n = need_got (is_first s) malformed_query (on_read (λ qs. first_query s ∷ qs) (cut (other_queries s))) qs (sym (cut_step s e) ∙ h) in
     let o = on_got (λ (qs : List (List ℕ)). first_query s ∷ qs) (cut (other_queries s)) qs n.1 in
     record { is = n.0; others = o.0; rest = o.1; split = o.2 }

@@ -4,7 +4,7 @@ use mathlib.Core.Logic.{◌⊎◌, inl, inr}
 use Prim.Native.Nat.{ℕ, zero, suc}
 use mathlib.Core.List.{List}
 use mathlib.Core.Bool.{Bool, true, false, ◌&&◌, cond}
-use Rattle.rules.specs.Numbers.{Refusal, malformedQuery, deepQuery, Read, got, refused, need, on_read}
+use Rattle.rules.specs.Numbers.{Refusal, malformed_query, deep_query, Read, got, refused, need, on_read}
 use Rattle.rules.specs.Bytes.{is_empty, tag_of, body_of, rest_of, whole_of}
 use Rattle.rules.specs.Query.{Kind, Numbers, Query, Clauses, clause}
 use Rattle.rules.specs.Reading.{closed, empty_in, term_in, phrase_in, range_in, boost_in, constant_score_in, added, clauses_in, boolean_in, is_query, body_in, decode}
@@ -12,11 +12,11 @@ use Rattle.rules.specs.Reading.{closed, empty_in, term_in, phrase_in, range_in, 
 -- an answer that is no refusal, or one of the two
 pub data Faulty {A : Type 0} : Read A → Type 0 where
   none_at_all : {a : A} → Faulty (got a)
-  malformed : Faulty (refused malformedQuery)
-  deep : Faulty (refused deepQuery)
+  malformed : Faulty (refused malformed_query)
+  deep : Faulty (refused deep_query)
 
 module _ {A : Type 0} where
-  by_need : (b : Bool) (o : Read A) → Faulty o → Faulty (need b malformedQuery o)
+  by_need : (b : Bool) (o : Read A) → Faulty o → Faulty (need b malformed_query o)
   by_need true o f = f
   by_need false o f = malformed
 
@@ -81,9 +81,9 @@ faulty zero s = search (by_need, deep)
 faulty (suc d) s =
     by_need (whole_of s && is_query (tag_of s)) _ (by_closed (is_empty (rest_of s)) (by_body (decode d) (faulty d) (tag_of s) (body_of s)))
 
-pub decode_refused : (d : ℕ) (s : List ℕ) (r : Refusal) → decode d s ≡ refused r → (r ≡ malformedQuery) ⊎ (r ≡ deepQuery)
+pub decode_refused : (d : ℕ) (s : List ℕ) (r : Refusal) → decode d s ≡ refused r → (r ≡ malformed_query) ⊎ (r ≡ deep_query)
 decode_refused d s r h = go (subst Faulty h (faulty d s))
   where
-    go : {r : Refusal} → Faulty {A = Query} (refused r) → (r ≡ malformedQuery) ⊎ (r ≡ deepQuery)
+    go : {r : Refusal} → Faulty {A = Query} (refused r) → (r ≡ malformed_query) ⊎ (r ≡ deep_query)
     go malformed = inl refl
     go deep = inr refl

@@ -9,9 +9,9 @@ use lib.ListN.{length, length-append}
 use lib.Dec.{ltb, eqb}
 use lib.Ieee.{binary32, nan_bits}
 use borrow.Author.Tests.{ltb-true}
-use Rattle.rules.specs.Numbers.{term_tag, phrase_tag, boolean_tag, boost_tag, constant_score_tag, match_all_tag, match_none_tag, field_tag, text_tag, minimum_tag, deepQuery, Read, got, refused, on_read}
+use Rattle.rules.specs.Numbers.{term_tag, phrase_tag, boolean_tag, boost_tag, constant_score_tag, match_all_tag, match_none_tag, field_tag, text_tag, minimum_tag, deep_query, Read, got, refused, on_read}
 use Rattle.rules.specs.Bytes.{of_big, big, is_text, is_field, part}
-use Rattle.rules.specs.Query.{Word, Kind, Numbers, Bound, Query, term, phrase, boolean, boost, constant_score, matchAll, matchNone, range, Clauses, none, clause, depth, depths}
+use Rattle.rules.specs.Query.{Word, Kind, Numbers, Bound, Query, term, phrase, boolean, boost, constant_score, match_all, match_none, range, Clauses, none, clause, depth, depths}
 use Rattle.rules.specs.Stored.{kind_tag, range_tag, encode_bound, encode_words, encode, encodes, the_nan, is_boost, ValidWords, ValidBound, Valid, Valids}
 use Rattle.rules.specs.Reading.{closed, empty_in, term_in, phrase_in, range_in, boost_in, constant_score_in, added, boolean_in, is_query, body_in, decode, read_within}
 use Rattle.rules.proofs.Bools.{both, and_l}
@@ -85,8 +85,8 @@ mutual
       one d boost_tag (big 4 b ++ encode q) (omega arith) refl
       ∙ rw (boost_back (decode (d - 1)) b (encode q) v.0, decode_encode q (d - 1) v.1 (omega arith))
   decode_encode (constant_score q) d v h = one d constant_score_tag (encode q) (omega arith) refl ∙ rw (decode_encode q (d - 1) v (omega arith))
-  decode_encode matchAll d v h = one d match_all_tag [] h refl
-  decode_encode matchNone d v h = one d match_none_tag [] h refl
+  decode_encode match_all d v h = one d match_all_tag [] h refl
+  decode_encode match_none d v h = one d match_none_tag [] h refl
   decode_encode (range n f l u) d v h =
       let b = part field_tag f ++ (encode_bound l ++ encode_bound u) in
       ap (decode d) (range_form n f l u) ∙ one d (range_tag n) b h (is_range_lem n)
@@ -103,28 +103,28 @@ read_encode most d q v h l = read_within_lem most d (encode q) l ∙ decode_enco
 
 -- ---- and what is too deep is refused as too deep
 
-deep_part : (d t : ℕ) (b : List ℕ) → is_query t ≡ true → (1 ≤ d → body_in (decode (d - 1)) t b ≡ refused deepQuery) → decode d (part t b) ≡ refused deepQuery
+deep_part : (d t : ℕ) (b : List ℕ) → is_query t ≡ true → (1 ≤ d → body_in (decode (d - 1)) t b ≡ refused deep_query) → decode d (part t b) ≡ refused deep_query
 unfolding closed
 deep_part d t b k f = go (ℕ_discrete d 0)
   where
-    go : Dec (d ≡ 0) → decode d (part t b) ≡ refused deepQuery
+    go : Dec (d ≡ 0) → decode d (part t b) ≡ refused deep_query
     go (yes e) = decode_deep d (part t b) e (both (whole_one t b) k)
     go (no n) = one d t b (omega arith) k ∙ rw (f (omega arith))
 
 deep_clause : (d : ℕ) (k : Kind) (q : Query) (cs : Clauses) → d < max (depth q) (depths cs)
-    → (depth q ≤ d → decode d (encode q) ≡ got q) → (d < depth q → decode d (encode q) ≡ refused deepQuery)
-    → (d < depths cs → clauses_of (decode d) (encodes cs) ≡ refused deepQuery) → clauses_of (decode d) (encodes (clause k q cs)) ≡ refused deepQuery
+    → (depth q ≤ d → decode d (encode q) ≡ got q) → (d < depth q → decode d (encode q) ≡ refused deep_query)
+    → (d < depths cs → clauses_of (decode d) (encodes cs) ≡ refused deep_query) → clauses_of (decode d) (encodes (clause k q cs)) ≡ refused deep_query
 unfolding encode added
 deep_clause d k q cs h f g r = clause_back (decode d) k (encode q) (encodes cs) ∙ go (dec_le (depth q) d)
   where
-    go : Dec (depth q ≤ d) → added k (decode d (encode q)) (clauses_of (decode d) (encodes cs)) ≡ refused deepQuery
+    go : Dec (depth q ≤ d) → added k (decode d (encode q)) (clauses_of (decode d) (encodes cs)) ≡ refused deep_query
     go (yes l) = rw (f l, r (omega arith))
     go (no n) = rw (g (omega arith))
 
 mutual
   unfolding encode depth Valid body_in constant_score_in
 
-  pub decode_too_deep : (q : Query) (d : ℕ) → Valid q → d < depth q → decode d (encode q) ≡ refused deepQuery
+  pub decode_too_deep : (q : Query) (d : ℕ) → Valid q → d < depth q → decode d (encode q) ≡ refused deep_query
   decode_too_deep (term f t) d v h = deep_part d term_tag (part field_tag f ++ part text_tag t) refl (λ l. absurd (omega arith))
   decode_too_deep (phrase f ws) d v h = deep_part d phrase_tag (part field_tag f ++ encode_words ws) refl (λ l. absurd (omega arith))
   decode_too_deep (boolean m cs) d v h =
@@ -134,13 +134,13 @@ mutual
       deep_part d boost_tag (big 4 b ++ encode q) refl
       (λ l. boost_back (decode (d - 1)) b (encode q) v.0 ∙ rw (decode_too_deep q (d - 1) v.1 (omega arith)))
   decode_too_deep (constant_score q) d v h = deep_part d constant_score_tag (encode q) refl (λ l. rw (decode_too_deep q (d - 1) v (omega arith)))
-  decode_too_deep matchAll d v h = deep_part d match_all_tag [] refl (λ l. absurd (omega arith))
-  decode_too_deep matchNone d v h = deep_part d match_none_tag [] refl (λ l. absurd (omega arith))
+  decode_too_deep match_all d v h = deep_part d match_all_tag [] refl (λ l. absurd (omega arith))
+  decode_too_deep match_none d v h = deep_part d match_none_tag [] refl (λ l. absurd (omega arith))
   decode_too_deep (range n f l u) d v h =
       ap (decode d) (range_form n f l u)
       ∙ deep_part d (range_tag n) (part field_tag f ++ (encode_bound l ++ encode_bound u)) (is_range_lem n) (λ l. absurd (omega arith))
 
-  pub clauses_too_deep : (cs : Clauses) (d : ℕ) → Valids cs → d < depths cs → clauses_of (decode d) (encodes cs) ≡ refused deepQuery
+  pub clauses_too_deep : (cs : Clauses) (d : ℕ) → Valids cs → d < depths cs → clauses_of (decode d) (encodes cs) ≡ refused deep_query
   clauses_too_deep none d v h = absurd (omega arith)
   clauses_too_deep (clause k q cs) d v h =
       deep_clause d k q cs h (decode_encode q d v.0) (λ l. decode_too_deep q d v.0 l) (λ l. clauses_too_deep cs d v.1 l)

@@ -3,7 +3,7 @@ use mathlib.Core.Path.{◌≡◌, refl, sym}
 use Prim.Native.Nat.{ℕ, ◌≤◌}
 use mathlib.Core.Bool.{Bool, true, false}
 use native.Mathlib.Omega.{arith}
-use Rattle.rules.specs.Numbers.{Fault, fault_number, Refusal, longText, notAscii, badSetup, faulty, openQuote, nothingEscaped, rangeBracket, wildcard, fuzzyTerm, sloppyPhrase, unexpectedEnd, unexpectedToken, open_bracket, badNumeral, noNumeral, longField, manyBrackets, longNumeral, long_answer, longQuery, malformedQuery, deepQuery, longList, malformedList, many_queries, short_room, number, Read, got, refused, need, on_read}
+use Rattle.rules.specs.Numbers.{Fault, fault_number, Refusal, long_text, not_ascii, bad_setup, faulty, open_quote, nothing_escaped, range_bracket, wildcard, fuzzy_term, sloppy_phrase, unexpected_end, unexpected_token, open_bracket, bad_numeral, no_numeral, long_field, many_brackets, long_numeral, long_answer, long_query, malformed_query, deep_query, long_list, malformed_list, many_queries, short_room, number, Read, got, refused, need, on_read}
 use Rattle.rules.specs.Query.{Kind, Query, Clauses, clause}
 use Rattle.rules.specs.Reading.{number_of, closed, added}
 use Rattle.rules.proofs.Bools.{clash}
@@ -18,33 +18,33 @@ got_same h = cc
 
 -- a fault has one of the numbers 4 to 17
 pub fault_number_lem : (f : Fault) → (4 ≤ fault_number f) × (fault_number f ≤ 17)
-fault_number_lem openQuote = omega arith
-fault_number_lem nothingEscaped = omega arith
-fault_number_lem rangeBracket = omega arith
+fault_number_lem open_quote = omega arith
+fault_number_lem nothing_escaped = omega arith
+fault_number_lem range_bracket = omega arith
 fault_number_lem wildcard = omega arith
-fault_number_lem fuzzyTerm = omega arith
-fault_number_lem sloppyPhrase = omega arith
-fault_number_lem unexpectedEnd = omega arith
-fault_number_lem unexpectedToken = omega arith
+fault_number_lem fuzzy_term = omega arith
+fault_number_lem sloppy_phrase = omega arith
+fault_number_lem unexpected_end = omega arith
+fault_number_lem unexpected_token = omega arith
 fault_number_lem open_bracket = omega arith
-fault_number_lem badNumeral = omega arith
-fault_number_lem noNumeral = omega arith
-fault_number_lem longField = omega arith
-fault_number_lem manyBrackets = omega arith
-fault_number_lem longNumeral = omega arith
+fault_number_lem bad_numeral = omega arith
+fault_number_lem no_numeral = omega arith
+fault_number_lem long_field = omega arith
+fault_number_lem many_brackets = omega arith
+fault_number_lem long_numeral = omega arith
 
 -- no refusal has the number of a success
 pub number_some : (r : Refusal) → number r ≡ 0 → ⊥
-number_some longText e = omega arith
-number_some notAscii e = omega arith
-number_some badSetup e = omega arith
+number_some long_text e = omega arith
+number_some not_ascii e = omega arith
+number_some bad_setup e = omega arith
 number_some (faulty f p) e = omega (arith, fault_number_lem f)
 number_some long_answer e = omega arith
-number_some longQuery e = omega arith
-number_some malformedQuery e = omega arith
-number_some deepQuery e = omega arith
-number_some longList e = omega arith
-number_some malformedList e = omega arith
+number_some long_query e = omega arith
+number_some malformed_query e = omega arith
+number_some deep_query e = omega arith
+number_some long_list e = omega arith
+number_some malformed_list e = omega arith
 number_some many_queries e = omega arith
 number_some short_room e = omega arith
 
@@ -101,7 +101,7 @@ closed_good (got q) true n h = refl
 closed_good (got q) false n h = clash h refl
 closed_good (refused r) e n h = absurd (number_some r n)
 
-pub closed_more : (o : Read Query) (e : Bool) → number_of o ≡ 0 → e ≡ false → number_of (closed o e) ≡ number malformedQuery
+pub closed_more : (o : Read Query) (e : Bool) → number_of o ≡ 0 → e ≡ false → number_of (closed o e) ≡ number malformed_query
 unfolding closed
 closed_more (got q) true n h = clash refl h
 closed_more (got q) false n h = refl

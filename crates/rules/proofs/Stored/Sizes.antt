@@ -9,7 +9,7 @@ use lib.Dec.{leb}
 use borrow.Author.Tests.{leb-true}
 use Rattle.rules.specs.Numbers.{field_most, field_tag, text_tag, word_tag, minimum_tag, open_tag, included_tag, excluded_tag, term_tag, phrase_tag, boolean_tag, boost_tag, constant_score_tag, match_all_tag, match_none_tag}
 use Rattle.rules.specs.Bytes.{Bytes, big, is_text, is_field, part}
-use Rattle.rules.specs.Query.{Word, word, Kind, must, should, mustNot, filter, Numbers, whole, float, Bound, unbounded, included, excluded, Query, term, phrase, boolean, boost, constant_score, matchAll, matchNone, range, Clauses, none, clause}
+use Rattle.rules.specs.Query.{Word, word, Kind, must, should, must_not, filter, Numbers, whole, float, Bound, unbounded, included, excluded, Query, term, phrase, boolean, boost, constant_score, match_all, match_none, range, Clauses, none, clause}
 use Rattle.rules.specs.Stored.{kind_tag, range_tag, encode_bound, encode_words, encode, encodes, ValidWords, Valid, Valids}
 use Rattle.rules.proofs.Bools.{and_l, and_r}
 use Rattle.rules.proofs.Stored.Bigs.{bytes_big}
@@ -47,11 +47,11 @@ pub length_constant_score : (q : Query) → length (encode (constant_score q)) �
 unfolding encode
 length_constant_score q = omega arith
 
-pub length_match_all : length (encode matchAll) ≡ 3
+pub length_match_all : length (encode match_all) ≡ 3
 unfolding encode
 length_match_all = refl
 
-pub length_match_none : length (encode matchNone) ≡ 3
+pub length_match_none : length (encode match_none) ≡ 3
 unfolding encode
 length_match_none = refl
 
@@ -76,8 +76,8 @@ length_encode (phrase f ws) = omega arith
 length_encode (boolean m cs) = omega arith
 length_encode (boost b q) = omega arith
 length_encode (constant_score q) = omega arith
-length_encode matchAll = omega arith
-length_encode matchNone = omega arith
+length_encode match_all = omega arith
+length_encode match_none = omega arith
 length_encode (range n f l u) = omega arith
 
 -- ---- bytes
@@ -105,7 +105,7 @@ words_bytes (word p t ∷ ws) v l =
 kind_byte : (k : Kind) → kind_tag k < 256
 kind_byte must = omega arith
 kind_byte should = omega arith
-kind_byte mustNot = omega arith
+kind_byte must_not = omega arith
 kind_byte filter = omega arith
 
 range_byte : (n : Numbers) → range_tag n < 256
@@ -131,8 +131,8 @@ mutual
   bytes_encode (boost b q) v l =
       bytes_part boost_tag (big 4 b ++ encode q) (omega arith) (omega arith) (bytes_append (big 4 b) (encode q) (bytes_big 4 b) (bytes_encode q v.1 (omega arith)))
   bytes_encode (constant_score q) v l = bytes_part constant_score_tag (encode q) (omega arith) (omega arith) (bytes_encode q v (omega arith))
-  bytes_encode matchAll v l = bytes_part match_all_tag [] (omega arith) (omega arith) (bytes_big 0 0)
-  bytes_encode matchNone v l = bytes_part match_none_tag [] (omega arith) (omega arith) (bytes_big 0 0)
+  bytes_encode match_all v l = bytes_part match_all_tag [] (omega arith) (omega arith) (bytes_big 0 0)
+  bytes_encode match_none v l = bytes_part match_none_tag [] (omega arith) (omega arith) (bytes_big 0 0)
   bytes_encode (range n f l u) v h =
       bytes_part (range_tag n) (part field_tag f ++ encode_bound l ++ encode_bound u) (range_byte n) (omega arith)
       (bytes_append (part field_tag f ++ encode_bound l) (encode_bound u) (bytes_append (part field_tag f) (encode_bound l) (field_bytes f v.0) (bound_bytes l)) (bound_bytes u))

@@ -8,9 +8,9 @@ use lib.ListN.{length, take, drop, take-append-drop}
 use lib.Seq.{length-take-le}
 use lib.Dec.{leb, eqb}
 use borrow.Author.Tests.{leb-true, eqb-true}
-use Rattle.rules.specs.Numbers.{term_tag, phrase_tag, boolean_tag, boost_tag, constant_score_tag, match_all_tag, match_none_tag, field_tag, text_tag, minimum_tag, longQuery, malformedQuery, deepQuery, Read, got, refused}
+use Rattle.rules.specs.Numbers.{term_tag, phrase_tag, boolean_tag, boost_tag, constant_score_tag, match_all_tag, match_none_tag, field_tag, text_tag, minimum_tag, long_query, malformed_query, deep_query, Read, got, refused}
 use Rattle.rules.specs.Bytes.{Bytes, of_big, is_empty, is_text, part, tag_of, body_of, rest_of, whole_of, is_part, is_field_part, every, each}
-use Rattle.rules.specs.Query.{Numbers, Query, boolean, boost, constant_score, matchAll, matchNone, Clauses, none, clause, depth, depths}
+use Rattle.rules.specs.Query.{Numbers, Query, boolean, boost, constant_score, match_all, match_none, Clauses, none, clause, depth, depths}
 use Rattle.rules.specs.Stored.{kind_tag, range_tag, encode_bound, encode_words, encode, encodes, is_boost, Valid, Valids}
 use Rattle.rules.specs.Reading.{empty_in, term_in, is_word, word_of, phrase_in, is_bound, bound_of, range_in, boost_in, constant_score_in, is_kind, kind_of, clauses_in, boolean_in, is_query, body_in, decode, read_within}
 use Rattle.rules.proofs.Bools.{and_l, and_r, and_four}
@@ -57,7 +57,7 @@ module _ (d : ℕ) (sub : List ℕ → Read Query) (S : (b : List ℕ) (q : Quer
   unfolding term_in encode depth Valid
   is_term_lem b q B h =
       let r = rest_of b in
-      let k = need_got (is_field_part b && (is_part text_tag r && (is_text (body_of r) && is_empty (rest_of r)))) malformedQuery _ q h in
+      let k = need_got (is_field_part b && (is_part text_tag r && (is_text (body_of r) && is_empty (rest_of r)))) malformed_query _ q h in
       let c = and_four (is_field_part b) (is_part text_tag r) (is_text (body_of r)) (is_empty (rest_of r)) k.0 in
       let f = field_is b c.0 in
       rw (sym (got_same k.1)) (record {
@@ -70,7 +70,7 @@ module _ (d : ℕ) (sub : List ℕ → Read Query) (S : (b : List ℕ) (q : Quer
   unfolding phrase_in encode depth Valid
   is_phrase_lem b q B h =
       let r = rest_of b in
-      let k = need_got (is_field_part b && every is_word r) malformedQuery _ q h in
+      let k = need_got (is_field_part b && every is_word r) malformed_query _ q h in
       let f = field_is b (and_l (is_field_part b) (every is_word r) k.0) in
       let W = words_again r (bytes_rest b B) (and_r (is_field_part b) (every is_word r) k.0) in
       rw (sym (got_same k.1)) (record {
@@ -84,7 +84,7 @@ module _ (d : ℕ) (sub : List ℕ → Read Query) (S : (b : List ℕ) (q : Quer
   is_range_lem n b q B h =
       let l = rest_of b in
       let u = rest_of l in
-      let k = need_got (is_field_part b && (is_bound l && (is_bound u && is_empty (rest_of u)))) malformedQuery _ q h in
+      let k = need_got (is_field_part b && (is_bound l && (is_bound u && is_empty (rest_of u)))) malformed_query _ q h in
       let c = and_four (is_field_part b) (is_bound l) (is_bound u) (is_empty (rest_of u)) k.0 in
       let f = field_is b c.0 in
       let Bl = bytes_rest b B in
@@ -108,7 +108,7 @@ module _ (d : ℕ) (sub : List ℕ → Read Query) (S : (b : List ℕ) (q : Quer
   unfolding boost_in encode depth Valid
   is_boost_lem b q B h =
       let n = of_big (take 4 b) in
-      let k = need_got (leb 4 (length b) && is_boost n) malformedQuery _ q h in
+      let k = need_got (leb 4 (length b) && is_boost n) malformed_query _ q h in
       let a = on_got (boost n) (sub (drop 4 b)) q k.1 in
       let I = S (drop 4 b) a.0 (bytes_drop 4 b B) a.1 in
       let w = write_big 4 (take 4 b) (bytes_take 4 b B) (length-take-le 4 b (leb-true 4 (length b) (and_l (leb 4 (length b)) (is_boost n) k.0))) in
@@ -125,7 +125,7 @@ module _ (d : ℕ) (sub : List ℕ → Read Query) (S : (b : List ℕ) (q : Quer
   clauses_sound (suc n) [] cs B h = no_clause cs h
   clauses_sound (suc n) (x ∷ r) cs B h =
       let s = x ∷ r in
-      let k = need_got (whole_of s && is_kind x) malformedQuery _ cs h in
+      let k = need_got (whole_of s && is_kind x) malformed_query _ cs h in
       let w = and_l (whole_of s) (is_kind x) k.0 in
       let a = added_got (kind_of x) (sub (body_of s)) (clauses_in sub n (rest_of s)) cs k.1 in
       let I = S (body_of s) a.0 (bytes_body s B) a.2 in
@@ -141,7 +141,7 @@ module _ (d : ℕ) (sub : List ℕ → Read Query) (S : (b : List ℕ) (q : Quer
   is_boolean b q B h =
       let m = of_big (body_of b) in
       let two = eqb (length (body_of b)) 2 in
-      let k = need_got (is_part minimum_tag b && two) malformedQuery _ q h in
+      let k = need_got (is_part minimum_tag b && two) malformed_query _ q h in
       let l = eqb-true (length (body_of b)) 2 (and_r (is_part minimum_tag b) two k.0) in
       let a = on_got (boolean m) (clauses_of sub (rest_of b)) q k.1 in
       let A = clauses_sound (length (rest_of b)) (rest_of b) a.0 (bytes_rest b B) a.1 in
@@ -159,15 +159,15 @@ module _ (d : ℕ) (sub : List ℕ → Read Query) (S : (b : List ℕ) (q : Quer
   body_sound t_boolean b q B h = is_boolean b q B h
   body_sound t_boost b q B h = is_boost_lem b q B h
   body_sound t_constant_score b q B h = is_constant b q B h
-  body_sound t_match_all b q B h = is_empty_lem match_all_tag matchAll b q (record { form = refl; deep = omega arith; valid = tt }) h
-  body_sound t_match_none b q B h = is_empty_lem match_none_tag matchNone b q (record { form = refl; deep = omega arith; valid = tt }) h
+  body_sound t_match_all b q B h = is_empty_lem match_all_tag match_all b q (record { form = refl; deep = omega arith; valid = tt }) h
+  body_sound t_match_none b q B h = is_empty_lem match_none_tag match_none b q (record { form = refl; deep = omega arith; valid = tt }) h
   body_sound (t_range n) b q B h = is_range_lem n b q B (sym (in_range sub b (range_tag n) n refl) ∙ h)
 
 pub decode_sound : (d : ℕ) (s : List ℕ) (q : Query) → Bytes s → decode d s ≡ got q → ReadAs d s q
 unfolding decode
-decode_sound zero s q B h = no_got (need_got (whole_of s && is_query (tag_of s)) malformedQuery (refused deepQuery) q h).1
+decode_sound zero s q B h = no_got (need_got (whole_of s && is_query (tag_of s)) malformed_query (refused deep_query) q h).1
 decode_sound (suc d) s q B h =
-    let k = need_got (whole_of s && is_query (tag_of s)) malformedQuery _ q h in
+    let k = need_got (whole_of s && is_query (tag_of s)) malformed_query _ q h in
     let w = and_l (whole_of s) (is_query (tag_of s)) k.0 in
     let t = query_tag (tag_of s) (and_r (whole_of s) (is_query (tag_of s)) k.0) in
     let c = closed_got (body_in (decode d) (tag_of s) (body_of s)) (is_empty (rest_of s)) q k.1 in
@@ -176,5 +176,5 @@ decode_sound (suc d) s q B h =
 -- with the limit on the bytes before it
 pub read_sound : (most d : ℕ) (s : List ℕ) (q : Query) → Bytes s → read_within most d s ≡ got q → (length s ≤ most) × ReadAs d s q
 read_sound most d s q B h =
-    let k = need_got (leb (length s) most) longQuery (decode d s) q h in
+    let k = need_got (leb (length s) most) long_query (decode d s) q h in
     (leb-true (length s) most k.0, decode_sound d s q B k.1)

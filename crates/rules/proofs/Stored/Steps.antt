@@ -8,9 +8,9 @@ use native.Mathlib.Numerals.{sub-one}
 use lib.ListN.{length, take, drop}
 use lib.Dec.{leb, eqb}
 use borrow.Author.Tests.{le-leb, lt-leb}
-use Rattle.rules.specs.Numbers.{term_tag, phrase_tag, boolean_tag, boost_tag, constant_score_tag, match_all_tag, match_none_tag, text_tag, minimum_tag, number, longQuery, malformedQuery, deepQuery, Read, got, refused, on_read}
+use Rattle.rules.specs.Numbers.{term_tag, phrase_tag, boolean_tag, boost_tag, constant_score_tag, match_all_tag, match_none_tag, text_tag, minimum_tag, number, long_query, malformed_query, deep_query, Read, got, refused, on_read}
 use Rattle.rules.specs.Bytes.{of_big, is_empty, is_text, tag_of, body_of, rest_of, whole_of, is_part, is_field_part, every, each}
-use Rattle.rules.specs.Query.{Numbers, whole, float, Query, term, phrase, boolean, boost, constant_score, matchAll, matchNone, range, Clauses, none}
+use Rattle.rules.specs.Query.{Numbers, whole, float, Query, term, phrase, boolean, boost, constant_score, match_all, match_none, range, Clauses, none}
 use Rattle.rules.specs.Stored.{range_tag, is_boost}
 use Rattle.rules.specs.Reading.{number_of, sound, closed, empty_in, term_in, is_word, word_of, phrase_in, is_bound, bound_of, range_in, boost_in, constant_score_in, is_kind, kind_of, added, clauses_in, boolean_in, is_query, body_in, decode, read_within}
 use Rattle.rules.proofs.Bools.{clash, both, and_no_l, and_no_r}
@@ -24,7 +24,7 @@ module _ (q : Query) (b : List ℕ) where
   unfolding empty_in
   empty_good h = rw (h, empty_in)
 
-  pub empty_bad : is_empty b ≡ false → empty_in q b ≡ refused malformedQuery
+  pub empty_bad : is_empty b ≡ false → empty_in q b ≡ refused malformed_query
   unfolding empty_in
   empty_bad h = rw (h, empty_in)
 
@@ -32,35 +32,35 @@ module _ (b : List ℕ) where
   pub term_good : is_field_part b ≡ true → is_part text_tag (rest_of b) ≡ true → is_text (body_of (rest_of b)) ≡ true
       → is_empty (rest_of (rest_of b)) ≡ true → term_in b ≡ got (term (body_of b) (body_of (rest_of b)))
   unfolding term_in
-  term_good f p t e = need_yes malformedQuery _ (both f (both p (both t e)))
+  term_good f p t e = need_yes malformed_query _ (both f (both p (both t e)))
 
-  pub term_field : is_field_part b ≡ false → term_in b ≡ refused malformedQuery
+  pub term_field : is_field_part b ≡ false → term_in b ≡ refused malformed_query
   unfolding term_in
-  term_field h = need_no malformedQuery _ (and_no_l _ h)
+  term_field h = need_no malformed_query _ (and_no_l _ h)
 
-  pub term_part : is_part text_tag (rest_of b) ≡ false → term_in b ≡ refused malformedQuery
+  pub term_part : is_part text_tag (rest_of b) ≡ false → term_in b ≡ refused malformed_query
   unfolding term_in
-  term_part h = need_no malformedQuery _ (and_no_r (is_field_part b) (and_no_l _ h))
+  term_part h = need_no malformed_query _ (and_no_r (is_field_part b) (and_no_l _ h))
 
-  pub term_text_lem : is_text (body_of (rest_of b)) ≡ false → term_in b ≡ refused malformedQuery
+  pub term_text_lem : is_text (body_of (rest_of b)) ≡ false → term_in b ≡ refused malformed_query
   unfolding term_in
-  term_text_lem h = need_no malformedQuery _ (and_no_r (is_field_part b) (and_no_r (is_part text_tag (rest_of b)) (and_no_l _ h)))
+  term_text_lem h = need_no malformed_query _ (and_no_r (is_field_part b) (and_no_r (is_part text_tag (rest_of b)) (and_no_l _ h)))
 
-  pub term_more : is_empty (rest_of (rest_of b)) ≡ false → term_in b ≡ refused malformedQuery
+  pub term_more : is_empty (rest_of (rest_of b)) ≡ false → term_in b ≡ refused malformed_query
   unfolding term_in
-  term_more h = need_no malformedQuery _ (and_no_r (is_field_part b) (and_no_r (is_part text_tag (rest_of b)) (and_no_r (is_text (body_of (rest_of b))) h)))
+  term_more h = need_no malformed_query _ (and_no_r (is_field_part b) (and_no_r (is_part text_tag (rest_of b)) (and_no_r (is_text (body_of (rest_of b))) h)))
 
   pub phrase_good : is_field_part b ≡ true → every is_word (rest_of b) ≡ true → phrase_in b ≡ got (phrase (body_of b) (each word_of (rest_of b)))
   unfolding phrase_in
-  phrase_good f w = need_yes malformedQuery _ (both f w)
+  phrase_good f w = need_yes malformed_query _ (both f w)
 
-  pub phrase_field : is_field_part b ≡ false → phrase_in b ≡ refused malformedQuery
+  pub phrase_field : is_field_part b ≡ false → phrase_in b ≡ refused malformed_query
   unfolding phrase_in
-  phrase_field h = need_no malformedQuery _ (and_no_l _ h)
+  phrase_field h = need_no malformed_query _ (and_no_l _ h)
 
-  pub phrase_words : every is_word (rest_of b) ≡ false → phrase_in b ≡ refused malformedQuery
+  pub phrase_words : every is_word (rest_of b) ≡ false → phrase_in b ≡ refused malformed_query
   unfolding phrase_in
-  phrase_words h = need_no malformedQuery _ (and_no_r (is_field_part b) h)
+  phrase_words h = need_no malformed_query _ (and_no_r (is_field_part b) h)
 
 module _ (n : Numbers) (b : List ℕ) where
   abbrev lower : List ℕ
@@ -72,23 +72,23 @@ module _ (n : Numbers) (b : List ℕ) where
   pub range_good : is_field_part b ≡ true → is_bound (rest_of b) ≡ true → is_bound (rest_of (rest_of b)) ≡ true → is_empty (rest_of (rest_of (rest_of b))) ≡ true
       → range_in n b ≡ got (range n (body_of b) (bound_of (rest_of b)) (bound_of (rest_of (rest_of b))))
   unfolding range_in
-  range_good f l u e = need_yes malformedQuery _ (both f (both l (both u e)))
+  range_good f l u e = need_yes malformed_query _ (both f (both l (both u e)))
 
-  pub range_field : is_field_part b ≡ false → range_in n b ≡ refused malformedQuery
+  pub range_field : is_field_part b ≡ false → range_in n b ≡ refused malformed_query
   unfolding range_in
-  range_field h = need_no malformedQuery _ (and_no_l _ h)
+  range_field h = need_no malformed_query _ (and_no_l _ h)
 
-  pub range_lower : is_bound (rest_of b) ≡ false → range_in n b ≡ refused malformedQuery
+  pub range_lower : is_bound (rest_of b) ≡ false → range_in n b ≡ refused malformed_query
   unfolding range_in
-  range_lower h = need_no malformedQuery _ (and_no_r (is_field_part b) (and_no_l _ h))
+  range_lower h = need_no malformed_query _ (and_no_r (is_field_part b) (and_no_l _ h))
 
-  pub range_upper : is_bound (rest_of (rest_of b)) ≡ false → range_in n b ≡ refused malformedQuery
+  pub range_upper : is_bound (rest_of (rest_of b)) ≡ false → range_in n b ≡ refused malformed_query
   unfolding range_in
-  range_upper h = need_no malformedQuery _ (and_no_r (is_field_part b) (and_no_r (is_bound lower) (and_no_l _ h)))
+  range_upper h = need_no malformed_query _ (and_no_r (is_field_part b) (and_no_r (is_bound lower) (and_no_l _ h)))
 
-  pub range_more : is_empty (rest_of (rest_of (rest_of b))) ≡ false → range_in n b ≡ refused malformedQuery
+  pub range_more : is_empty (rest_of (rest_of (rest_of b))) ≡ false → range_in n b ≡ refused malformed_query
   unfolding range_in
-  range_more h = need_no malformedQuery _ (and_no_r (is_field_part b) (and_no_r (is_bound lower) (and_no_r (is_bound upper) h)))
+  range_more h = need_no malformed_query _ (and_no_r (is_field_part b) (and_no_r (is_bound lower) (and_no_r (is_bound upper) h)))
 
 -- ---- bodies that hold queries
 
@@ -121,12 +121,12 @@ module _ (sub : List ℕ → Read Query) where
   clauses_step [] e = clash refl e
   clauses_step (x ∷ s) e = clauses_more (length s) x s ∙ ap (clause_of (x ∷ s)) (clauses_in_lem (length s) (rest_of (x ∷ s)) (rest_within (length s) x s (omega arith)))
 
-  pub clauses_bad : (s : List ℕ) → is_empty s ≡ false → (whole_of s && is_kind (tag_of s)) ≡ false → clauses_of sub s ≡ refused malformedQuery
-  clauses_bad s e h = clauses_step s e ∙ need_no malformedQuery _ h
+  pub clauses_bad : (s : List ℕ) → is_empty s ≡ false → (whole_of s && is_kind (tag_of s)) ≡ false → clauses_of sub s ≡ refused malformed_query
+  clauses_bad s e h = clauses_step s e ∙ need_no malformed_query _ h
 
   pub clauses_next : (s : List ℕ) → is_empty s ≡ false → (whole_of s && is_kind (tag_of s)) ≡ true
       → clauses_of sub s ≡ added (kind_of (tag_of s)) (sub (body_of s)) (clauses_of sub (rest_of s))
-  clauses_next s e h = clauses_step s e ∙ need_yes malformedQuery _ h
+  clauses_next s e h = clauses_step s e ∙ need_yes malformed_query _ h
 
   -- by the number of the first clause's query
   pub clauses_fault : (s : List ℕ) → is_empty s ≡ false → (whole_of s && is_kind (tag_of s)) ≡ true → (number_of (sub (body_of s)) ≡ 0 → ⊥)
@@ -138,29 +138,29 @@ module _ (sub : List ℕ → Read Query) where
   clauses_good s e h n = ap number_of (clauses_next s e h) ∙ added_number (kind_of (tag_of s)) (sub (body_of s)) (clauses_of sub (rest_of s)) n
 
 module _ (sub : List ℕ → Read Query) (b : List ℕ) where
-  pub boolean_bad : (is_part minimum_tag b && eqb (length (body_of b)) 2) ≡ false → boolean_in sub b ≡ refused malformedQuery
+  pub boolean_bad : (is_part minimum_tag b && eqb (length (body_of b)) 2) ≡ false → boolean_in sub b ≡ refused malformed_query
   unfolding boolean_in
-  boolean_bad h = need_no malformedQuery _ h
+  boolean_bad h = need_no malformed_query _ h
 
   pub boolean_in_lem : (is_part minimum_tag b && eqb (length (body_of b)) 2) ≡ true
       → boolean_in sub b ≡ on_read (boolean (of_big (body_of b))) (clauses_of sub (rest_of b))
   unfolding boolean_in
-  boolean_in_lem h = need_yes malformedQuery _ h
+  boolean_in_lem h = need_yes malformed_query _ h
 
   pub boolean_number : (is_part minimum_tag b && eqb (length (body_of b)) 2) ≡ true → number_of (boolean_in sub b) ≡ number_of (clauses_of sub (rest_of b))
   boolean_number h = ap number_of (boolean_in_lem h) ∙ on_number (boolean (of_big (body_of b))) (clauses_of sub (rest_of b))
 
-  pub boost_short : length b < 4 → boost_in sub b ≡ refused malformedQuery
+  pub boost_short : length b < 4 → boost_in sub b ≡ refused malformed_query
   unfolding boost_in
-  boost_short h = need_no malformedQuery _ (and_no_l (is_boost (of_big (take 4 b))) (lt-leb 4 (length b) h))
+  boost_short h = need_no malformed_query _ (and_no_l (is_boost (of_big (take 4 b))) (lt-leb 4 (length b) h))
 
-  pub boost_bad : is_boost (of_big (take 4 b)) ≡ false → boost_in sub b ≡ refused malformedQuery
+  pub boost_bad : is_boost (of_big (take 4 b)) ≡ false → boost_in sub b ≡ refused malformed_query
   unfolding boost_in
-  boost_bad h = need_no malformedQuery _ (and_no_r (leb 4 (length b)) h)
+  boost_bad h = need_no malformed_query _ (and_no_r (leb 4 (length b)) h)
 
   pub boost_in_lem : 4 ≤ length b → is_boost (of_big (take 4 b)) ≡ true → boost_in sub b ≡ on_read (boost (of_big (take 4 b))) (sub (drop 4 b))
   unfolding boost_in
-  boost_in_lem l h = need_yes malformedQuery _ (both (le-leb 4 (length b) l) h)
+  boost_in_lem l h = need_yes malformed_query _ (both (le-leb 4 (length b) l) h)
 
   pub boost_number : 4 ≤ length b → is_boost (of_big (take 4 b)) ≡ true → number_of (boost_in sub b) ≡ number_of (sub (drop 4 b))
   boost_number l h = ap number_of (boost_in_lem l h) ∙ on_number (boost (of_big (take 4 b))) (sub (drop 4 b))
@@ -192,11 +192,11 @@ module _ (sub : List ℕ → Read Query) (b : List ℕ) (t : ℕ) where
   unfolding body_in
   in_constant_score e = rw e
 
-  pub in_match_all : t ≡ match_all_tag → body_in sub t b ≡ empty_in matchAll b
+  pub in_match_all : t ≡ match_all_tag → body_in sub t b ≡ empty_in match_all b
   unfolding body_in
   in_match_all e = rw e
 
-  pub in_match_none : t ≡ match_none_tag → body_in sub t b ≡ empty_in matchNone b
+  pub in_match_none : t ≡ match_none_tag → body_in sub t b ≡ empty_in match_none b
   unfolding body_in
   in_match_none e = rw e
 
@@ -207,28 +207,28 @@ module _ (sub : List ℕ → Read Query) (b : List ℕ) (t : ℕ) where
 
 -- ---- a query
 
-pub decode_bad : (d : ℕ) (s : List ℕ) → (whole_of s && is_query (tag_of s)) ≡ false → decode d s ≡ refused malformedQuery
+pub decode_bad : (d : ℕ) (s : List ℕ) → (whole_of s && is_query (tag_of s)) ≡ false → decode d s ≡ refused malformed_query
 unfolding decode
-decode_bad zero s h = need_no malformedQuery _ h
-decode_bad (suc d) s h = need_no malformedQuery _ h
+decode_bad zero s h = need_no malformed_query _ h
+decode_bad (suc d) s h = need_no malformed_query _ h
 
-pub decode_deep : (d : ℕ) (s : List ℕ) → d ≡ 0 → (whole_of s && is_query (tag_of s)) ≡ true → decode d s ≡ refused deepQuery
+pub decode_deep : (d : ℕ) (s : List ℕ) → d ≡ 0 → (whole_of s && is_query (tag_of s)) ≡ true → decode d s ≡ refused deep_query
 unfolding decode
-decode_deep zero s e h = need_yes malformedQuery _ h
+decode_deep zero s e h = need_yes malformed_query _ h
 decode_deep (suc d) s e h = absurd (omega arith)
 
 pub decode_in : (d : ℕ) (s : List ℕ) → (d ≡ 0 → ⊥) → (whole_of s && is_query (tag_of s)) ≡ true
     → decode d s ≡ closed (body_in (decode (d - 1)) (tag_of s) (body_of s)) (is_empty (rest_of s))
 unfolding decode
 decode_in zero s n h = absurd (n refl)
-decode_in (suc d) s n h = rw (sub-one (suc d)) (need_yes malformedQuery _ h)
+decode_in (suc d) s n h = rw (sub-one (suc d)) (need_yes malformed_query _ h)
 
 -- with the limit on the bytes before it
-pub read_long : (most d : ℕ) (s : List ℕ) → most < length s → read_within most d s ≡ refused longQuery
-read_long most d s h = need_no longQuery (decode d s) (lt-leb (length s) most h)
+pub read_long : (most d : ℕ) (s : List ℕ) → most < length s → read_within most d s ≡ refused long_query
+read_long most d s h = need_no long_query (decode d s) (lt-leb (length s) most h)
 
 pub read_within_lem : (most d : ℕ) (s : List ℕ) → length s ≤ most → read_within most d s ≡ decode d s
-read_within_lem most d s h = need_yes longQuery (decode d s) (le-leb (length s) most h)
+read_within_lem most d s h = need_yes long_query (decode d s) (le-leb (length s) most h)
 
 -- the returns of a reader once the body is read: r is the body's number
 module _ (d : ℕ) (s : List ℕ) (r : ℕ) (some : d ≡ 0 → ⊥) (ok : (whole_of s && is_query (tag_of s)) ≡ true) (b : List ℕ) (eb : b ≡ body_of s)
@@ -248,5 +248,5 @@ module _ (d : ℕ) (s : List ℕ) (r : ℕ) (some : d ≡ 0 → ⊥) (ok : (whol
   pub read_good : r ≡ 0 → is_empty (rest_of s) ≡ true → 0 ≡ number_of (decode d s)
   read_good z h = by_number (closed_good inner (is_empty (rest_of s)) (inner_number ∙ z) h)
 
-  pub read_more : r ≡ 0 → is_empty (rest_of s) ≡ false → number malformedQuery ≡ number_of (decode d s)
+  pub read_more : r ≡ 0 → is_empty (rest_of s) ≡ false → number malformed_query ≡ number_of (decode d s)
   read_more z h = by_number (closed_more inner (is_empty (rest_of s)) (inner_number ∙ z) h)

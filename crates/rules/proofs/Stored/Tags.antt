@@ -7,7 +7,7 @@ use native.Mathlib.Decide.{ℕ_discrete}
 use lib.Dec.{leb}
 use borrow.Author.Tests.{leb-true}
 use Rattle.rules.specs.Numbers.{term_tag, phrase_tag, boolean_tag, boost_tag, constant_score_tag, match_all_tag, match_none_tag, whole_range_tag, float_range_tag, must_tag, should_tag, must_not_tag, filter_tag}
-use Rattle.rules.specs.Query.{Kind, must, should, mustNot, filter, Numbers, whole, float}
+use Rattle.rules.specs.Query.{Kind, must, should, must_not, filter, Numbers, whole, float}
 use Rattle.rules.specs.Stored.{kind_tag, range_tag}
 use Rattle.rules.specs.Reading.{is_kind, kind_of, is_query}
 use Rattle.rules.proofs.Bools.{and_l, and_r}
@@ -65,13 +65,13 @@ is_range_lem float = refl
 pub kind_back : (k : Kind) → kind_of (kind_tag k) ≡ k
 kind_back must = refl
 kind_back should = refl
-kind_back mustNot = refl
+kind_back must_not = refl
 kind_back filter = refl
 
 pub is_kind_lem : (k : Kind) → is_kind (kind_tag k) ≡ true
 is_kind_lem must = refl
 is_kind_lem should = refl
-is_kind_lem mustNot = refl
+is_kind_lem must_not = refl
 is_kind_lem filter = refl
 
 pub kind_again : (t : ℕ) → is_kind t ≡ true → kind_tag (kind_of t) ≡ t

@@ -7,7 +7,7 @@ use native.Mathlib.Omega.{arith}
 use lib.ListN.{length, take, drop, length-append}
 use Rattle.rules.specs.Numbers.{term_tag, phrase_tag, boolean_tag, boost_tag, constant_score_tag, match_all_tag, match_none_tag, whole_range_tag, float_range_tag, field_tag, text_tag, minimum_tag}
 use Rattle.rules.specs.Bytes.{of_big, big, is_empty, is_field, part, tag_of, body_of, rest_of, whole_of, is_part, is_field_part, every, each}
-use Rattle.rules.specs.Query.{Word, Kind, Numbers, whole, float, Bound, Query, term, phrase, boolean, boost, constant_score, matchAll, matchNone, range, Clauses, none, clause}
+use Rattle.rules.specs.Query.{Word, Kind, Numbers, whole, float, Bound, Query, term, phrase, boolean, boost, constant_score, match_all, match_none, range, Clauses, none, clause}
 use Rattle.rules.specs.Stored.{kind_tag, range_tag, encode_bound, encode_words, encode, encodes, is_boost, Valid, Valids}
 use Rattle.rules.specs.Reading.{is_word, word_of, is_bound, bound_of, kind_of}
 use Rattle.rules.proofs.Bools.{clash}
@@ -26,8 +26,8 @@ pub data View : ℕ → List ℕ → Query → Type 0 where
   v_boolean : {m : ℕ} {cs : Clauses} → View boolean_tag (part minimum_tag (big 2 m) ++ encodes cs) (boolean m cs)
   v_boost : {b : ℕ} {q : Query} → View boost_tag (big 4 b ++ encode q) (boost b q)
   v_constant_score : {q : Query} → View constant_score_tag (encode q) (constant_score q)
-  v_match_all : View match_all_tag [] matchAll
-  v_match_none : View match_none_tag [] matchNone
+  v_match_all : View match_all_tag [] match_all
+  v_match_none : View match_none_tag [] match_none
   v_whole : {f : List ℕ} {l u : Bound} → View whole_range_tag (part field_tag f ++ (encode_bound l ++ encode_bound u)) (range whole f l u)
   v_float : {f : List ℕ} {l u : Bound} → View float_range_tag (part field_tag f ++ (encode_bound l ++ encode_bound u)) (range float f l u)
 
@@ -52,8 +52,8 @@ viewed (phrase f ws) s e = from_part phrase_tag _ s (phrase f ws) t_phrase v_phr
 viewed (boolean m cs) s e = from_part boolean_tag _ s (boolean m cs) t_boolean v_boolean e
 viewed (boost b q) s e = from_part boost_tag _ s (boost b q) t_boost v_boost e
 viewed (constant_score q) s e = from_part constant_score_tag _ s (constant_score q) t_constant_score v_constant_score e
-viewed matchAll s e = from_part match_all_tag _ s matchAll t_match_all v_match_all e
-viewed matchNone s e = from_part match_none_tag _ s matchNone t_match_none v_match_none e
+viewed match_all s e = from_part match_all_tag _ s match_all t_match_all v_match_all e
+viewed match_none s e = from_part match_none_tag _ s match_none t_match_none v_match_none e
 viewed (range whole f l u) s e = from_part whole_range_tag _ s (range whole f l u) (t_range whole) v_whole (sym (range_form whole f l u) ∙ e)
 viewed (range float f l u) s e = from_part float_range_tag _ s (range float f l u) (t_range float) v_float (sym (range_form float f l u) ∙ e)
 
@@ -177,10 +177,10 @@ pub as_constant_score : {b : List ℕ} {q : Query} → View constant_score_tag b
 unfolding Valid
 as_constant_score (v_constant_score {q}) v = record { inner = q; is = refl; form = refl; valid = v }
 
-pub as_match_all : {b : List ℕ} {q : Query} → View match_all_tag b q → (q ≡ matchAll) × (b ≡ [])
+pub as_match_all : {b : List ℕ} {q : Query} → View match_all_tag b q → (q ≡ match_all) × (b ≡ [])
 as_match_all v_match_all = (refl, refl)
 
-pub as_match_none : {b : List ℕ} {q : Query} → View match_none_tag b q → (q ≡ matchNone) × (b ≡ [])
+pub as_match_none : {b : List ℕ} {q : Query} → View match_none_tag b q → (q ≡ match_none) × (b ≡ [])
 as_match_none v_match_none = (refl, refl)
 
 -- ---- clauses

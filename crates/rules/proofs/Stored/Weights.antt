@@ -1,7 +1,7 @@
 -- Bounds of the measures: every query weighs something, and its largest minimum fits two bytes.
 use Prim.Native.Nat.{◌^◌, ◌≤◌, ◌<◌}
 use native.Mathlib.Omega.{arith}
-use Rattle.rules.specs.Query.{Query, term, phrase, boolean, boost, constant_score, matchAll, matchNone, range, Clauses, none, clause}
+use Rattle.rules.specs.Query.{Query, term, phrase, boolean, boost, constant_score, match_all, match_none, range, Clauses, none, clause}
 use Rattle.rules.specs.Stored.{Valid, Valids}
 use Rattle.rules.specs.Rewriting.{weight, largest, largests}
 
@@ -13,8 +13,8 @@ weight_some (phrase f ws) = omega arith
 weight_some (boolean m cs) = omega arith
 weight_some (boost b q) = omega arith
 weight_some (constant_score q) = omega arith
-weight_some matchAll = omega arith
-weight_some matchNone = omega arith
+weight_some match_all = omega arith
+weight_some match_none = omega arith
 weight_some (range n f l u) = omega arith
 
 mutual
@@ -26,8 +26,8 @@ mutual
   largest_below (boolean m cs) v = omega (arith, v.0, largests_below cs v.1)
   largest_below (boost b q) v = largest_below q v.1
   largest_below (constant_score q) v = largest_below q v
-  largest_below matchAll v = omega arith
-  largest_below matchNone v = omega arith
+  largest_below match_all v = omega arith
+  largest_below match_none v = omega arith
   largest_below (range n f l u) v = omega arith
 
   pub largests_below : (cs : Clauses) → Valids cs → largests cs < 2 ^ 16

@@ -10,7 +10,7 @@ use lib.Dec.{T, leb, ltb, eqb, eqb→eq}
 use lib.ListN.{length, get_or, get_or-eq_default}
 use borrow.Author.Tests.{lt-leb, ne_eqb, ltb-true}
 use Rattle.rules.specs.Bytes.{ascii, some, all}
-use Rattle.rules.specs.Words.{WordBreak, other, is, aLetter, numeric, extendNumLet, is_mid_letters, is_mid_numbers, is_alphanumeric, word_break}
+use Rattle.rules.specs.Words.{WordBreak, other, is, a_letter, numeric, extend_num_let, is_mid_letters, is_mid_numbers, is_alphanumeric, word_break}
 use Rattle.rules.specs.Analysis.{between, is_space, ends_term, is_letter, is_digit, flag, class_of, classes}
 
 -- ---- a table's rule at each entry, from a test that computes over all of them
@@ -172,18 +172,18 @@ sum s e m n u d l = flag s 1 + flag e 2 + flag m 4 + flag n 8 + flag u 16 + flag
 
 -- a byte of a word: a letter, a digit or `_`
 abbrev pub is_plain : ℕ → Bool
-is_plain c = is_alphanumeric c || is (word_break c) extendNumLet
+is_plain c = is_alphanumeric c || is (word_break c) extend_num_let
 
 module _ (c : ℕ) where
   -- what f tells from the sum of seven flags it tells from a byte's class
   flag_law : (f : ℕ → Bool) (g : Bool → Bool → Bool → Bool → Bool → Bool → Bool → Bool) →
       T (every_seven (λ s e m n u d l. same_flag (f (sum s e m n u d l)) (g s e m n u d l))) →
-      f (class_of c) ≡ g (is_space c) (ends_term c) (is_mid_letters (word_break c)) (is_mid_numbers (word_break c)) (is (word_break c) extendNumLet) (is_digit c) (is_letter c)
+      f (class_of c) ≡ g (is_space c) (ends_term c) (is_mid_letters (word_break c)) (is_mid_numbers (word_break c)) (is (word_break c) extend_num_let) (is_digit c) (is_letter c)
   unfolding class_of
   flag_law f g t =
       same_flag_lem _ _
       (of_seven (λ s e m n u d l. same_flag (f (sum s e m n u d l)) (g s e m n u d l))
-      (is_space c) (ends_term c) (is_mid_letters (word_break c)) (is_mid_numbers (word_break c)) (is (word_break c) extendNumLet) (is_digit c) (is_letter c) t)
+      (is_space c) (ends_term c) (is_mid_letters (word_break c)) (is_mid_numbers (word_break c)) (is (word_break c) extend_num_let) (is_digit c) (is_letter c) t)
 
   pub space_flag : eqb (class_of c % 2) 1 ≡ is_space c
   space_flag = flag_law (λ x. eqb (x % 2) 1) (λ s e m n u d l. s) tt
@@ -222,9 +222,9 @@ module _ (v : WordBreak) (P : ℕ → Bool) (n : is other v ≡ false) (none : (
       pass (yes h) = same_flag_lem _ _ (at_each (λ k x. same_flag (is (word_break k) v) (P k)) classes t c (rw entries h))
       pass (no m) = let h : 128 ≤ c = omega arith in rw (no_value c h, none c h) n
 
-pub letter_value : (c : ℕ) → is (word_break c) aLetter ≡ is_letter c
+pub letter_value : (c : ℕ) → is (word_break c) a_letter ≡ is_letter c
 unfolding classes word_break some ascii
-letter_value c = value_law aLetter is_letter refl no_letter tt c
+letter_value c = value_law a_letter is_letter refl no_letter tt c
 
 pub digit_value : (c : ℕ) → is (word_break c) numeric ≡ is_digit c
 unfolding classes word_break some ascii

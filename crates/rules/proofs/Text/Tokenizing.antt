@@ -9,7 +9,7 @@ use native.Mathlib.Omega.{arith}
 use lib.ListN.{length, drop, length-drop}
 use lib.Dec.{leb, eqb}
 use borrow.Author.Tests.{eqb-true, eqb-false, not-true, not-false}
-use Rattle.rules.specs.Numbers.{Refusal, faulty, Read, got, refused, need, on_read, and_then, nothingEscaped}
+use Rattle.rules.specs.Numbers.{Refusal, faulty, Read, got, refused, need, on_read, and_then, nothing_escaped}
 use Rattle.rules.specs.Bytes.{ascii, same, is_text, some}
 use Rattle.rules.specs.Analysis.{is_space, ends_term}
 use Rattle.rules.specs.Lexing.{Token, end_kind, term_kind, and_kind, or_kind, not_kind, Piece, piece, on_text, start_in, before, is_quote, is_backslash, is_bracket, is_wildcard, term_text, quoted_text, word_kind, Lexed, lexed, word_lexed, term_end, quoted_end, term_from, quoted_from, sign_kind, doubled, token_at, token_then, tokens_step, tokens_in, lex}
@@ -57,7 +57,7 @@ module _ {A : Type 0} (P : A → Type 0) where
 pub record Unescaping (n : ℕ) (F : List ℕ → Read Piece) (stop : ℕ → Bool) : Type 0 where
   pub plain : (c : ℕ) (s : List ℕ) → stop c ≡ false → is_backslash c ≡ false → F (c ∷ s) ≡ before c (F s)
   pub escaped : (c d : ℕ) (s : List ℕ) → stop c ≡ false → is_backslash c ≡ true → F (c ∷ d ∷ s) ≡ before d (F s)
-  pub dangling : (c : ℕ) → stop c ≡ false → is_backslash c ≡ true → F (c ∷ []) ≡ refused (faulty nothingEscaped (start_in n (c ∷ [])))
+  pub dangling : (c : ℕ) → stop c ≡ false → is_backslash c ≡ true → F (c ∷ []) ≡ refused (faulty nothing_escaped (start_in n (c ∷ [])))
 
 term_plain : (n c : ℕ) (s : List ℕ) → ends_term c ≡ false → is_backslash c ≡ false → term_text n (c ∷ s) ≡ before c (term_text n s)
 unfolding term_text before
@@ -68,7 +68,7 @@ term_escaped : (n c d : ℕ) (s : List ℕ) → ends_term c ≡ false → is_bac
 unfolding term_text before
 term_escaped n c d s h k = simp (h, k)
 
-term_dangling : (n c : ℕ) → ends_term c ≡ false → is_backslash c ≡ true → term_text n (c ∷ []) ≡ refused (faulty nothingEscaped (start_in n (c ∷ [])))
+term_dangling : (n c : ℕ) → ends_term c ≡ false → is_backslash c ≡ true → term_text n (c ∷ []) ≡ refused (faulty nothing_escaped (start_in n (c ∷ [])))
 unfolding term_text
 term_dangling n c h k = simp (h, k)
 
@@ -84,7 +84,7 @@ quoted_escaped : (n p c d : ℕ) (s : List ℕ) → is_quote c ≡ false → is_
 unfolding quoted_text before
 quoted_escaped n p c d s h k = simp (h, k)
 
-quoted_dangling : (n p c : ℕ) → is_quote c ≡ false → is_backslash c ≡ true → quoted_text n p (c ∷ []) ≡ refused (faulty nothingEscaped (start_in n (c ∷ [])))
+quoted_dangling : (n p c : ℕ) → is_quote c ≡ false → is_backslash c ≡ true → quoted_text n p (c ∷ []) ≡ refused (faulty nothing_escaped (start_in n (c ∷ [])))
 unfolding quoted_text
 quoted_dangling n p c h k = simp (h, k)
 

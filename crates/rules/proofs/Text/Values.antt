@@ -8,7 +8,7 @@ use native.Mathlib.Nat.{le_of_suc-le-suc, not-suc-le-zero}
 use native.Mathlib.Omega.{arith}
 use lib.Dec.{T}
 use lib.ListN.{length, get_or}
-use Rattle.rules.specs.Words.{WordBreak, outside, cr, lf, newline, w_seg_space, aLetter, numeric, extendNumLet, midLetter, midNum, midNumLet, singleQuote, other, code, is, is_mid_letters, is_mid_numbers, joins}
+use Rattle.rules.specs.Words.{WordBreak, outside, cr, lf, newline, w_seg_space, a_letter, numeric, extend_num_let, mid_letter, mid_num, mid_num_let, single_quote, other, code, is, is_mid_letters, is_mid_numbers, joins}
 use Rattle.rules.specs.InWords.{is_solid, is_inner, bridged}
 use Rattle.rules.proofs.Text.Classes.{both_left, both_right, same_flag, same_flag_lem}
 
@@ -16,7 +16,7 @@ use Rattle.rules.proofs.Text.Classes.{both_left, both_right, same_flag, same_fla
 
 abbrev thirteen : List WordBreak
 thirteen =
-    outside ∷ cr ∷ lf ∷ newline ∷ w_seg_space ∷ aLetter ∷ numeric ∷ extendNumLet ∷ midLetter ∷ midNum ∷ midNumLet ∷ singleQuote ∷ other ∷ []
+    outside ∷ cr ∷ lf ∷ newline ∷ w_seg_space ∷ a_letter ∷ numeric ∷ extend_num_let ∷ mid_letter ∷ mid_num ∷ mid_num_let ∷ single_quote ∷ other ∷ []
 
 abbrev every_of : (WordBreak → Bool) → List WordBreak → Bool
 every_of P [] = true
@@ -36,13 +36,13 @@ at_code cr = refl
 at_code lf = refl
 at_code newline = refl
 at_code w_seg_space = refl
-at_code aLetter = refl
+at_code a_letter = refl
 at_code numeric = refl
-at_code extendNumLet = refl
-at_code midLetter = refl
-at_code midNum = refl
-at_code midNumLet = refl
-at_code singleQuote = refl
+at_code extend_num_let = refl
+at_code mid_letter = refl
+at_code mid_num = refl
+at_code mid_num_let = refl
+at_code single_quote = refl
 at_code other = refl
 
 code_most : (v : WordBreak) → code v < 13
@@ -51,13 +51,13 @@ code_most cr = omega arith
 code_most lf = omega arith
 code_most newline = omega arith
 code_most w_seg_space = omega arith
-code_most aLetter = omega arith
+code_most a_letter = omega arith
 code_most numeric = omega arith
-code_most extendNumLet = omega arith
-code_most midLetter = omega arith
-code_most midNum = omega arith
-code_most midNumLet = omega arith
-code_most singleQuote = omega arith
+code_most extend_num_let = omega arith
+code_most mid_letter = omega arith
+code_most mid_num = omega arith
+code_most mid_num_let = omega arith
+code_most single_quote = omega arith
 code_most other = omega arith
 
 of_value : (P : WordBreak → Bool) → T (every_value P) → (v : WordBreak) → T (P v)
@@ -151,13 +151,13 @@ over_joins a b c d e =
     same_flag_lem _ _ (of_given (bridged a b c) _ (of_four (λ a b c d. given (bridged a b c) (same_flag (joins a b c d) true)) over_test a b c d) e)
 
 -- a letter or a digit first
-by_test : T (every_four (λ z a b c. same_flag (cond (is a aLetter) (is c aLetter && is_mid_letters b) (is_solid a && (is_solid c && (not (is c aLetter) && is_mid_numbers b)))) (bridged a b c)))
+by_test : T (every_four (λ z a b c. same_flag (cond (is a a_letter) (is c a_letter && is_mid_letters b) (is_solid a && (is_solid c && (not (is c a_letter) && is_mid_numbers b)))) (bridged a b c)))
 unfolding bridged
 by_test = tt
 
-pub bridged_by : (a b c : WordBreak) → cond (is a aLetter) (is c aLetter && is_mid_letters b) (is_solid a && (is_solid c && (not (is c aLetter) && is_mid_numbers b))) ≡ bridged a b c
+pub bridged_by : (a b c : WordBreak) → cond (is a a_letter) (is c a_letter && is_mid_letters b) (is_solid a && (is_solid c && (not (is c a_letter) && is_mid_numbers b))) ≡ bridged a b c
 bridged_by a b c =
-    same_flag_lem _ _ (of_four (λ z a b c. same_flag (cond (is a aLetter) (is c aLetter && is_mid_letters b) (is_solid a && (is_solid c && (not (is c aLetter) && is_mid_numbers b)))) (bridged a b c)) by_test other a b c)
+    same_flag_lem _ _ (of_four (λ z a b c. same_flag (cond (is a a_letter) (is c a_letter && is_mid_letters b) (is_solid a && (is_solid c && (not (is c a_letter) && is_mid_numbers b)))) (bridged a b c)) by_test other a b c)
 
 -- what joins nothing, and what stands beside nothing
 idle_test : T (every_four (λ z a b c. given (not (is_mid_letters b || is_mid_numbers b)) (same_flag (bridged a b c) false)))

@@ -13,7 +13,7 @@ use lib.Seq.{drop-drop, get_or-drop, take-length}
 use borrow.Author.Tests.{le-leb, lt-leb}
 use Rattle.rules.specs.Numbers.{chunk_most}
 use Rattle.rules.specs.Bytes.{is_letter, is_digit, some, all, those}
-use Rattle.rules.specs.Words.{WordBreak, outside, is, extendNumLet, word_break, joins, values, joined, reach_in, reach, words_in, is_alphanumeric, words_from, words}
+use Rattle.rules.specs.Words.{WordBreak, outside, is, extend_num_let, word_break, joins, values, joined, reach_in, reach, words_in, is_alphanumeric, words_from, words}
 use Rattle.rules.specs.Analysis.{chunks, cut}
 use Rattle.rules.specs.InWords.{is_solid, is_inner, bridged, value_at, is_bridge, is_within, word_at, left_over, pieces_from, seek_in, token_start}
 use Rattle.rules.proofs.Bools.{and_l, and_r, and_no_r, or_false, split, both, or_l, or_r, either, neither}
@@ -516,7 +516,7 @@ module _ (s : List ℕ) where
   one_word h l =
       let letter : (k : ℕ) → k < length s → is_alphanumeric (get_or s k 0) ≡ true = λ k m. or_l (is_digit (get_or s k 0)) (all_at is_letter s k l m) in
       let f = inner_stretch 0 (length s - 1) (omega arith)
-      (λ j m n. inner_at j (omega arith) ∙ or_l (is (word_break (get_or s j 0)) extendNumLet) (letter j (omega arith))) in
+      (λ j m n. inner_at j (omega arith) ∙ or_l (is (word_break (get_or s j 0)) extend_num_let) (letter j (omega arith))) in
       let r : reach s 1 ≡ length s = omega (arith, f, reach_most 1 (omega arith)) in
       let z : length s - 0 ≡ length s = omega arith in
       from_kept 0 h (some_in is_alphanumeric (reach s 1 - 0) 0 0 s (omega arith) (omega arith) h (letter 0 h))

@@ -6,7 +6,7 @@ use borrow.Author.Rules.{rules}
 use borrow.Author.Tests.{eq-eqb, ne_eqb}
 use Rattle.rules.proofs.Text.Tokenizing.{quoted_unescapes}
 use Rattle.rules.specs.Lexing.{quoted_text, is_quote, is_backslash}
-use Rattle.rules.specs.Numbers.{openQuote}
+use Rattle.rules.specs.Numbers.{open_quote}
 use Rattle.texts.proofs.Unescaped.{Reading, reading_none, reading_at, reading_fault, reading_turn, reading_dangling, escape_most, quote_ends, quote_over}
 use Rattle.texts.proofs.read_quoted.Tie as tie
 use Rattle.texts.proofs.read_quoted.Statement.{statement}
@@ -76,7 +76,7 @@ same-length-3 c = c.before.loop.invariant.as_long
 
 returns-3 : tie.Need-returns-3 invariant-loop decreases-loop
 returns-3 c = let t = c.before.before.before.before.args.text.now in let i = c.before.loop.i in
-    reading_fault (quoted_text (length t) c.before.before.before.before.args.at) t c.before.before.before.before.args.at c.before.loop.invariant openQuote _ (quote_over t i _ c.loop-test.false) c.before.before.before.before.requires.0
+    reading_fault (quoted_text (length t) c.before.before.before.before.args.at) t c.before.before.before.before.args.at c.before.loop.invariant open_quote _ (quote_over t i _ c.loop-test.false) c.before.before.before.before.requires.0
 
 pub read-quoted-spec : {M : Type 1} → statement M
 read-quoted-spec =

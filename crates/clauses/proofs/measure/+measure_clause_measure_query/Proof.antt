@@ -7,7 +7,7 @@ use Rattle.row.specs.Row.{tokens_of, name_from}
 use Rattle.clauses.specs.Leaves.{leaf_at}
 use Rattle.rules.specs.Parsing.{closed_at, query_found}
 use Rattle.rules.specs.Setup.{Setup}
-use Rattle.rules.specs.Numbers.{on_read, and_then, refused, faulty, longField, manyBrackets, unexpectedEnd, unexpectedToken}
+use Rattle.rules.specs.Numbers.{on_read, and_then, refused, faulty, long_field, many_brackets, unexpected_end, unexpected_token}
 use borrow.Author.Tests.{eqb-true, eqb-false, eq-eqb, not-true, not-false}
 use Prim.Native.Nat.{ℕ, ◌<◌, ◌+◌, ◌-◌, ◌*◌}
 use lib.Dec.{eqb}
@@ -136,24 +136,24 @@ measure-clause-returns-3 t c =
     let args = c.before.before.before.before.before.before.before.before.before.before.before.before.args in
     let from = c.before.before.before.before.before.before.before.from in
     let S1 = rw from.given.1 at c.before.before.before.before.before.before.before.before.before.clause-start.ensures in
-    ((λ st T. meant_start S1 st args.default.now args.p.depth _ (refused (faulty manyBrackets from.given.0.1.1.0)) (λ k h. body_deep st (tokens_of args.room.now args.p.n) _ (name_from args.room.now args.default.now from.given.0.0) args.p.depth from.given.0.1.1.0 _ c.before.before.before.before.before.kind_at.ensures c.before.before.before.before.if1.false c.before.before.if3.true c.if4.false) (manyBrackets, refl, refl)), omega arith)
+    ((λ st T. meant_start S1 st args.default.now args.p.depth _ (refused (faulty many_brackets from.given.0.1.1.0)) (λ k h. body_deep st (tokens_of args.room.now args.p.n) _ (name_from args.room.now args.default.now from.given.0.0) args.p.depth from.given.0.1.1.0 _ c.before.before.before.before.before.kind_at.ensures c.before.before.before.before.if1.false c.before.before.if3.true c.if4.false) (many_brackets, refl, refl)), omega arith)
 
 measure-clause-returns-4 : (t : ℕ) → measure-clause-lts.Need-returns-4 (measure-clause-calls t) (measure-clause-at t) measure-clause.Post
 measure-clause-returns-4 t c =
     let args = c.before.before.before.before.before.before.before.before.before.before.before.args in
     let from = c.before.before.before.before.before.before.from in
     let S1 = rw from.given.1 at c.before.before.before.before.before.before.before.before.clause-start.ensures in
-    ((λ st T. meant_start S1 st args.default.now args.p.depth _ (refused (faulty unexpectedEnd from.given.0.1.1.0)) (λ k h. body_end st (tokens_of args.room.now args.p.n) _ (name_from args.room.now args.default.now from.given.0.0) args.p.depth from.given.0.1.1.0 _ c.before.before.before.before.kind_at.ensures c.before.before.before.if1.false c.before.if3.false (eqb-false _ _ c.before.before.if2.false) c.if5.true) (unexpectedEnd, refl, refl)), omega arith)
+    ((λ st T. meant_start S1 st args.default.now args.p.depth _ (refused (faulty unexpected_end from.given.0.1.1.0)) (λ k h. body_end st (tokens_of args.room.now args.p.n) _ (name_from args.room.now args.default.now from.given.0.0) args.p.depth from.given.0.1.1.0 _ c.before.before.before.before.kind_at.ensures c.before.before.before.if1.false c.before.if3.false (eqb-false _ _ c.before.before.if2.false) c.if5.true) (unexpected_end, refl, refl)), omega arith)
 
 measure-clause-returns-5 : (t : ℕ) → measure-clause-lts.Need-returns-5 (measure-clause-calls t) (measure-clause-at t) measure-clause.Post
-measure-clause-returns-5 t c = let E = rw c.enum_told.given.1 at c.before.before.clause-start.ensures in ((λ st T. record { answer = refused (faulty longField _); says = λ k h. E st _ _ _; means = (longField, refl, refl) }), omega arith)
+measure-clause-returns-5 t c = let E = rw c.enum_told.given.1 at c.before.before.clause-start.ensures in ((λ st T. record { answer = refused (faulty long_field _); says = λ k h. E st _ _ _; means = (long_field, refl, refl) }), omega arith)
 
 measure-clause-returns-6 : (t : ℕ) → measure-clause-lts.Need-returns-6 (measure-clause-calls t) (measure-clause-at t) measure-clause.Post
 measure-clause-returns-6 t c =
     let args = c.before.before.before.before.before.before.before.before.before.before.before.args in
     let from = c.before.before.before.before.before.before.from in
     let S1 = rw from.given.1 at c.before.before.before.before.before.before.before.before.clause-start.ensures in
-    ((λ st T. meant_start S1 st args.default.now args.p.depth _ (refused (faulty unexpectedToken from.given.0.1.1.0)) (λ k h. body_other st (tokens_of args.room.now args.p.n) _ (name_from args.room.now args.default.now from.given.0.0) args.p.depth from.given.0.1.1.0 _ c.before.before.before.before.kind_at.ensures c.before.before.before.if1.false c.before.if3.false (eqb-false _ _ c.before.before.if2.false) c.if5.false) (unexpectedToken, refl, refl)), omega arith)
+    ((λ st T. meant_start S1 st args.default.now args.p.depth _ (refused (faulty unexpected_token from.given.0.1.1.0)) (λ k h. body_other st (tokens_of args.room.now args.p.n) _ (name_from args.room.now args.default.now from.given.0.0) args.p.depth from.given.0.1.1.0 _ c.before.before.before.before.kind_at.ensures c.before.before.before.if1.false c.before.if3.false (eqb-false _ _ c.before.before.if2.false) c.if5.false) (unexpected_token, refl, refl)), omega arith)
 
 abbrev measure-query-Inv-loop : measure-query-lts.invariant-loop
 measure-query-Inv-loop room default p at i₀ s₀ i s =

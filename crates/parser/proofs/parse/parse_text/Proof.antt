@@ -7,7 +7,7 @@ use Rattle.parser.proofs.Notes.{among_analyzers}
 use Rattle.rules.specs.Parsing.{start_of, parse, parse_tokens}
 use Rattle.rules.specs.Setup.{Setup}
 use Rattle.rules.specs.Lexing.{Token}
-use Rattle.rules.specs.Numbers.{Read, and_then, placed, badSetup, longText, notAscii}
+use Rattle.rules.specs.Numbers.{Read, and_then, placed, bad_setup, long_text, not_ascii}
 use Rattle.fields.specs.Fields.{array_entries}
 use mathlib.Core.List.{List, []}
 use lib.ListN.{length, replicate, get_or-replicate}
@@ -23,7 +23,7 @@ read-entries-requires c κs = (refl, refl, refl, λ k h. ap length (get_or-repli
 returns : tie.Need-returns
 returns c =
     let args = c.before.before.before.before.before.before.before.before.before.before.args in
-    refuses args.out.now 3 0 {x = badSetup} (setup_refused args.operator args.analyzer args.field.now args.fields.now (λ st. parse st args.text.now) (c.before.read-entries.ensures.broken c.if1.true args.operator args.analyzer args.field.now)) refl refl (omega arith)
+    refuses args.out.now 3 0 {x = bad_setup} (setup_refused args.operator args.analyzer args.field.now args.fields.now (λ st. parse st args.text.now) (c.before.read-entries.ensures.broken c.if1.true args.operator args.analyzer args.field.now)) refl refl (omega arith)
 
 is-plain-requires : tie.Need-is-plain-requires
 is-plain-requires c κs = search rules
@@ -32,14 +32,14 @@ returns-2 : tie.Need-returns-2
 returns-2 c =
     let args = c.before.before.before.before.before.before.before.before.before.before.before.before.args in
     let read-entries = c.before.before.before.read-entries in
-    refuses args.out.now 3 0 {x = badSetup} (setup_refused args.operator args.analyzer args.field.now args.fields.now (λ st. parse st args.text.now) (setup_plain args.operator args.analyzer args.field.now args.fields.now (array_entries read-entries.new.1.0 read-entries.new.1.1.0 read-entries.new.1.1.1.0 read-entries.result) (read-entries.ensures.held c.before.before.if1.false).0 (told_no c.before.is_plain.ensures c.if2.true))) refl refl (omega arith)
+    refuses args.out.now 3 0 {x = bad_setup} (setup_refused args.operator args.analyzer args.field.now args.fields.now (λ st. parse st args.text.now) (setup_plain args.operator args.analyzer args.field.now args.fields.now (array_entries read-entries.new.1.0 read-entries.new.1.1.0 read-entries.new.1.1.1.0 read-entries.result) (read-entries.ensures.held c.before.before.if1.false).0 (told_no c.before.is_plain.ensures c.if2.true))) refl refl (omega arith)
 
 returns-3 : tie.Need-returns-3
 returns-3 c =
     let args = c.before.before.before.before.before.before.before.before.before.before.before.before.before.args in
     let read-entries = c.before.before.before.before.read-entries in
     let if1 = c.before.before.before.if1 in
-    refuses args.out.now 1 0 {x = longText} (ap (λ (r : Read Setup). and_then r (λ st. parse st args.text.now)) (setup_got args.operator args.analyzer args.field.now args.fields.now (array_entries read-entries.new.1.0 read-entries.new.1.1.0 read-entries.new.1.1.1.0 read-entries.result) (read-entries.ensures.held if1.false).0 (told_yes c.before.before.is_plain.ensures c.before.if2.false) (read-entries.ensures.held if1.false).1 (omega (arith, (read-entries.ensures.held if1.false).2, if1.false))) ∙ text_long (the_setup args.operator args.analyzer args.field.now args.fields.now (array_entries read-entries.new.1.0 read-entries.new.1.1.0 read-entries.new.1.1.1.0 read-entries.result) (read-entries.ensures.held if1.false).0) args.text.now c.if3.true) refl refl (omega arith)
+    refuses args.out.now 1 0 {x = long_text} (ap (λ (r : Read Setup). and_then r (λ st. parse st args.text.now)) (setup_got args.operator args.analyzer args.field.now args.fields.now (array_entries read-entries.new.1.0 read-entries.new.1.1.0 read-entries.new.1.1.1.0 read-entries.result) (read-entries.ensures.held if1.false).0 (told_yes c.before.before.is_plain.ensures c.before.if2.false) (read-entries.ensures.held if1.false).1 (omega (arith, (read-entries.ensures.held if1.false).2, if1.false))) ∙ text_long (the_setup args.operator args.analyzer args.field.now args.fields.now (array_entries read-entries.new.1.0 read-entries.new.1.1.0 read-entries.new.1.1.1.0 read-entries.result) (read-entries.ensures.held if1.false).0) args.text.now c.if3.true) refl refl (omega arith)
 
 is-text-requires : tie.Need-is-text-requires
 is-text-requires c κs = search rules
@@ -49,7 +49,7 @@ returns-4 c =
     let args = c.before.before.before.before.before.before.before.before.before.before.before.before.before.before.before.args in
     let read-entries = c.before.before.before.before.before.before.read-entries in
     let if1 = c.before.before.before.before.before.if1 in
-    refuses args.out.now 2 0 {x = notAscii} (ap (λ (r : Read Setup). and_then r (λ st. parse st args.text.now)) (setup_got args.operator args.analyzer args.field.now args.fields.now (array_entries read-entries.new.1.0 read-entries.new.1.1.0 read-entries.new.1.1.1.0 read-entries.result) (read-entries.ensures.held if1.false).0 (told_yes c.before.before.before.before.is_plain.ensures c.before.before.before.if2.false) (read-entries.ensures.held if1.false).1 (omega (arith, (read-entries.ensures.held if1.false).2, if1.false))) ∙ text_other (the_setup args.operator args.analyzer args.field.now args.fields.now (array_entries read-entries.new.1.0 read-entries.new.1.1.0 read-entries.new.1.1.1.0 read-entries.result) (read-entries.ensures.held if1.false).0) args.text.now c.before.before.if3.false (told_no c.before.is-text.ensures c.if4.true)) refl refl (omega arith)
+    refuses args.out.now 2 0 {x = not_ascii} (ap (λ (r : Read Setup). and_then r (λ st. parse st args.text.now)) (setup_got args.operator args.analyzer args.field.now args.fields.now (array_entries read-entries.new.1.0 read-entries.new.1.1.0 read-entries.new.1.1.1.0 read-entries.result) (read-entries.ensures.held if1.false).0 (told_yes c.before.before.before.before.is_plain.ensures c.before.before.before.if2.false) (read-entries.ensures.held if1.false).1 (omega (arith, (read-entries.ensures.held if1.false).2, if1.false))) ∙ text_other (the_setup args.operator args.analyzer args.field.now args.fields.now (array_entries read-entries.new.1.0 read-entries.new.1.1.0 read-entries.new.1.1.1.0 read-entries.result) (read-entries.ensures.held if1.false).0) args.text.now c.before.before.if3.false (told_no c.before.is-text.ensures c.if4.true)) refl refl (omega arith)
 
 lex-requires : tie.Need-lex-requires
 lex-requires c κs = (c.before.before.before.if3.false, c.before.before.before.before.before.before.before.before.before.before.before.before.before.before.before.before.requires, told_yes c.before.before.is-text.ensures c.before.if4.false)
