@@ -1,4 +1,6 @@
 // The classes of bytes: what a lent table says of a byte, and letters, gaps and capitals by comparison.
+#![tactic(auto)]
+
 ghost use Rattle.std.specs.Prelude.{◌≡◌, ◌<◌, get_or};
 ghost use Rattle.rules.specs.Analysis.{is_letter, is_gap, class_of, classes};
 ghost use Rattle.rules.specs.Analysis.{lower as lowered};

@@ -1,4 +1,6 @@
 // How the clauses of a query were counted, and what that says of the query: whether it is its one clause, and how long it is.
+#![tactic(auto)]
+
 ghost use Rattle.std.specs.Prelude.{◌≡◌, ℕ, ◌+◌, ◌*◌, ◌≤◌};
 ghost use Rattle.rules.specs.Query.{Clauses};
 ghost use Rattle.rules.specs.Parsing.{query_of};

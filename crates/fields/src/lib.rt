@@ -1,5 +1,7 @@
 // The analyzer of a field: up to eight names, each with an analyzer of its own, and a default for all others.
 // The names are an array of byte arrays, with their lengths and analyzers beside it.
+#![tactic(auto)]
+
 ghost use Rattle.std.specs.Prelude.{◌≡◌, [], ◌≤◌, ◌<◌, min, length, get_or};
 ghost use Rattle.rules.specs.Bytes.{same};
 ghost use Rattle.rules.specs.Setup.{analyzer_among};

@@ -1,5 +1,7 @@
 // The calls that programs in C make: numbers and byte slices in, one struct of five numbers out. include/gorbihesh.h says what each takes,
 // promises and refuses. Each is thin over the crate that does the work, asks for nothing, and leaves what its definition says.
+#![tactic(auto)]
+
 ghost use Rattle.std.specs.Prelude.{◌≡◌};
 ghost use Rattle.rules.specs.Numbers.{parse_room, rewrite_room, select_room};
 ghost use Rattle.rules.specs.Rewriting.{original, strictly};

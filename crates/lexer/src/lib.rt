@@ -1,4 +1,6 @@
 // The lexer: the whole text becomes a row of tokens over unescaped bytes, or is refused for its first fault from the left, which has a place.
+#![tactic(auto)]
+
 ghost use Rattle.std.specs.Prelude.{◌≡◌, true, ◌++◌, ◌+◌, ◌*◌, ◌≤◌, ◌<◌, length, take, drop};
 ghost use Rattle.rules.specs.Numbers.{text_most};
 ghost use Rattle.rules.specs.Bytes.{is_text};

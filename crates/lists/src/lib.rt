@@ -1,4 +1,6 @@
 // The reader of catalogue lists, by the same parts: 0 where every record and every entry in it is sound, else 22 or 23.
+#![tactic(auto)]
+
 ghost use Rattle.std.specs.Prelude.{◌≡◌, ◌≤◌, ◌<◌, true, ◌||◌, length, drop, eqb};
 ghost use Rattle.rules.specs.Numbers.{place_tag, whole_tag, float_tag};
 ghost use Rattle.rules.specs.Bytes.{is_text, tag_of, every};

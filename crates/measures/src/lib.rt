@@ -1,5 +1,7 @@
 // Measures of a stored query that was checked: its weight and its largest minimum_should_match.
 // Both go over the headers in reading order, into each part that holds a query and past each that holds none: one loop and no stack.
+#![tactic(auto)]
+
 ghost use Rattle.std.specs.Prelude.{◌≡◌, ◌+◌, ◌≤◌, ◌<◌, max, length, drop};
 ghost use Rattle.rules.specs.Numbers.{boolean_tag};
 ghost use Rattle.rules.specs.Bytes.{tag_of};

@@ -1,6 +1,7 @@
 // The numbers of the rules, each once, under the name that `rules/specs/Numbers` and `rules/specs/Lexing` give it: limits, rooms,
 // operators, analyzers, tags, kinds of token, classes of bytes, patterns of floats, refusals; and how many bytes the stored form has for what it
 // holds. Whoever uses one is proved against the definition of that name.
+#![tactic(auto)]
 
 // ---- limits
 

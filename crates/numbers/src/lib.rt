@@ -1,5 +1,7 @@
 // Big-endian numbers at the widths of the stored form: two, four and eight bytes, read at the front of a slice and
 // written at a place.
+#![tactic(auto)]
+
 ghost use Rattle.std.specs.Prelude.{◌≡◌, ◌+◌, ◌≤◌, ◌<◌, length, take};
 ghost use Rattle.rules.specs.Bytes.{of_big, big};
 ghost use Rattle.numbers.specs.Laid.{Put};

@@ -1,4 +1,6 @@
 // Calls for tests alone: numerals and conversions under plain names, so that a program in another language can run them beside its own.
+#![tactic(auto)]
+
 ghost use Rattle.std.specs.Prelude.{◌≡◌};
 ghost use Rattle.std.specs.Float.{binary64};
 ghost use Rattle.std.specs.Float.Ieee.{of_bits, to_bits};

@@ -1,4 +1,6 @@
 // `rewrite_and_select` for programs in other languages: for tests alone, which link this crate's archive.
+#![tactic(auto)]
+
 ghost use Rattle.std.specs.Prelude.{◌≡◌};
 ghost use Rattle.rewritten_selection.specs.Choice.{left, choice_left};
 

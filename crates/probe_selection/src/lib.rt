@@ -1,4 +1,6 @@
 // The calls of `selection` for programs in other languages: for tests alone, which link this crate's archive.
+#![tactic(auto)]
+
 ghost use Rattle.std.specs.Prelude.{◌≡◌};
 ghost use Rattle.rules.specs.Answers.{select_left};
 ghost use Rattle.probe_selection.specs.Probe.{packed, SelectsRows};

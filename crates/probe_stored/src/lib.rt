@@ -1,4 +1,6 @@
 // The checks of `stored` for programs in other languages: for tests alone, which link this crate's archive.
+#![tactic(auto)]
+
 ghost use Rattle.std.specs.Prelude.{◌≡◌};
 ghost use Rattle.rules.specs.Reading.{number_of, read_for_rewriting, read_for_selection};
 ghost use Rattle.rules.specs.Lists.{read_list};

@@ -1,5 +1,7 @@
 // Selection with what the rewriter makes of a query, in one call: what it lists is said of the query as written. The rewritten query is held in
 // a room of its own, since two parts of one slice cannot be lent for writing at the same time.
+#![tactic(auto)]
+
 ghost use Rattle.std.specs.Prelude.{◌≡◌};
 ghost use Rattle.rewritten_selection.specs.Choice.{left, choice_left, Demanded};
 

@@ -1,4 +1,6 @@
 // The row of tokens in the room, for who parses it: kind, text and note of a token, and the field in force.
+#![tactic(auto)]
+
 ghost use Rattle.std.specs.Prelude.{◌≡◌, ◌≤◌, ◌<◌, length, eqb};
 ghost use Rattle.rules.specs.Numbers.{text_most};
 ghost use Rattle.rules.specs.Parsing.{token_of, start_of};

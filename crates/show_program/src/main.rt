@@ -1,4 +1,6 @@
 // The show program: reads a line of setup and a line of text from standard input, and writes the show text to standard output.
+#![tactic(auto)]
+
 use names::REWRITE_ROOM;
 use show::call::{Shown, show};
 

@@ -1,2 +1,4 @@
 // The reader of stored queries, proved equal to the definitions of `rules`.
+#![tactic(auto)]
+
 pub mod read;

@@ -1,5 +1,7 @@
 // Stretches of bytes: texts and fields, comparison, copy, clear. Short ones are tested in words that may overlap, the last one first;
 // longer ones go by a loop without a way out before its end, which a compiler widens.
+#![tactic(auto)]
+
 ghost use Rattle.std.specs.Prelude.{◌≡◌, ◌+◌, ◌≤◌, ◌<◌, length, take, replicate, eqb};
 ghost use Rattle.rules.specs.Bytes.{is_text, is_field, same};
 ghost use Rattle.numbers.specs.Laid.{Put};

@@ -1,4 +1,6 @@
 // Terms and quotes: their bytes go, unescaped, into the room from the token's own place on.
+#![tactic(auto)]
+
 ghost use Rattle.std.specs.Prelude.{◌≡◌, true, cond, ◌+◌, ◌-◌, ◌≤◌, ◌<◌, length, take, drop};
 ghost use Rattle.rules.specs.Numbers.{on_read, text_most};
 ghost use Rattle.rules.specs.Bytes.{is_text};

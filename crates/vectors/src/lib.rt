@@ -1,5 +1,7 @@
 // Runs a fixed list of the original's answers, which stands on standard input, a case to a line, and holds the calls to it. Each `vectors_*`
 // is a program that runs one list. It writes how many lines agree, or the first that differs.
+#![tactic(auto)]
+
 mod line;
 mod numerals;
 mod parsing;

@@ -1,4 +1,6 @@
 // Runs the fixed list of tokens (tests/original/lists/tokens.txt, on standard input).
+#![tactic(auto)]
+
 use vectors::List;
 
 fn main() {

@@ -1,4 +1,6 @@
 // Runs the fixed list of numerals (tests/original/lists/numerals.txt, on standard input).
+#![tactic(auto)]
+
 use vectors::List;
 
 fn main() {

@@ -1,4 +1,6 @@
 // Runs the fixed lists of parsing (tests/original/lists/parse.txt, then document.txt, on standard input).
+#![tactic(auto)]
+
 use vectors::List;
 
 fn main() {

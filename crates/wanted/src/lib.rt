@@ -1,5 +1,7 @@
 // Which entries a query looks for, in a row that is made once: a record with none of them is to the query as a record with no entry is. The row
 // is by the hash of a field and a text, and may pass more than the query looks for; that costs time and changes no answer.
+#![tactic(auto)]
+
 ghost use Rattle.std.specs.Prelude.{◌≡◌, ◌<◌, true, ◌||◌, length};
 ghost use Rattle.rules.specs.Bytes.{every, each, some};
 ghost use Rattle.rules.specs.Checked.{Stored};
