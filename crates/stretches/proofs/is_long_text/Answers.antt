@@ -1,0 +1,17 @@
+-- `stretches::is_long_text` meets its contract.
+use Prim.Native.Nat.{◌-◌, ◌≤◌}
+use Rattle.rules.specs.Bytes.{is_text}
+use Rattle.stretches.proofs.Joining as joining
+use borrow.Author.Rules.{rules}
+use lib.Dec.{leb}
+use lib.ListN.{length, drop}
+use mathlib.Core.Bool.{◌&&◌}
+use mathlib.Core.Path.{◌≡◌}
+use native.Mathlib.Omega.{arith}
+use Rattle.stretches.proofs.is_long_text.Goals as goal
+
+pub loop-i-preserved : goal.loop-i-preserved
+loop-i-preserved c = (omega arith, joining.text_turn c.args.s.now c.loop-i.i c.loop-i.seen c.loop-i-test.true c.loop-i.invariant.1)
+
+pub returns : goal.returns
+returns c = joining.text_end c.args.s.now c.loop-i.i c.loop-i.seen c.loop-i-test.false c.loop-i.invariant.1

@@ -1,0 +1,17 @@
+-- `stretches::is_long_text` meets its contract.
+use Prim.Native.Nat.{◌-◌, ◌≤◌}
+use Rattle.rules.specs.Bytes.{is_text}
+use Rattle.stretches.proofs.Joining as joining
+use borrow.Author.Rules.{rules}
+use lib.Dec.{leb}
+use lib.ListN.{length, drop}
+use mathlib.Core.Bool.{◌&&◌}
+use mathlib.Core.Path.{◌≡◌}
+use native.Mathlib.Omega.{arith}
+use Rattle.stretches.proofs.is_long_text.Given as goal
+
+abbrev pub invariant-loop-i : goal.invariant-loop-i
+invariant-loop-i l = (l.i ≤ length l.s) × (is_text l.s ≡ (leb l.seen 127 && is_text (drop l.i l.s)))
+
+abbrev pub decreases-loop-i : goal.decreases-loop-i
+decreases-loop-i l = length l.s - l.i

@@ -1,0 +1,17 @@
+-- `stretches::same_long` meets its contract.
+use Prim.Native.Nat.{◌-◌, ◌≤◌}
+use Rattle.rules.specs.Bytes.{same}
+use Rattle.stretches.proofs.Joining as joining
+use borrow.Author.Rules.{rules}
+use lib.Dec.{eqb}
+use lib.ListN.{length, drop}
+use mathlib.Core.Bool.{◌&&◌}
+use mathlib.Core.Path.{◌≡◌}
+use native.Mathlib.Omega.{arith}
+use Rattle.stretches.proofs.same_long.Goals as goal
+
+pub loop-i-preserved : goal.loop-i-preserved
+loop-i-preserved c = (omega arith, c.loop-i.invariant.1, joining.same_turn c.args.a.now c.args.b.now c.loop-i.i c.loop-i.seen (omega arith) (omega arith) c.loop-i.invariant.2)
+
+pub returns : goal.returns
+returns c = joining.same_end c.args.a.now c.args.b.now c.loop-i.i c.loop-i.seen (omega arith) (omega arith) c.loop-i.invariant.2
