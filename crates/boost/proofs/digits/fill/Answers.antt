@@ -1,0 +1,24 @@
+-- `boost::digits::fill` meets its contract. Assumes nothing.
+use Prim.Native.Nat.{◌-◌}
+use Rattle.boost.proofs.Runs.{Filling, fill_first, fill_room, fill_next, filled, taken_later}
+use borrow.Author.Rules.{rules}
+use lib.Dec.{lit≤}
+use lib.ListN.{length}
+use native.Mathlib.Nat.{le_trans}
+use native.Mathlib.Omega.{arith}
+use Rattle.boost.proofs.digits.fill.Goals as goal
+
+pub loop-t-init : goal.loop-t-init
+loop-t-init c = fill_first c.args.s.now c.args.at c.args.from c.args.row.now c.requires.holds.0 c.requires.at_in_bounds.0
+
+pub take-t-requires : goal.take-t-requires
+take-t-requires c = c.loop-t.invariant.along.within
+
+pub loop-t-smaller : goal.loop-t-smaller
+loop-t-smaller c = let l = taken_later c.args.s.now c.loop-t.i c.take-t.result.value c.take-t.result.power c.take-t.result.end c.take-t.ensures (c.is_digit_at.ensures.yes c.loop-t-test.true) in omega (arith, c.take-t.ensures.along.within)
+
+pub loop-t-preserved : goal.loop-t-preserved
+loop-t-preserved c = fill_next c.args.s.now c.args.at c.args.from c.args.row.now c.loop-t.row c.loop-t.i c.take-t.result.value c.take-t.result.power c.take-t.result.end c.loop-t.invariant c.take-t.ensures c.scale.new.0 c.scale.ensures
+
+pub returns : goal.returns
+returns c = filled c.args.s.now c.args.at c.args.from c.args.row.now c.loop-t.row c.loop-t.i c.loop-t.invariant (c.is_digit_at.ensures.no c.loop-t-test.false)

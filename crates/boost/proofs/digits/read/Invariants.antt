@@ -1,0 +1,13 @@
+-- `boost::digits::read` meets its contract. Assumes nothing.
+use Prim.Native.Nat.{◌-◌}
+use Rattle.boost.proofs.Runs.{Counting, count_first, count_next, counted}
+use borrow.Author.Rules.{rules}
+use lib.ListN.{length}
+use native.Mathlib.Omega.{arith}
+use Rattle.boost.proofs.digits.read.Given as goal
+
+abbrev pub invariant-loop-v : goal.invariant-loop-v
+invariant-loop-v l = Counting l.s l.at l.start l.v l.i
+
+abbrev pub decreases-loop-v : goal.decreases-loop-v
+decreases-loop-v l = length l.s - l.i

@@ -1,0 +1,26 @@
+-- `boost::row::tens` meets its contract. Assumes nothing.
+use Prim.Native.Nat.{zero-le}
+use Rattle.boost.proofs.Rows.{up_to_none}
+use Rattle.boost.proofs.Tens.{Tens, tens_room, tens_next, tens_last, ten_factor}
+use borrow.Author.Rules.{rules}
+use mathlib.Core.Path.{refl}
+use native.Mathlib.Omega.{arith}
+use Rattle.boost.proofs.row.tens.Goals as goal
+
+pub loop-j-init : goal.loop-j-init
+loop-j-init c = record { row = c.requires.row; is = refl }
+
+pub ten-requires : goal.ten-requires
+ten-requires c = c.some_tens-c.ensures.1
+
+pub overflow_sub-j : goal.overflow_sub-j
+overflow_sub-j c = c.some_tens-c.ensures.0
+
+pub loop-j-smaller : goal.loop-j-smaller
+loop-j-smaller c = let p = c.some_tens-c.ensures.2 c.loop-j-test.true in omega (arith, c.some_tens-c.ensures.0)
+
+pub loop-j-preserved : goal.loop-j-preserved
+loop-j-preserved c = tens_next c.args.row.now c.loop-j.row c.scale.new.0 c.args.n c.loop-j.j c.some_tens-c.result c.ten.result c.loop-j.invariant c.some_tens-c.ensures.0 c.ten.ensures c.scale.ensures
+
+pub returns : goal.returns
+returns c = tens_last c.args.row.now c.loop-j.row c.args.n c.loop-j.j c.loop-j.invariant c.loop-j-test.false

@@ -1,0 +1,10 @@
+-- `boost::row::used` meets its contract. Assumes nothing.
+use Rattle.boost.proofs.Rows.{Using, using_first, using_some, using_next, using_none}
+use native.Mathlib.Omega.{arith}
+use Rattle.boost.proofs.row.used.Given as goal
+
+abbrev pub invariant-loop-i : goal.invariant-loop-i
+invariant-loop-i l = Using l.row l.len l.i
+
+abbrev pub decreases-loop-i : goal.decreases-loop-i
+decreases-loop-i l = l.i

@@ -1,0 +1,15 @@
+-- `places::place::shift_down` meets its contract.
+use Prim.Native.Nat.{◌-◌, ◌≤◌}
+use Rattle.places.proofs.Standing as standing
+use borrow.Author.Rules.{rules}
+use lib.ListN.{length, take, drop, length-set}
+use lib.Seq.{paste, paste-zero}
+use mathlib.Core.Path.{◌≡◌, refl}
+use native.Mathlib.Omega.{arith}
+use Rattle.places.proofs.place.shift_down.Given as goal
+
+abbrev pub invariant-loop-k : goal.invariant-loop-k
+invariant-loop-k l = (l.k ≤ l.n) × (length l.room ≡ length l.initial.room) × (l.room ≡ paste l.initial.room l.to (take l.n (drop l.from l.initial.room)) l.k)
+
+abbrev pub decreases-loop-k : goal.decreases-loop-k
+decreases-loop-k l = l.n - l.k

@@ -1,0 +1,33 @@
+-- `places::place::shift_up` meets its contract.
+use Prim.Native.Nat.{◌+◌, ◌≤◌}
+use Rattle.numbers.specs.Laid.{laid}
+use Rattle.places.proofs.Standing as standing
+use borrow.Author.Rules.{rules}
+use lib.ListN.{length, take, drop, length-set}
+use mathlib.Core.Path.{◌≡◌, refl}
+use native.Mathlib.Omega.{arith}
+use Rattle.places.proofs.place.shift_up.Goals as goal
+
+pub loop-k-init : goal.loop-k-init
+loop-k-init c = (omega arith, refl, standing.up_start c.args.room.now c.args.to c.args.from c.args.n c.requires.0 c.requires.1)
+
+pub overflow_add-room : goal.overflow_add-room
+overflow_add-room c = omega (arith, c.requires.0, c.loop-k.invariant.1, c.loop-k.invariant.0)
+
+pub bounds-room-from : goal.bounds-room-from
+bounds-room-from c = omega (arith, c.requires.0, c.loop-k.invariant.1, c.loop-k.invariant.0)
+
+pub overflow_add-room-in-loop-k : goal.overflow_add-room-in-loop-k
+overflow_add-room-in-loop-k c = omega (arith, c.requires.1, c.loop-k.invariant.1, c.loop-k.invariant.0)
+
+pub bounds-room-to : goal.bounds-room-to
+bounds-room-to c = omega (arith, c.requires.1, c.loop-k.invariant.1, c.loop-k.invariant.0)
+
+pub loop-k-preserved : goal.loop-k-preserved
+loop-k-preserved c = (omega (arith, c.loop-k.invariant.0), simp length-set c.loop-k.invariant.1, standing.up_turn c.args.room.now c.args.to c.args.from c.args.n c.requires.0 c.requires.1 c.loop-k.room c.loop-k.k _ (omega arith) c.loop-k.invariant.0 c.loop-k.invariant.2 c.requires.2)
+
+pub shape_of-room : goal.shape_of-room
+shape_of-room c = c.loop-k.invariant.1
+
+pub returns : goal.returns
+returns c = standing.up_end c.args.room.now c.args.to c.args.from c.args.n c.requires.0 c.requires.1 c.loop-k.room c.loop-k.k (omega arith) c.loop-k.invariant.2
