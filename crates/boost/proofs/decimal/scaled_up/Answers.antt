@@ -9,7 +9,7 @@ pub overflow_cast-f-then-x-f : goal.overflow_cast-f-then-x-f
 overflow_cast-f-then-x-f c = let l = places_most c.args.s.now c.args.d.point c.args.d.places c.args.d.value c.requires.held c.requires.s_len_bound in omega arith
 
 pub below-requires : goal.below-requires
-below-requires c = let l = places_most c.args.s.now c.args.d.point c.args.d.places c.args.d.value c.requires.held c.requires.s_len_bound in (c.requires.held, (c.requires.s_len_bound, omega arith))
+below-requires c = let l = places_most c.args.s.now c.args.d.point c.args.d.places c.args.d.value c.requires.held c.requires.s_len_bound in record { held = c.requires.held; s_len_bound = c.requires.s_len_bound; n_bound = omega arith }
 
 pub returns-then-x-f : goal.returns-then-x-f
 returns-then-x-f c = up_below (number_of c.args.s.now c.args.d.point c.args.d.places) c.args.x c.args.d.places c.below.result c.if-x-f.true (places_most c.args.s.now c.args.d.point c.args.d.places c.args.d.value c.requires.held c.requires.s_len_bound) c.below.ensures

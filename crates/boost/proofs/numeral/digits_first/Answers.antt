@@ -20,6 +20,15 @@ given-requires c = times_within _ _ _ c.scaled_up.result (by_digits c.args.s.now
     (scaled_by c.args.s.now c.digits_of-d.result.point c.digits_of-d.result.places c.digits_of-d.result.value c.digits_of-d.result.end
     c.after_digits.result _ c.digits_of-d.ensures c.after_digits.ensures c.if-d-eq0.false c.in-Times.is) c.scaled_up.ensures
 
+pub scaled_down-requires : goal.scaled_down-requires
+scaled_down-requires c = record {
+  held = c.digits_of-d.ensures.held;
+  s_len_bound = c.requires;
+  x_le_short_most = over_cut (number_of c.args.s.now c.digits_of-d.result.point c.digits_of-d.result.places) _ c.digits_of-d.result.places (by_digits c.args.s.now)
+      (scaled_by c.args.s.now c.digits_of-d.result.point c.digits_of-d.result.places c.digits_of-d.result.value c.digits_of-d.result.end
+      c.after_digits.result _ c.digits_of-d.ensures c.after_digits.ensures c.if-d-eq0.false c.in-Over.is);
+}
+
 pub given-requires-in-Over : goal.given-requires-in-Over
 given-requires-in-Over c = over_within _ _ _ c.scaled_down.result (by_digits c.args.s.now)
     (scaled_by c.args.s.now c.digits_of-d.result.point c.digits_of-d.result.places c.digits_of-d.result.value c.digits_of-d.result.end

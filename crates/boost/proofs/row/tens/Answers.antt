@@ -13,6 +13,9 @@ loop-j-init c = record { row = c.requires.row; is = refl }
 pub ten-requires : goal.ten-requires
 ten-requires c = c.some_tens-c.ensures.1
 
+pub scale-requires : goal.scale-requires
+scale-requires c = record { row = c.loop-j.invariant.row; from_bound = zero-le; from_value = up_to_none c.loop-j.row; m_bound = ten_factor c.some_tens-c.result c.ten.result c.some_tens-c.ensures.1 c.ten.ensures; from_bound_2 = tens_room c.args.row.now c.loop-j.row c.args.n c.loop-j.j c.some_tens-c.result c.ten.result c.loop-j.invariant c.requires.n_bound c.some_tens-c.ensures.0 c.ten.ensures }
+
 pub overflow_sub-j : goal.overflow_sub-j
 overflow_sub-j c = c.some_tens-c.ensures.0
 
@@ -20,7 +23,7 @@ pub loop-j-smaller : goal.loop-j-smaller
 loop-j-smaller c = let p = c.some_tens-c.ensures.2 c.loop-j-test.true in omega (arith, c.some_tens-c.ensures.0)
 
 pub loop-j-preserved : goal.loop-j-preserved
-loop-j-preserved c = tens_next c.args.row.now c.loop-j.row c.scale.new.0 c.args.n c.loop-j.j c.some_tens-c.result c.ten.result c.loop-j.invariant c.some_tens-c.ensures.0 c.ten.ensures c.scale.ensures
+loop-j-preserved c = tens_next c.args.row.now c.loop-j.row c.scale.new.row c.args.n c.loop-j.j c.some_tens-c.result c.ten.result c.loop-j.invariant c.some_tens-c.ensures.0 c.ten.ensures c.scale.ensures
 
 pub returns : goal.returns
 returns c = tens_last c.args.row.now c.loop-j.row c.args.n c.loop-j.j c.loop-j.invariant c.loop-j-test.false

@@ -5,10 +5,10 @@ use native.Mathlib.Omega.{arith}
 use Rattle.boost.proofs.top.pattern.Goals as goal
 
 pub highest-w-requires : goal.highest-w-requires
-highest-w-requires c = (c.requires.row, (omega (arith, c.under-low.ensures), c.requires.len_bound, omega (arith, c.under-low.ensures)))
+highest-w-requires c = record { row = c.requires.row; low_le_len = (omega (arith, c.under-low.ensures), c.requires.len_bound, omega (arith, c.under-low.ensures)) }
 
 pub used-rest-requires : goal.used-rest-requires
-used-rest-requires c = (c.requires.row, omega (arith, c.under-low.ensures, c.requires.len_bound))
+used-rest-requires c = record { row = c.requires.row; len_bound = omega (arith, c.under-low.ensures, c.requires.len_bound) }
 
 pub overflow_cast-low : goal.overflow_cast-low
 overflow_cast-low c = omega (arith, c.under-low.ensures, c.requires.len_bound)

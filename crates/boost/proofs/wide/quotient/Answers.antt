@@ -31,5 +31,8 @@ overflow_sub-z c = let r = z_range c.args.d (omega arith) c.requires.d_bound in 
 pub overflow_sub-z-2 : goal.overflow_sub-z-2
 overflow_sub-z-2 c = let r = z_range c.args.d (omega arith) c.requires.d_bound in omega (arith, c.requires.n_bound)
 
+pub rounded-requires : goal.rounded-requires
+rounded-requires c = record { w_bound = w_hi c.args.d c.args.n c.five-t.result (c.args.d * 2 ^ (count_leading_zeros 64 c.args.d - 1) % 2 ^ 64) (omega arith) c.requires.d_bound c.requires.n_bound c.five-t.ensures (moved_is c.args.d (omega arith) c.requires.d_bound); fact = inl (w_lo c.args.d c.args.n c.five-t.result (c.args.d * 2 ^ (count_leading_zeros 64 c.args.d - 1) % 2 ^ 64) (omega arith) c.requires.d_bound c.requires.n_bound c.five-t.ensures (moved_is c.args.d (omega arith) c.requires.d_bound)); c_bound = omega arith }
+
 pub returns : goal.returns
 returns c = quotient_is c.args.d c.args.n c.five-t.result (c.args.d * 2 ^ (count_leading_zeros 64 c.args.d - 1) % 2 ^ 64) (omega arith) c.requires.d_bound c.requires.n_bound c.five-t.ensures (moved_is c.args.d (omega arith) c.requires.d_bound) c.with_rest-below.result c.rounded.result c.with_rest-below.ensures c.rounded.ensures
