@@ -1,0 +1,36 @@
+-- `entries::slots::note` meets its contract.
+use Rattle.entries.proofs.Entries as entries
+use Rattle.entries.proofs.Noting as noting
+use Rattle.rules.proofs.Stored.Parts as parts
+use lib.ListN.{length}
+use mathlib.Core.Path.{sym, ◌∙◌}
+use native.Mathlib.Omega.{arith}
+use Rattle.entries.proofs.slots.note.Goals as goal
+
+pub loop-e-init : goal.loop-e-init
+loop-e-init c = noting.noting_start c.requires.0 c.requires.1
+
+pub overflow_sub-rec : goal.overflow_sub-rec
+overflow_sub-rec c = omega (arith, c.loop-e.invariant.fits)
+
+pub overflow_add-from : goal.overflow_add-from
+overflow_add-from c = omega (arith, c.requires.2, c.loop-e.invariant.fits)
+
+pub note_entry-requires : goal.note_entry-requires
+note_entry-requires c = (noting.noting_first c.loop-e.invariant c.loop-e-test.true, (omega (arith, c.requires.2, c.loop-e.invariant.fits)), (omega (arith, c.loop-e.invariant.fits)), c.requires.2, c.loop-e.invariant.standing)
+
+pub rest-u-requires : goal.rest-u-requires
+rest-u-requires c = entries.entry_whole _ (noting.noting_first c.loop-e.invariant c.loop-e-test.true)
+
+pub loop-e-smaller : goal.loop-e-smaller
+loop-e-smaller c = rw c.rest-u.ensures (parts.rest_shorter _ c.loop-e-test.true)
+
+pub loop-e-preserved : goal.loop-e-preserved
+loop-e-preserved c = noting.noting_next c.loop-e.invariant c.loop-e-test.true c.rest-u.ensures
+    c.note_entry.ensures
+
+pub shape_of-slots : goal.shape_of-slots
+shape_of-slots c = c.loop-e.invariant.standing.many ∙ sym c.requires.0.many
+
+pub returns : goal.returns
+returns c = noting.noting_end c.loop-e.invariant c.loop-e-test.false

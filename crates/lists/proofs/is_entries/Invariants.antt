@@ -1,0 +1,15 @@
+use Rattle.lists.proofs.Lister as lister
+use Rattle.rules.proofs.Stored.Parts as parts
+use Rattle.rules.proofs.Stored.Rows as rows
+use Rattle.rules.specs.Bytes.{every}
+use Rattle.rules.specs.Lists.{is_entry}
+use borrow.Author.Rules.{rules}
+use lib.ListN.{length}
+use mathlib.Core.Path.{◌≡◌, refl, sym, ap, ◌∙◌}
+use Rattle.lists.proofs.is_entries.Given as goal
+
+abbrev pub invariant-loop-t : goal.invariant-loop-t
+invariant-loop-t l = every is_entry l.s ≡ every is_entry l.t
+
+abbrev pub decreases-loop-t : goal.decreases-loop-t
+decreases-loop-t l = length l.t

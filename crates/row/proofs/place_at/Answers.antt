@@ -1,0 +1,15 @@
+-- `row::place_at` meets its contract: the place that the row's token at i has, and the end past the last. Assumes nothing.
+use Rattle.row.proofs.Rows.{token_is, token_none}
+use Rattle.row.specs.Row.{token_at}
+use Rattle.rules.specs.Lexing.{Token}
+use borrow.Author.Rules.{rules}
+use mathlib.Core.Path.{sym, ap, ◌∙◌}
+use native.Mathlib.Omega.{arith}
+use Rattle.row.proofs.place_at.Goals as goal
+
+pub returns-then-i-n : goal.returns-then-i-n
+unfolding token_at
+returns-then-i-n c = c.start_at.ensures ∙ sym (ap (λ (t : Token). t.place) (token_is c.args.room.now c.args.n c.args.i _ c.if-i-n.true))
+
+pub returns-else-i-n : goal.returns-else-i-n
+returns-else-i-n c = sym (ap (λ (t : Token). t.place) (token_none c.args.room.now c.args.n c.args.i _ c.if-i-n.false))
