@@ -33,7 +33,7 @@ def closing(text, start):
 
 
 def function(name, text):
-    """The function whose text begins behind its name: its parameters, what it answers and each clause, up to the brace that opens its body."""
+    """The function whose text begins behind its name: its parameters, what it answers and each clause, up to the brace that opens its body, or the end."""
     generics = re.match(r"<(?:[^<>]|->|<[^<>]*>)*>", text)
     end = closing(text, text.index("(", generics.end() if generics else 0))
     parameters, answers, clauses = text[:end], re.compile(r"\s*-> ([^\n{]+)").match(text, end), []
@@ -41,7 +41,7 @@ def function(name, text):
     while clause := CLAUSE.match(text, end):
         end = closing(text, clause.end())
         clauses.append((clause[1], clause[2], " ".join(text[clause.end() + 1 : end - 1].split())))
-    if not text[end:].lstrip().startswith("{"):
+    if not text[end:].lstrip().startswith(("{", ";")):
         sys.exit(f"{name}: neither a clause nor a body: {text[end : end + 60]}")
     found = Function(name, parameters, answers and answers[1].strip(), clauses)
     for lent in found.writes:
