@@ -36,8 +36,7 @@ returns-in-Refused c = record {
 }
 
 pub returns-in-Bytes : goal.returns-in-Bytes
-returns-in-Bytes c = let n = c.n-1 in
-    let P = answering.parse_bytes (written_in c.args.input.now) c.args.first.now c.args.room.now (omega (arith, c.requires.2)) n.given.0.0 c.parse_lines.new.out c.parse_lines.new.room n.given.1 c.parse_lines.ensures.is in
+returns-in-Bytes c = let P = answering.parse_bytes (written_in c.args.input.now) c.args.first.now c.args.room.now (omega (arith, c.requires.2)) c.in-Bytes.n c.parse_lines.new.out c.parse_lines.new.room c.in-Bytes.is c.parse_lines.ensures.is in
     let e = answering.parsed_cut (written_in c.args.input.now) c.args.first.now c.args.room.now (omega (arith, c.requires.2)) P in
     let t = answering.parsed_there (written_in c.args.input.now) c.args.first.now c.args.room.now (omega (arith, c.requires.2)) P in
     let l = answering.parsed_length (written_in c.args.input.now) c.args.first.now c.args.room.now (omega (arith, c.requires.2)) P in
