@@ -19,7 +19,7 @@ returns-then-a-ne0 c = let args = c.args in
     let shared-slice-known = c.shared_slice_known-1 in
     let rewrite = c.rewrite-a in
     let refuse2 = c.refuse-then-a-ne0 in
-    let it = choosing.concluded args.strict args.query.now args.list.now args.rows.now args.held.now args.room.now (λ i. omega (arith, shared-slice-known.given i)) refuse2.ensures.0 refuse2.ensures.1 refuse2.ensures.2 (c.clear-then-a-ne0.ensures ∙ ap (λ (n : ℕ). replicate n 0) rewrite.auto.1.1.0) refl (choosing.refused_query args.strict args.query.now args.list.now args.rows.now args.held.now args.room.now (λ i. omega (arith, shared-slice-known.given i)) c.if-held-lt-HELD_ROOM.false rewrite.ensures c.if-a-ne0.true) in record { answer = it.0; demand = it.1 }
+    let it = choosing.concluded args.strict args.query.now args.list.now args.rows.now args.held.now args.room.now (λ i. omega (arith, shared-slice-known.given i)) refuse2.ensures.0 refuse2.ensures.1 refuse2.ensures.2 (c.clear-then-a-ne0.ensures ∙ ap (λ (n : ℕ). replicate n 0) rewrite.auto.out) refl (choosing.refused_query args.strict args.query.now args.list.now args.rows.now args.held.now args.room.now (λ i. omega (arith, shared-slice-known.given i)) c.if-held-lt-HELD_ROOM.false rewrite.ensures c.if-a-ne0.true) in record { answer = it.0; demand = it.1 }
 
 pub slice_bounds-select-end : goal.slice_bounds-select-end
 slice_bounds-select-end c = choosing.held_long c.args.strict c.args.query.now c.args.list.now c.args.rows.now c.args.held.now c.args.room.now (λ i. omega (arith, c.shared_slice_known-1.given i)) c.if-held-lt-HELD_ROOM.false c.rewrite-a.ensures c.if-a-ne0.false
@@ -32,8 +32,8 @@ returns-in-Refused c = let args = c.args in
     let refuse3 = c.refuse-in-Refused in
     let it = choosing.concluded
     args.strict args.query.now args.list.now args.rows.now args.held.now args.room.now (λ i. omega (arith, shared-slice-known.given i)) refuse3.ensures.0 refuse3.ensures.1 refuse3.ensures.2
-    (c.clear-2.ensures ∙ ap (λ (n : ℕ). replicate n 0) rewrite.auto.1.1.0) refl
-    (ap (λ (r : Selected). choosing.answered r rewrite.result.rounds select.new.1.1.0 (zeros args.held.now) rewrite.new.1.1.1.0) (sym c.in-Refused.is)
+    (c.clear-2.ensures ∙ ap (λ (n : ℕ). replicate n 0) rewrite.auto.out) refl
+    (ap (λ (r : Selected). choosing.answered r rewrite.result.rounds select.new.rows (zeros args.held.now) rewrite.new.room) (sym c.in-Refused.is)
     ∙ choosing.selects
     args.strict args.query.now args.list.now args.rows.now args.held.now args.room.now (λ i. omega (arith, shared-slice-known.given i))
     c.if-held-lt-HELD_ROOM.false rewrite.ensures
@@ -44,4 +44,4 @@ returns-in-Chosen c = let args = c.args in
     let shared-slice-known = c.shared_slice_known-1 in
     let rewrite = c.rewrite-a in
     let select = c.select-c in
-    let it = choosing.concluded args.strict args.query.now args.list.now args.rows.now args.held.now args.room.now (λ i. omega (arith, shared-slice-known.given i)) refl refl refl (c.clear-2.ensures ∙ ap (λ (n : ℕ). replicate n 0) rewrite.auto.1.1.0) refl (ap (λ (r : Selected). choosing.answered r rewrite.result.rounds select.new.1.1.0 (zeros args.held.now) rewrite.new.1.1.1.0) (sym c.in-Chosen.is) ∙ choosing.selects args.strict args.query.now args.list.now args.rows.now args.held.now args.room.now (λ i. omega (arith, shared-slice-known.given i)) c.if-held-lt-HELD_ROOM.false rewrite.ensures c.if-a-ne0.false select.ensures) in record { answer = it.0; demand = it.1 }
+    let it = choosing.concluded args.strict args.query.now args.list.now args.rows.now args.held.now args.room.now (λ i. omega (arith, shared-slice-known.given i)) refl refl refl (c.clear-2.ensures ∙ ap (λ (n : ℕ). replicate n 0) rewrite.auto.out) refl (ap (λ (r : Selected). choosing.answered r rewrite.result.rounds select.new.rows (zeros args.held.now) rewrite.new.room) (sym c.in-Chosen.is) ∙ choosing.selects args.strict args.query.now args.list.now args.rows.now args.held.now args.room.now (λ i. omega (arith, shared-slice-known.given i)) c.if-held-lt-HELD_ROOM.false rewrite.ensures c.if-a-ne0.false select.ensures) in record { answer = it.0; demand = it.1 }
