@@ -1,21 +1,20 @@
 -- What classes tell of bytes in a word. Assumes nothing.
-use mathlib.Core.Path.{◌≡◌, refl, sym, ap, ◌∙◌}
+use mathlib.Core.Path.{◌≡◌, sym, ap, ◌∙◌}
 use mathlib.Core.Logic.{inl}
-use mathlib.Core.Bool.{Bool, true, false, not, ◌&&◌, ◌||◌, cond}
+use mathlib.Core.Bool.{Bool, true, false, not, ◌||◌}
 use mathlib.Core.List.{List}
 use Prim.Native.Nat.{ℕ, zero, suc, ◌/◌, ◌%◌, ◌+◌, ◌-◌, ◌≤◌, ◌<◌}
 use native.Mathlib.Omega.{arith}
-use native.Mathlib.Numerals.{add-one}
-use lib.Dec.{leb, eqb}
+use lib.Dec.{leb}
 use lib.ListN.{length, get_or}
 use borrow.Author.Tests.{eq-eqb, not-true}
-use Rattle.rules.specs.Words.{WordBreak, outside, is, a_letter, is_mid_letters, is_mid_numbers, values, word_break, joined, is_alphanumeric}
+use Rattle.rules.specs.Words.{is, a_letter, is_mid_letters, is_mid_numbers, values, word_break}
 use Rattle.rules.specs.Analysis.{class_of}
 use Rattle.rules.specs.InWords.{is_solid, is_inner, bridged, value_at, is_bridge, is_within}
 use Rattle.rules.proofs.Bools.{and_false, told_no, told_yes}
-use Rattle.rules.proofs.Text.Classes.{letters_flag, numbers_flag, joins_flag, plain_flag, alphanumeric_flag, letter_flag, letter_value, digit_value}
+use Rattle.rules.proofs.Text.Classes.{letters_flag, numbers_flag, joins_flag, alphanumeric_flag, letter_flag, letter_value, digit_value}
 use Rattle.rules.proofs.Text.Values.{bridged_by, nothing_bridged, no_first, no_last, outer_joins}
-use Rattle.rules.proofs.Text.Words.{value_in, value_past, inner_at, way_joined, joined_first, joined_is}
+use Rattle.rules.proofs.Text.Words.{value_in, value_past, way_joined, joined_first, joined_is}
 use Rattle.analysis.specs.Words.{joins_by}
 
 -- ---- three bytes

@@ -1,15 +1,15 @@
 -- What the two spans of the code find: the first token's start, and where its chunk ends. Assumes nothing.
 use mathlib.Core.Path.{◌≡◌, refl, sym, ap, ◌∙◌}
 use mathlib.Core.Bool.{Bool, true, false, cond, true≢false}
-use mathlib.Core.List.{List, []}
-use Prim.Native.Nat.{ℕ, ◌+◌, ◌-◌, ◌≤◌, min}
+use mathlib.Core.List.{List}
+use Prim.Native.Nat.{ℕ, ◌+◌, ◌-◌, min}
 use native.Mathlib.Omega.{arith}
 use lib.Dec.{eqb}
-use lib.ListN.{length, take, drop, length-take, length-drop, drop_of_length-le}
+use lib.ListN.{length, take, drop, length-take, length-drop}
 use lib.Seq.{take_all}
 use Rattle.rules.specs.Numbers.{chunk_most}
 use Rattle.rules.specs.Analysis.{front, is_words}
-use Rattle.rules.proofs.Text.Pieces.{outside, front_nil, front_most, front_take}
+use Rattle.rules.proofs.Text.Pieces.{front_most, front_take}
 use Rattle.analysis.specs.Tokens.{by_analyzer, inside, wanted, span_from, first_of, start_from, text_from, Found}
 use Rattle.analysis.proofs.Steps.{whole_start, whole_text_lem, every_inside, found}
 

@@ -9,9 +9,9 @@ use lib.Dec.{eqb}
 use lib.ListN.{length, take, drop}
 use borrow.Author.Tests.{not-true, not-false}
 use Rattle.rules.specs.Bytes.{ascii, same, some}
-use Rattle.rules.specs.Query.{Word, word}
+use Rattle.rules.specs.Query.{word}
 use Rattle.rules.specs.Words.{stop_words, is_stop_word}
-use Rattle.rules.specs.Analysis.{lowercase, is_left_out, token_texts, placed_from, kept_of, tokenize}
+use Rattle.rules.specs.Analysis.{lowercase, is_left_out, placed_from, kept_of, tokenize}
 use Rattle.rules.proofs.Bools.{clash, and_no_r}
 use Rattle.rules.proofs.Text.Pieces.{by_test, by_list}
 use Rattle.rules.proofs.Text.Words.{by_less}

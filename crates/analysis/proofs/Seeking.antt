@@ -1,7 +1,7 @@
 -- Where a word begins, and where it ends, a byte at a time. Assumes nothing.
 use mathlib.Core.Path.{◌≡◌, refl, sym, ap, subst, ◌∙◌}
 use mathlib.Core.Logic.{◌⊎◌, inl, inr, ⊎_elim}
-use mathlib.Core.Bool.{Bool, true, false, true≢false, ◌||◌, ◌&&◌}
+use mathlib.Core.Bool.{Bool, true, false, true≢false, ◌||◌}
 use mathlib.Core.List.{List}
 use Prim.Native.Nat.{ℕ, zero, suc, ◌+◌, ◌-◌, ◌≤◌, ◌<◌, min}
 use native.Mathlib.Omega.{arith}
@@ -9,12 +9,11 @@ use native.Mathlib.Numerals.{add-one}
 use lib.Dec.{leb}
 use lib.ListN.{length, get_or, length-take, length-drop, drop_of_length-le}
 use borrow.Author.Tests.{le-leb, lt-leb}
-use Rattle.rules.specs.Words.{is, extend_num_let, word_break, values, joined, reach, is_alphanumeric}
+use Rattle.rules.specs.Words.{is, extend_num_let, joined, reach, is_alphanumeric}
 use Rattle.rules.specs.Analysis.{class_of}
-use Rattle.rules.specs.InWords.{is_solid, is_inner, bridged, value_at, is_bridge, is_within}
+use Rattle.rules.specs.InWords.{is_inner, bridged, value_at, is_bridge, is_within}
 use Rattle.rules.proofs.Bools.{clash, fails, both, or_l, or_r}
-use Rattle.rules.proofs.Text.Pieces.{by_test}
-use Rattle.rules.proofs.Text.Classes.{is_plain, plain_flag, alphanumeric_flag}
+use Rattle.rules.proofs.Text.Classes.{plain_flag, alphanumeric_flag}
 use Rattle.rules.proofs.Text.Values.{bridge_near}
 use Rattle.rules.proofs.Text.Words.{by_less, OnWay, joined_past, reach_at, reach_more, reach_least, reach_most, solid_at, inner_at, bridge_joined, outer_boundary, way_joined, way_on, begins_way, found_begins, skip_pieces, skip_start, start_begins, start_end, start_within, pieces_end, begins_one}
 use Rattle.rules.specs.Numbers.{chunk_most}

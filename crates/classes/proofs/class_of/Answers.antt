@@ -1,7 +1,6 @@
 -- `classes::class_of` meets its contract, by the rule of the table. Assumes nothing.
 use Prim.Native.Nat.{ℕ}
 use Rattle.rules.proofs.Text.Classes.{class_within, class_beyond}
-use borrow.Author.Rules.{rules}
 use lib.ListN.{get_or}
 use mathlib.Core.List.{List}
 use mathlib.Core.Path.{sym, ap, ◌∙◌}

@@ -1,9 +1,6 @@
 -- `classes::is_letter` meets its contract, by the byte's range. Assumes nothing.
-use Rattle.classes.proofs.Comparing.{letter_yes, letter_capital, letter_below, letter_above}
-use Rattle.rules.proofs.Bools.{clash}
-use borrow.Author.Tests.{lt-leb}
-use mathlib.Core.Logic.{⊎_elim}
-use mathlib.Core.Path.{sym, ◌∙◌}
+use Rattle.classes.proofs.Comparing.{letter_above}
+use mathlib.Core.Path.{sym}
 use Rattle.classes.proofs.is_letter.Goals as goal
 
 pub returns-then-c-ge97 : goal.returns-then-c-ge97

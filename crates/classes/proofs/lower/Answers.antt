@@ -1,5 +1,4 @@
 -- `classes::lower` meets its contract: below the capitals, a capital, above them. Assumes nothing.
-use borrow.Author.Rules.{rules}
 use borrow.Author.Tests.{le-leb, lt-leb}
 use native.Mathlib.Omega.{arith}
 use Rattle.classes.proofs.lower.Goals as goal

@@ -1,9 +1,6 @@
 -- `fields::analyzer_of` meets its contract. The loop's invariant: the entries from the k-th on are not the field's. Assumes nothing.
-use Prim.Native.Nat.{◌≤◌}
 use Rattle.fields.proofs.Rows.{among_to, among_none, among_yes, among_no, among_other}
 use Rattle.fields.specs.Fields.{array_entries}
-use Rattle.rules.specs.Setup.{analyzer_among}
-use borrow.Author.Rules.{rules}
 use mathlib.Core.Path.{◌≡◌, sym, ◌∙◌}
 use native.Mathlib.Omega.{arith}
 use Rattle.fields.proofs.analyzer_of.Goals as goal

@@ -1,11 +1,9 @@
 -- `fields::analyzer_of` meets its contract. The loop's invariant: the entries from the k-th on are not the field's. Assumes nothing.
 use Prim.Native.Nat.{◌≤◌}
-use Rattle.fields.proofs.Rows.{among_to, among_none, among_yes, among_no, among_other}
+use Rattle.fields.proofs.Rows.{among_to}
 use Rattle.fields.specs.Fields.{array_entries}
 use Rattle.rules.specs.Setup.{analyzer_among}
-use borrow.Author.Rules.{rules}
-use mathlib.Core.Path.{◌≡◌, sym, ◌∙◌}
-use native.Mathlib.Omega.{arith}
+use mathlib.Core.Path.{◌≡◌}
 use Rattle.fields.proofs.analyzer_of.Given as goal
 
 abbrev pub invariant-loop-k : goal.invariant-loop-k

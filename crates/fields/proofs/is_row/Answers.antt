@@ -1,11 +1,9 @@
 -- `fields::is_row` meets its contract. The loop's invariant: the bytes passed are equal. Assumes nothing.
-use Prim.Native.Nat.{ℕ, ◌≤◌, ◌<◌, ◌-◌}
 use Rattle.fields.proofs.Rows.{row_same, row_other}
 use borrow.Author.Count.{below_none, below_more}
-use borrow.Author.Rules.{rules}
-use lib.ListN.{length, get_or}
+use lib.ListN.{get_or}
 use mathlib.Core.List.{[]}
-use mathlib.Core.Path.{◌≡◌, sym}
+use mathlib.Core.Path.{sym}
 use native.Mathlib.Omega.{arith}
 use Rattle.fields.proofs.is_row.Goals as goal
 

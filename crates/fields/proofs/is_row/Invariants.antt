@@ -1,12 +1,8 @@
 -- `fields::is_row` meets its contract. The loop's invariant: the bytes passed are equal. Assumes nothing.
 use Prim.Native.Nat.{ℕ, ◌≤◌, ◌<◌, ◌-◌}
-use Rattle.fields.proofs.Rows.{row_same, row_other}
-use borrow.Author.Count.{below_none, below_more}
-use borrow.Author.Rules.{rules}
 use lib.ListN.{length, get_or}
 use mathlib.Core.List.{[]}
-use mathlib.Core.Path.{◌≡◌, sym}
-use native.Mathlib.Omega.{arith}
+use mathlib.Core.Path.{◌≡◌}
 use Rattle.fields.proofs.is_row.Given as goal
 
 abbrev pub invariant-loop-i : goal.invariant-loop-i

@@ -1,6 +1,5 @@
 -- `numbers::big2` meets its contract.
 use Rattle.rules.proofs.Stored.Widths as widths
-use borrow.Author.Rules.{rules}
 use native.Mathlib.Omega.{arith}
 use Rattle.numbers.proofs.big2.Goals as goal
 

@@ -2,7 +2,6 @@
 use Prim.Native.Nat.{ℕ}
 use Rattle.rules.proofs.Stored.Parts as parts
 use Rattle.rules.proofs.Stored.Widths as widths
-use borrow.Author.Rules.{rules}
 use lib.ListN.{take}
 use mathlib.Core.List.{List}
 use mathlib.Core.Path.{ap, ◌∙◌}

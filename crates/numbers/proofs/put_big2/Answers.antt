@@ -1,6 +1,5 @@
 -- `numbers::put_big2` meets its contract.
 use Rattle.numbers.proofs.Laying as laying
-use borrow.Author.Rules.{rules}
 use lib.ListN.{length-set}
 use mathlib.Core.Path.{refl}
 use native.Mathlib.Omega.{arith}

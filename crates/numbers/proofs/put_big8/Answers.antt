@@ -2,7 +2,6 @@ use Prim.Native.Nat.{◌/◌, ◌%◌}
 use Rattle.numbers.proofs.Laying as laying
 use Rattle.rules.proofs.Stored.Bigs as bigs
 use Rattle.rules.proofs.Stored.Widths as widths
-use borrow.Author.Rules.{rules}
 use native.Mathlib.Omega.{arith}
 use Rattle.numbers.proofs.put_big8.Goals as goal
 

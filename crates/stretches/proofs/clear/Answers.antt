@@ -1,11 +1,10 @@
 -- `stretches::clear` meets its contract.
-use Prim.Native.Nat.{ℕ, ◌-◌, ◌≤◌}
+use Prim.Native.Nat.{ℕ}
 use Rattle.numbers.proofs.Laying as laying
 use borrow.Author.Fill.{fill_more}
-use borrow.Author.Rules.{rules}
 use lib.ListN.{length, drop, replicate, length-set}
-use mathlib.Core.List.{List, ◌++◌}
-use mathlib.Core.Path.{◌≡◌, ap, ◌∙◌}
+use mathlib.Core.List.{List}
+use mathlib.Core.Path.{ap, ◌∙◌}
 use native.Mathlib.Omega.{arith}
 use Rattle.stretches.proofs.clear.Goals as goal
 

@@ -1,10 +1,8 @@
 -- `stretches::copy` meets its contract.
-use Prim.Native.Nat.{◌+◌, ◌-◌, ◌≤◌}
 use Rattle.numbers.proofs.Laying as laying
-use borrow.Author.Rules.{rules}
-use lib.ListN.{length, length-set}
-use lib.Seq.{paste, paste-zero}
-use mathlib.Core.Path.{◌≡◌, refl}
+use lib.ListN.{length-set}
+use lib.Seq.{paste-zero}
+use mathlib.Core.Path.{refl}
 use native.Mathlib.Omega.{arith}
 use Rattle.stretches.proofs.copy.Goals as goal
 

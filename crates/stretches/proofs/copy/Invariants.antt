@@ -1,11 +1,8 @@
 -- `stretches::copy` meets its contract.
 use Prim.Native.Nat.{◌+◌, ◌-◌, ◌≤◌}
-use Rattle.numbers.proofs.Laying as laying
-use borrow.Author.Rules.{rules}
-use lib.ListN.{length, length-set}
-use lib.Seq.{paste, paste-zero}
-use mathlib.Core.Path.{◌≡◌, refl}
-use native.Mathlib.Omega.{arith}
+use lib.ListN.{length}
+use lib.Seq.{paste}
+use mathlib.Core.Path.{◌≡◌}
 use Rattle.stretches.proofs.copy.Given as goal
 
 abbrev pub invariant-loop-k : goal.invariant-loop-k

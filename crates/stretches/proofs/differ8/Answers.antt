@@ -1,6 +1,5 @@
 -- `stretches::differ8` meets its contract.
 use Rattle.stretches.proofs.Joining as joining
-use borrow.Author.Rules.{rules}
 use native.Mathlib.Omega.{arith}
 use Rattle.stretches.proofs.differ8.Goals as goal
 

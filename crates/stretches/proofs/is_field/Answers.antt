@@ -1,6 +1,5 @@
 -- `stretches::is_field` meets its contract.
 use Rattle.rules.proofs.Chains as chains
-use borrow.Author.Rules.{rules}
 use borrow.Author.Tests.{le-leb, lt-leb}
 use Rattle.stretches.proofs.is_field.Goals as goal
 

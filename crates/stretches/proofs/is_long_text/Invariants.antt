@@ -1,13 +1,10 @@
 -- `stretches::is_long_text` meets its contract.
 use Prim.Native.Nat.{◌-◌, ◌≤◌}
 use Rattle.rules.specs.Bytes.{is_text}
-use Rattle.stretches.proofs.Joining as joining
-use borrow.Author.Rules.{rules}
 use lib.Dec.{leb}
 use lib.ListN.{length, drop}
 use mathlib.Core.Bool.{◌&&◌}
 use mathlib.Core.Path.{◌≡◌}
-use native.Mathlib.Omega.{arith}
 use Rattle.stretches.proofs.is_long_text.Given as goal
 
 abbrev pub invariant-loop-i : goal.invariant-loop-i

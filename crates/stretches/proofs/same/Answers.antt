@@ -1,6 +1,5 @@
 -- `stretches::same` meets its contract.
 use Rattle.stretches.proofs.Joining as joining
-use borrow.Author.Rules.{rules}
 use Rattle.stretches.proofs.same.Goals as goal
 
 pub returns-then-a-b : goal.returns-then-a-b

@@ -1,12 +1,5 @@
 -- `stretches::same_long` meets its contract.
-use Prim.Native.Nat.{◌-◌, ◌≤◌}
-use Rattle.rules.specs.Bytes.{same}
 use Rattle.stretches.proofs.Joining as joining
-use borrow.Author.Rules.{rules}
-use lib.Dec.{eqb}
-use lib.ListN.{length, drop}
-use mathlib.Core.Bool.{◌&&◌}
-use mathlib.Core.Path.{◌≡◌}
 use native.Mathlib.Omega.{arith}
 use Rattle.stretches.proofs.same_long.Goals as goal
 

@@ -2,7 +2,6 @@
 use Prim.Native.Nat.{◌-◌}
 use Rattle.rules.proofs.Chains as chains
 use Rattle.stretches.proofs.Joining as joining
-use borrow.Author.Rules.{rules}
 use borrow.Author.Tests.{eq-eqb, ne_eqb}
 use lib.ListN.{length}
 use mathlib.Core.Path.{sym, ◌∙◌}

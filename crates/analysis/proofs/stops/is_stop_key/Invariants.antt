@@ -1,14 +1,10 @@
 -- `stops::is_stop_key` meets its contract. The loop's invariant: it is none of those that were passed. Assumes nothing.
 use Prim.Native.Nat.{◌-◌, ◌≤◌}
-use Rattle.analysis.proofs.Packing.{stop_found, stop_more, stop_none}
-use Rattle.analysis.specs.Stops.{packed, stop_keys}
-use Rattle.rules.specs.Bytes.{ascii, some}
-use Rattle.rules.specs.Words.{stop_words}
-use borrow.Author.Rules.{rules}
+use Rattle.analysis.specs.Stops.{stop_keys}
+use Rattle.rules.specs.Bytes.{some}
 use lib.Dec.{eqb}
 use lib.ListN.{drop}
-use mathlib.Core.Path.{◌≡◌, refl}
-use native.Mathlib.Omega.{arith}
+use mathlib.Core.Path.{◌≡◌}
 use Rattle.analysis.proofs.stops.is_stop_key.Given as goal
 
 abbrev pub invariant-loop-i : goal.invariant-loop-i

@@ -1,6 +1,5 @@
 -- `stops::is_stop_word` meets its contract: a longer word is none, and a shorter one is told by its number. Assumes nothing.
 use Rattle.analysis.proofs.Packing.{stop_long, stop_word_told}
-use borrow.Author.Rules.{rules}
 use native.Mathlib.Omega.{arith}
 use Rattle.analysis.proofs.stops.is_stop_word.Goals as goal
 

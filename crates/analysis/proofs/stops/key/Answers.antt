@@ -1,11 +1,7 @@
 -- `stops::key` meets its contract. The loop's invariant: the number of what was passed. Assumes nothing.
-use Prim.Native.Nat.{◌-◌, ◌≤◌}
+use Prim.Native.Nat.{◌-◌}
 use Rattle.analysis.proofs.Packing.{key_most, key_turn, key_end, packed_end, lower_byte}
-use Rattle.analysis.specs.Stops.{packed}
-use Rattle.rules.specs.Analysis.{lowercase}
-use borrow.Author.Rules.{rules}
-use lib.ListN.{length, drop, get_or}
-use mathlib.Core.Path.{◌≡◌}
+use lib.ListN.{get_or}
 use native.Mathlib.Omega.{arith}
 use Rattle.analysis.proofs.stops.key.Goals as goal
 

@@ -1,12 +1,9 @@
 -- `stops::key` meets its contract. The loop's invariant: the number of what was passed. Assumes nothing.
-use Prim.Native.Nat.{◌-◌, ◌≤◌}
-use Rattle.analysis.proofs.Packing.{key_most, key_turn, key_end, packed_end, lower_byte}
+use Prim.Native.Nat.{◌≤◌}
 use Rattle.analysis.specs.Stops.{packed}
 use Rattle.rules.specs.Analysis.{lowercase}
-use borrow.Author.Rules.{rules}
-use lib.ListN.{length, drop, get_or}
+use lib.ListN.{length, drop}
 use mathlib.Core.Path.{◌≡◌}
-use native.Mathlib.Omega.{arith}
 use Rattle.analysis.proofs.stops.key.Given as goal
 
 abbrev pub invariant-loop-i : goal.invariant-loop-i

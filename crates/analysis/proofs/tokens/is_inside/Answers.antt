@@ -1,6 +1,5 @@
 -- `tokens::is_inside` meets its contract, by the analyzer. Assumes nothing.
 use Rattle.analysis.specs.Tokens.{inside}
-use borrow.Author.Rules.{rules}
 use borrow.Author.Tests.{eq-eqb, ne_eqb}
 use mathlib.Core.Bool.{not}
 use mathlib.Core.Path.{ap}

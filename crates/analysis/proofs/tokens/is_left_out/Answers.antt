@@ -1,6 +1,5 @@
 -- `tokens::is_left_out` meets its contract. Assumes nothing.
 use Rattle.analysis.proofs.Packing.{english_told}
-use borrow.Author.Rules.{rules}
 use borrow.Author.Tests.{ne_eqb}
 use mathlib.Core.Path.{sym}
 use Rattle.analysis.proofs.tokens.is_left_out.Goals as goal

@@ -1,6 +1,5 @@
 -- `tokens::next_piece` meets its contract: behind the end, of words, of runs. Assumes nothing.
 use Rattle.analysis.proofs.Steps.{past, found_word}
-use borrow.Author.Rules.{rules}
 use mathlib.Core.Path.{sym, ◌∙◌}
 use native.Mathlib.Omega.{arith}
 use Rattle.analysis.proofs.tokens.next_piece.Goals as goal

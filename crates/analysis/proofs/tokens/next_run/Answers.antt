@@ -1,6 +1,5 @@
 -- `tokens::next_run` meets its contract: a whole text, or two spans. Assumes nothing.
 use Rattle.analysis.proofs.Chunks.{whole, skipped, chunk}
-use borrow.Author.Rules.{rules}
 use mathlib.Core.Path.{sym, ◌∙◌}
 use native.Mathlib.Omega.{arith}
 use Rattle.analysis.proofs.tokens.next_run.Goals as goal

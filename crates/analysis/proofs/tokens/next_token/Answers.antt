@@ -1,8 +1,5 @@
 -- `tokens::next_token` meets its contract. The loop's invariant: what was passed is left out. Assumes nothing.
-use Prim.Native.Nat.{◌-◌}
-use Rattle.analysis.proofs.Keeping.{Passing, passing_starts, passing_on, passing_one, passing_none, told_kept, told_left}
-use borrow.Author.Rules.{rules}
-use lib.ListN.{length}
+use Rattle.analysis.proofs.Keeping.{passing_starts, passing_on, passing_one, passing_none, told_kept, told_left}
 use native.Mathlib.Omega.{arith}
 use Rattle.analysis.proofs.tokens.next_token.Goals as goal
 

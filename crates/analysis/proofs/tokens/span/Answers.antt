@@ -1,8 +1,5 @@
 -- `tokens::span` meets its contract. The loop's invariant: the span from where it is ends where the whole span ends. Assumes nothing.
-use Prim.Native.Nat.{◌≤◌, ◌-◌}
 use Rattle.analysis.proofs.Spans.{span_end, stops, goes_on}
-use Rattle.analysis.specs.Tokens.{wanted, span_from}
-use borrow.Author.Rules.{rules}
 use mathlib.Core.Path.{◌≡◌, refl, sym, ◌∙◌}
 use native.Mathlib.Omega.{arith}
 use Rattle.analysis.proofs.tokens.span.Goals as goal

@@ -1,7 +1,6 @@
 -- `tokens::written` meets its contract, by the analyzer. Assumes nothing.
 use Rattle.analysis.proofs.Spelling.{written_words, written_plain}
 use Rattle.analysis.specs.Tokens.{written_byte}
-use borrow.Author.Rules.{rules}
 use borrow.Author.Tests.{eq-eqb}
 use mathlib.Core.Path.{sym, ◌∙◌}
 use Rattle.analysis.proofs.tokens.written.Goals as goal

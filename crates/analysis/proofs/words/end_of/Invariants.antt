@@ -1,11 +1,9 @@
 -- `words::end_of` meets its contract. The loop's invariant: the word goes on so far, and what holds together ends here. Assumes nothing.
 use Prim.Native.Nat.{suc, ◌-◌, ◌<◌}
-use Rattle.analysis.proofs.Seeking.{Ending, ending_starts, ending_run, ending_bridge, ending_breaks, ending_ends}
+use Rattle.analysis.proofs.Seeking.{Ending}
 use Rattle.rules.specs.InWords.{is_inner, value_at}
-use borrow.Author.Tests.{not-true, not-false}
 use mathlib.Core.Bool.{false}
 use mathlib.Core.Path.{◌≡◌}
-use native.Mathlib.Omega.{arith}
 use Rattle.analysis.proofs.words.end_of.Given as goal
 
 abbrev pub invariant-loop-i : goal.invariant-loop-i

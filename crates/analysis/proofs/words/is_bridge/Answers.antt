@@ -1,6 +1,5 @@
 -- `words::is_bridge` meets its contract: what joins nothing, the last byte, and three bytes by their classes. Assumes nothing.
 use Rattle.analysis.proofs.Bridges.{told_none, told_last, told_bridge}
-use borrow.Author.Rules.{rules}
 use native.Mathlib.Omega.{arith}
 use Rattle.analysis.proofs.words.is_bridge.Goals as goal
 

@@ -1,7 +1,6 @@
 -- `words::is_inner` meets its contract, by the flags of the byte. Assumes nothing.
 use Rattle.rules.proofs.Text.Classes.{plain_flag}
 use Rattle.rules.proofs.Text.Words.{inner_at}
-use borrow.Author.Rules.{rules}
 use lib.Dec.{leb}
 use mathlib.Core.Path.{sym, ap, ◌∙◌}
 use Rattle.analysis.proofs.words.is_inner.Goals as goal

@@ -1,9 +1,5 @@
 -- `words::run_end` meets its contract. The loop's invariant: all so far hold together. Assumes nothing.
-use Prim.Native.Nat.{ℕ, suc, ◌-◌, ◌≤◌, ◌<◌}
 use Rattle.analysis.proofs.Seeking.{held_stops, held_on, held_ends}
-use Rattle.rules.specs.InWords.{is_inner, value_at}
-use mathlib.Core.Bool.{true}
-use mathlib.Core.Path.{◌≡◌}
 use native.Mathlib.Omega.{arith}
 use Rattle.analysis.proofs.words.run_end.Goals as goal
 

@@ -1,8 +1,5 @@
 -- `words::seek` meets its contract. The loop's invariant: what was passed has no letter and no digit, and what is behind `start` holds. Assumes nothing.
-use Prim.Native.Nat.{◌-◌}
-use Rattle.analysis.proofs.Seeking.{Seeking, seeking_starts, seeking_holds, seeking_breaks, seeking_finds, seeking_ends}
-use borrow.Author.Rules.{rules}
-use lib.ListN.{length}
+use Rattle.analysis.proofs.Seeking.{seeking_starts, seeking_holds, seeking_breaks, seeking_finds, seeking_ends}
 use native.Mathlib.Omega.{arith}
 use Rattle.analysis.proofs.words.seek.Goals as goal
 

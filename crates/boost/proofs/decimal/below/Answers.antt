@@ -2,7 +2,6 @@
 use Prim.Native.Nat.{ℕ, ◌^◌}
 use Rattle.boost.proofs.Scales.{held_is}
 use Rattle.rules.specs.Numerals.{nearest}
-use borrow.Author.Rules.{rules}
 use mathlib.Core.Path.{sym, ap, ◌∙◌}
 use native.Mathlib.Omega.{arith}
 use Rattle.boost.proofs.decimal.below.Goals as goal

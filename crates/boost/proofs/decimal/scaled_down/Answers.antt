@@ -1,7 +1,6 @@
 -- `boost::decimal::scaled_down` meets its contract. Assumes nothing.
 use Rattle.boost.proofs.Scales.{places_most, held_few, down_tiny, down_below}
 use Rattle.boost.specs.Digits.{number_of}
-use borrow.Author.Rules.{rules}
 use native.Mathlib.Omega.{arith}
 use Rattle.boost.proofs.decimal.scaled_down.Goals as goal
 

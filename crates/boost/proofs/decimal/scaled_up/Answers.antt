@@ -1,7 +1,6 @@
 -- `boost::decimal::scaled_up` meets its contract. Assumes nothing.
 use Rattle.boost.proofs.Scales.{places_most, held_zero, held_some, up_below, up_above, up_zero, up_huge}
 use Rattle.boost.specs.Digits.{number_of}
-use borrow.Author.Rules.{rules}
 use native.Mathlib.Omega.{arith}
 use Rattle.boost.proofs.decimal.scaled_up.Goals as goal
 

@@ -1,9 +1,6 @@
 -- `boost::digits::fill` meets its contract. Assumes nothing.
-use Prim.Native.Nat.{◌-◌}
-use Rattle.boost.proofs.Runs.{Filling, fill_first, fill_room, fill_next, filled, taken_later}
-use borrow.Author.Rules.{rules}
+use Rattle.boost.proofs.Runs.{fill_first, fill_room, fill_next, filled, taken_later}
 use lib.Dec.{lit≤}
-use lib.ListN.{length}
 use native.Mathlib.Nat.{le_trans}
 use native.Mathlib.Omega.{arith}
 use Rattle.boost.proofs.digits.fill.Goals as goal

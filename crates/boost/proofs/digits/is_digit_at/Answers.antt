@@ -1,6 +1,5 @@
 -- `boost::digits::is_digit_at` meets its contract. Assumes nothing.
 use Rattle.boost.proofs.Runs.{digit_here, digit_not, digit_low, stop_byte, stop_end}
-use borrow.Author.Rules.{rules}
 use lib.ListN.{get_or}
 use Rattle.boost.proofs.digits.is_digit_at.Goals as goal
 

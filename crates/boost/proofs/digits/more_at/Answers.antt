@@ -1,6 +1,5 @@
 -- `boost::digits::more_at` meets its contract. Assumes nothing.
 use Rattle.boost.proofs.Runs.{more_not, more_here}
-use borrow.Author.Rules.{rules}
 use Rattle.boost.proofs.digits.more_at.Goals as goal
 
 pub returns-then-p-gt-TAKEN_MOST : goal.returns-then-p-gt-TAKEN_MOST

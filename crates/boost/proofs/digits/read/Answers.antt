@@ -1,8 +1,5 @@
 -- `boost::digits::read` meets its contract. Assumes nothing.
-use Prim.Native.Nat.{◌-◌}
-use Rattle.boost.proofs.Runs.{Counting, count_first, count_next, counted}
-use borrow.Author.Rules.{rules}
-use lib.ListN.{length}
+use Rattle.boost.proofs.Runs.{count_first, count_next, counted}
 use native.Mathlib.Omega.{arith}
 use Rattle.boost.proofs.digits.read.Goals as goal
 

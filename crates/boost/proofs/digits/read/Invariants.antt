@@ -1,9 +1,7 @@
 -- `boost::digits::read` meets its contract. Assumes nothing.
 use Prim.Native.Nat.{◌-◌}
-use Rattle.boost.proofs.Runs.{Counting, count_first, count_next, counted}
-use borrow.Author.Rules.{rules}
+use Rattle.boost.proofs.Runs.{Counting}
 use lib.ListN.{length}
-use native.Mathlib.Omega.{arith}
 use Rattle.boost.proofs.digits.read.Given as goal
 
 abbrev pub invariant-loop-v : goal.invariant-loop-v

@@ -1,8 +1,5 @@
 -- `boost::digits::take` meets its contract. Assumes nothing.
-use Prim.Native.Nat.{◌-◌}
-use Rattle.boost.proofs.Runs.{Going, take_first, take_next, taken}
-use borrow.Author.Rules.{rules}
-use lib.ListN.{length}
+use Rattle.boost.proofs.Runs.{take_first, take_next, taken}
 use native.Mathlib.Omega.{arith}
 use Rattle.boost.proofs.digits.take.Goals as goal
 

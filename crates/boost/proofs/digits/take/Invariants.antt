@@ -1,9 +1,7 @@
 -- `boost::digits::take` meets its contract. Assumes nothing.
 use Prim.Native.Nat.{◌-◌}
-use Rattle.boost.proofs.Runs.{Going, take_first, take_next, taken}
-use borrow.Author.Rules.{rules}
+use Rattle.boost.proofs.Runs.{Going}
 use lib.ListN.{length}
-use native.Mathlib.Omega.{arith}
 use Rattle.boost.proofs.digits.take.Given as goal
 
 abbrev pub invariant-loop-v : goal.invariant-loop-v

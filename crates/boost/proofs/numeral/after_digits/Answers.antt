@@ -2,7 +2,6 @@
 use Prim.Native.Nat.{◌+◌}
 use Rattle.boost.proofs.Grammar.{scaled_as, digits_e, digits_other, digits_end}
 use Rattle.rules.specs.Numerals.{exponent, after_digits, is_minus, after_sign}
-use borrow.Author.Rules.{rules}
 use lib.ListN.{drop}
 use mathlib.Core.Logic.{inl, inr}
 use Rattle.boost.proofs.numeral.after_digits.Goals as goal

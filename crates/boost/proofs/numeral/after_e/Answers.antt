@@ -2,7 +2,6 @@
 use Prim.Native.Nat.{◌+◌}
 use Rattle.boost.proofs.Grammar.{scaled_as, sign_minus, sign_plus, sign_none, after_e_signed, after_e_end}
 use Rattle.rules.specs.Numerals.{exponent, is_minus, after_sign}
-use borrow.Author.Rules.{rules}
 use lib.ListN.{drop}
 use mathlib.Core.Bool.{true, false}
 use Rattle.boost.proofs.numeral.after_e.Goals as goal

@@ -3,7 +3,6 @@ use Rattle.boost.proofs.Grammar.{refuses, times_answer, times_within, over_answe
 use Rattle.boost.proofs.Wholes.{scaled_by}
 use Rattle.boost.specs.Digits.{number_of}
 use Rattle.boost.specs.Numeral.{by_digits}
-use borrow.Author.Rules.{rules}
 use Rattle.boost.proofs.numeral.digits_first.Goals as goal
 
 pub returns-then-d-eq0 : goal.returns-then-d-eq0

@@ -1,7 +1,6 @@
 -- `boost::numeral::digits_of` meets its contract. Assumes nothing.
 use Rattle.boost.proofs.Grammar.{point_within}
 use Rattle.boost.proofs.Wholes.{plain_bad, plain_good, plain_held, point_bad, point_good, point_held}
-use borrow.Author.Rules.{rules}
 use mathlib.Core.Path.{sym, ◌∙◌}
 use native.Mathlib.Omega.{arith}
 use Rattle.boost.proofs.numeral.digits_of.Goals as goal

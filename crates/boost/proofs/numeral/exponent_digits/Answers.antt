@@ -1,6 +1,5 @@
 -- `boost::numeral::exponent_digits` meets its contract. Assumes nothing.
 use Rattle.boost.proofs.Grammar.{exponent_no_digit, exponent_more, exponent_over, exponent_times}
-use borrow.Author.Rules.{rules}
 use Rattle.boost.proofs.numeral.exponent_digits.Goals as goal
 
 pub returns-then-e-at : goal.returns-then-e-at

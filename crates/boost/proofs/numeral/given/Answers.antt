@@ -1,6 +1,5 @@
 -- `boost::numeral::given` meets its contract. Assumes nothing.
 use Rattle.boost.proofs.Grammar.{given_minus, given_plus}
-use borrow.Author.Rules.{rules}
 use Rattle.boost.proofs.numeral.given.Goals as goal
 
 pub returns-then-minus : goal.returns-then-minus

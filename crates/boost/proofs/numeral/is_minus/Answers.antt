@@ -1,6 +1,5 @@
 -- `boost::numeral::is_minus` meets its contract. Assumes nothing.
 use Rattle.boost.proofs.Words.{minus_byte, minus_none}
-use borrow.Author.Rules.{rules}
 use Rattle.boost.proofs.numeral.is_minus.Goals as goal
 
 pub returns-then-text-gt0 : goal.returns-then-text-gt0

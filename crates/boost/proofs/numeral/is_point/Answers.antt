@@ -1,6 +1,5 @@
 -- `boost::numeral::is_point` meets its contract. Assumes nothing.
 use Rattle.boost.proofs.Grammar.{point_byte, point_end}
-use borrow.Author.Rules.{rules}
 use Rattle.boost.proofs.numeral.is_point.Goals as goal
 
 pub returns-then-at-s : goal.returns-then-at-s

@@ -1,8 +1,5 @@
 -- `boost::numeral::is_word` meets its contract. Assumes nothing.
-use Prim.Native.Nat.{◌-◌}
-use Rattle.boost.proofs.Words.{other_length, Matching, match_first, match_no, match_next, match_done}
-use borrow.Author.Rules.{rules}
-use lib.ListN.{length}
+use Rattle.boost.proofs.Words.{other_length, match_first, match_no, match_next, match_done}
 use native.Mathlib.Omega.{arith}
 use Rattle.boost.proofs.numeral.is_word.Goals as goal
 

@@ -1,9 +1,7 @@
 -- `boost::numeral::is_word` meets its contract. Assumes nothing.
 use Prim.Native.Nat.{◌-◌}
-use Rattle.boost.proofs.Words.{other_length, Matching, match_first, match_no, match_next, match_done}
-use borrow.Author.Rules.{rules}
+use Rattle.boost.proofs.Words.{Matching}
 use lib.ListN.{length}
-use native.Mathlib.Omega.{arith}
 use Rattle.boost.proofs.numeral.is_word.Given as goal
 
 abbrev pub invariant-loop-i : goal.invariant-loop-i

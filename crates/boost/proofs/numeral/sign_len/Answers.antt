@@ -1,7 +1,6 @@
 -- `boost::numeral::sign_len` meets its contract. Assumes nothing.
 use Rattle.boost.proofs.Grammar.{sign_minus, sign_plus, sign_none}
 use Rattle.boost.proofs.Words.{after_none}
-use borrow.Author.Rules.{rules}
 use mathlib.Core.Path.{sym}
 use native.Mathlib.Omega.{arith}
 use Rattle.boost.proofs.numeral.sign_len.Goals as goal

@@ -1,6 +1,5 @@
 -- `boost::numeral::unsigned_fault` meets its contract. Assumes nothing.
 use Rattle.boost.proofs.Words.{digits_refusal, nothing_fault}
-use borrow.Author.Rules.{rules}
 use Rattle.boost.proofs.numeral.unsigned_fault.Goals as goal
 
 pub returns-then-s-gt0 : goal.returns-then-s-gt0

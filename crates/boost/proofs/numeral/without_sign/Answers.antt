@@ -3,7 +3,6 @@ use Rattle.boost.proofs.Grammar.{carry}
 use Rattle.boost.proofs.Words.{digit_first, nothing}
 use Rattle.boost.specs.Numeral.{by_digits}
 use Rattle.rules.specs.Numerals.{unsigned}
-use borrow.Author.Rules.{rules}
 use Rattle.boost.proofs.numeral.without_sign.Goals as goal
 
 pub returns-then-s-gt0 : goal.returns-then-s-gt0

@@ -1,6 +1,5 @@
 -- `boost::numeral::word` meets its contract. Assumes nothing.
 use Rattle.boost.proofs.Words.{word_inf, word_infinity, word_nan, word_none}
-use borrow.Author.Rules.{rules}
 use mathlib.Core.Path.{sym, ◌∙◌}
 use Rattle.boost.proofs.numeral.word.Goals as goal
 

@@ -1,7 +1,6 @@
 -- `boost::numeral::word_fault` meets its contract. Assumes nothing.
 use Rattle.boost.proofs.Words.{word_refused, word_taken}
 use Rattle.rules.specs.Numerals.{unsigned}
-use borrow.Author.Rules.{rules}
 use mathlib.Core.Path.{sym, ◌∙◌}
 use Rattle.boost.proofs.numeral.word_fault.Goals as goal
 

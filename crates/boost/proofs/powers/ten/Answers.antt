@@ -1,7 +1,5 @@
 -- `boost::powers::ten` meets its contract. Assumes nothing.
 use Rattle.boost.proofs.Tens.{shifted_five}
-use borrow.Author.Rules.{rules}
-use native.Mathlib.Omega.{arith}
 use Rattle.boost.proofs.powers.ten.Goals as goal
 
 pub returns : goal.returns

@@ -1,6 +1,5 @@
 -- `boost::quick::multiple` meets its contract. Assumes nothing.
 use Rattle.boost.proofs.Once.{holds, few, product_number, product_nearest}
-use borrow.Author.Rules.{rules}
 use Rattle.boost.proofs.quick.multiple.Goals as goal
 
 pub int_to_float-p : goal.int_to_float-p

@@ -1,6 +1,5 @@
 -- `boost::quick::quotient` meets its contract. Assumes nothing.
 use Rattle.boost.proofs.Once.{holds, few, quotient_number, quotient_nearest}
-use borrow.Author.Rules.{rules}
 use Rattle.boost.proofs.quick.quotient.Goals as goal
 
 pub int_to_float-q : goal.int_to_float-q

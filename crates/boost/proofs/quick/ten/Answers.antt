@@ -1,7 +1,6 @@
 -- `boost::quick::ten` meets its contract. Assumes nothing.
 use Prim.Native.Nat.{ℕ, ◌≤◌, ◌^◌}
 use Rattle.boost.proofs.Once.{holds, power_le}
-use borrow.Author.Rules.{rules}
 use lib.Ieee.{binary32, of_int}
 use lib.IntN.{pos}
 use mathlib.Core.Path.{sym, ap, subst}

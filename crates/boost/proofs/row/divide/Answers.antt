@@ -1,7 +1,6 @@
 -- `boost::row::divide` meets its contract. Assumes nothing.
 use Prim.Native.Nat.{ℕ, ◌+◌, ◌*◌}
-use Rattle.boost.proofs.Rows.{Dividing, dividing_first, dividing_next, dividing_last, rest_fits}
-use borrow.Author.Rules.{rules}
+use Rattle.boost.proofs.Rows.{dividing_first, dividing_next, dividing_last, rest_fits}
 use lib.Dec.{lit<}
 use mathlib.Core.Path.{ap}
 use native.Mathlib.Omega.{arith}

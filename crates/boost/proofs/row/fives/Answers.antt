@@ -1,7 +1,6 @@
 -- `boost::row::fives` meets its contract. Assumes nothing.
 use Prim.Native.Nat.{◌-◌}
-use Rattle.boost.proofs.Tens.{Fives, fives_first, fives_next, fives_last, five_factor}
-use borrow.Author.Rules.{rules}
+use Rattle.boost.proofs.Tens.{fives_first, fives_next, fives_last, five_factor}
 use lib.Dec.{lit≤}
 use mathlib.Core.Path.{refl}
 use native.Mathlib.Nat.{le_refl}

@@ -1,7 +1,6 @@
 -- `boost::row::scale` meets its contract. Assumes nothing.
-use Prim.Native.Nat.{ℕ, ◌+◌, ◌-◌, ◌*◌}
-use Rattle.boost.proofs.Rows.{Going, going_first, going_next, going_last, product_fits}
-use borrow.Author.Rules.{rules}
+use Prim.Native.Nat.{ℕ, ◌+◌, ◌*◌}
+use Rattle.boost.proofs.Rows.{going_first, going_next, going_last, product_fits}
 use mathlib.Core.Path.{ap}
 use native.Mathlib.Omega.{arith}
 use Rattle.boost.proofs.row.scale.Goals as goal

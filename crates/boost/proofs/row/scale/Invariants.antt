@@ -1,9 +1,6 @@
 -- `boost::row::scale` meets its contract. Assumes nothing.
-use Prim.Native.Nat.{ℕ, ◌+◌, ◌-◌, ◌*◌}
-use Rattle.boost.proofs.Rows.{Going, going_first, going_next, going_last, product_fits}
-use borrow.Author.Rules.{rules}
-use mathlib.Core.Path.{ap}
-use native.Mathlib.Omega.{arith}
+use Prim.Native.Nat.{◌-◌}
+use Rattle.boost.proofs.Rows.{Going}
 use Rattle.boost.proofs.row.scale.Given as goal
 
 abbrev pub invariant-loop-i : goal.invariant-loop-i

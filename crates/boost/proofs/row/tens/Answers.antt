@@ -1,8 +1,7 @@
 -- `boost::row::tens` meets its contract. Assumes nothing.
 use Prim.Native.Nat.{zero-le}
 use Rattle.boost.proofs.Rows.{up_to_none}
-use Rattle.boost.proofs.Tens.{Tens, tens_room, tens_next, tens_last, ten_factor}
-use borrow.Author.Rules.{rules}
+use Rattle.boost.proofs.Tens.{tens_room, tens_next, tens_last, ten_factor}
 use mathlib.Core.Path.{refl}
 use native.Mathlib.Omega.{arith}
 use Rattle.boost.proofs.row.tens.Goals as goal

@@ -1,5 +1,5 @@
 -- `boost::row::used` meets its contract. Assumes nothing.
-use Rattle.boost.proofs.Rows.{Using, using_first, using_some, using_next, using_none}
+use Rattle.boost.proofs.Rows.{using_first, using_some, using_next, using_none}
 use native.Mathlib.Omega.{arith}
 use Rattle.boost.proofs.row.used.Goals as goal
 

@@ -1,6 +1,5 @@
 -- `boost::row::used` meets its contract. Assumes nothing.
-use Rattle.boost.proofs.Rows.{Using, using_first, using_some, using_next, using_none}
-use native.Mathlib.Omega.{arith}
+use Rattle.boost.proofs.Rows.{Using}
 use Rattle.boost.proofs.row.used.Given as goal
 
 abbrev pub invariant-loop-i : goal.invariant-loop-i

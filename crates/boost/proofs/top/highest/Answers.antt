@@ -1,6 +1,5 @@
 -- `boost::top::highest` meets its contract. Assumes nothing.
-use Rattle.boost.proofs.Rows.{Gathered, gathered_first, gathered_few, gathered_next, gathered_last}
-use borrow.Author.Rules.{rules}
+use Rattle.boost.proofs.Rows.{gathered_first, gathered_few, gathered_next, gathered_last}
 use native.Mathlib.Omega.{arith}
 use Rattle.boost.proofs.top.highest.Goals as goal
 

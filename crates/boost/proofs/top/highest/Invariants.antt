@@ -1,7 +1,5 @@
 -- `boost::top::highest` meets its contract. Assumes nothing.
-use Rattle.boost.proofs.Rows.{Gathered, gathered_first, gathered_few, gathered_next, gathered_last}
-use borrow.Author.Rules.{rules}
-use native.Mathlib.Omega.{arith}
+use Rattle.boost.proofs.Rows.{Gathered}
 use Rattle.boost.proofs.top.highest.Given as goal
 
 abbrev pub invariant-loop-i : goal.invariant-loop-i

@@ -1,6 +1,5 @@
 -- `boost::top::pattern` meets its contract. Assumes nothing.
 use Rattle.boost.proofs.Tops.{enough, pattern_is}
-use borrow.Author.Rules.{rules}
 use native.Mathlib.Omega.{arith}
 use Rattle.boost.proofs.top.pattern.Goals as goal
 

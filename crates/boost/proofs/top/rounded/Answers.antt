@@ -1,7 +1,6 @@
 -- `boost::top::rounded` meets its contract. Assumes nothing.
 use Prim.Native.Nat.{◌/◌, ◌*◌, ◌%◌, ◌^◌}
 use Rattle.boost.proofs.Tops.{unit_pos, unit_few, unit_kept, rounded_code, halved_few}
-use borrow.Author.Rules.{rules}
 use native.Mathlib.Omega.{arith}
 use Rattle.boost.proofs.top.rounded.Goals as goal
 

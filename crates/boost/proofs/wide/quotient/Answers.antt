@@ -1,7 +1,6 @@
 -- `boost::wide::quotient` meets its contract. Assumes nothing.
 use Prim.Native.Nat.{◌-◌, ◌*◌, ◌^◌, ◌%◌}
 use Rattle.boost.proofs.Medium.{z_range, moved_is, t_pos, w_hi, w_lo, quotient_is, quotient_zero}
-use borrow.Author.Rules.{rules}
 use lib.Count.{count_leading_zeros}
 use mathlib.Core.Logic.{inl}
 use native.Mathlib.Omega.{arith}

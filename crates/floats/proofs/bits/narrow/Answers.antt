@@ -3,7 +3,6 @@ use Prim.Native.Nat.{◌^◌}
 use Rattle.floats.proofs.Model.{signed_neg, signed_pos}
 use Rattle.floats.proofs.Narrow.{narrowed_nan}
 use Rattle.rules.specs.Floats.{narrowed}
-use borrow.Author.Rules.{rules}
 use lib.Ieee.{binary64}
 use native.Mathlib.Omega.{arith}
 use Rattle.floats.proofs.bits.narrow.Goals as goal

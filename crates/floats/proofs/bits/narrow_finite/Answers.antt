@@ -1,7 +1,6 @@
 -- `floats::bits::narrow_finite` meets its contract (`proofs/Narrow.antt`). Assumes nothing.
 use Rattle.std.proofs.Common.{◌≡◌, ℕ, ◌<◌, ◌≤◌, ◌^◌}
 use Rattle.floats.proofs.Narrow.{zeros, kept_is, narrowed_zero, narrowed_tiny, narrowed_low, narrowed_high, narrowed_over}
-use borrow.Author.Rules.{rules}
 use lib.Count.{count_leading_zeros}
 use native.Mathlib.Omega.{arith}
 use Rattle.floats.proofs.bits.narrow_finite.Goals as goal

@@ -1,6 +1,5 @@
 -- `floats::bits::narrow_magnitude` meets its contract (`proofs/Narrow.antt`). Assumes nothing.
 use Rattle.floats.proofs.Narrow.{narrowed_sub, narrowed_normal, narrowed_inf}
-use borrow.Author.Rules.{rules}
 use native.Mathlib.Omega.{arith}
 use Rattle.floats.proofs.bits.narrow_magnitude.Goals as goal
 

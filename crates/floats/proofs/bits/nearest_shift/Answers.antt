@@ -1,6 +1,5 @@
 -- `floats::bits::nearest_shift` meets its contract (`proofs/Shift.antt`). Assumes nothing.
 use Rattle.floats.proofs.Shift.{sub_ok, below, above, at, small}
-use borrow.Author.Rules.{rules}
 use native.Mathlib.Omega.{arith}
 use Rattle.floats.proofs.bits.nearest_shift.Goals as goal
 

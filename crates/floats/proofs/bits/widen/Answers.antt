@@ -3,7 +3,6 @@ use Prim.Native.Nat.{◌^◌}
 use Rattle.floats.proofs.Model.{signed_neg, signed_pos}
 use Rattle.floats.proofs.Widen.{widened_nan}
 use Rattle.rules.specs.Floats.{widened}
-use borrow.Author.Rules.{rules}
 use lib.Ieee.{binary32, binary64, to_bits}
 use native.Mathlib.Omega.{arith}
 use Rattle.floats.proofs.bits.widen.Goals as goal

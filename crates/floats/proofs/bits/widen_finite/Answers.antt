@@ -1,7 +1,6 @@
 -- `floats::bits::widen_finite` meets its contract (`proofs/Widen.antt`). Assumes nothing.
 use Rattle.std.proofs.Common.{◌≡◌, ℕ, ◌<◌, ◌≤◌, ◌^◌}
 use Rattle.floats.proofs.Widen.{zeros, widened, widened_zero}
-use borrow.Author.Rules.{rules}
 use lib.Count.{count_leading_zeros}
 use native.Mathlib.Omega.{arith}
 use Rattle.floats.proofs.bits.widen_finite.Goals as goal

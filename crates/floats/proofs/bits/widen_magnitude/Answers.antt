@@ -1,6 +1,5 @@
 -- `floats::bits::widen_magnitude` meets its contract (`proofs/Widen.antt`). Assumes nothing.
 use Rattle.floats.proofs.Widen.{widened_low, widened_high, widened_inf}
-use borrow.Author.Rules.{rules}
 use native.Mathlib.Omega.{arith}
 use Rattle.floats.proofs.bits.widen_magnitude.Goals as goal
 

@@ -1,6 +1,5 @@
 -- `floats::sums::add` meets its contract. Assumes nothing.
 use Rattle.rules.specs.Floats.{plus}
-use borrow.Author.Rules.{rules}
 use lib.Ieee.{Float, binary64, add}
 use mathlib.Core.Path.{ap}
 use Rattle.floats.proofs.sums.add.Goals as goal

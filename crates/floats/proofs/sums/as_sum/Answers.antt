@@ -1,6 +1,5 @@
 -- `floats::sums::as_sum` meets its contract (`proofs/Nans.antt`). Assumes nothing.
 use Rattle.floats.proofs.Nans.{no_nan, widened_back, widened_nan_back}
-use borrow.Author.Rules.{rules}
 use lib.Ieee.{binary64}
 use Rattle.floats.proofs.sums.as_sum.Goals as goal
 

@@ -1,7 +1,6 @@
 -- `floats::sums::rounded_bits` meets its contract (`proofs/Nans.antt`). Assumes nothing.
 use Rattle.floats.proofs.Nans.{not_nan, is_nan_lem, nan_rounded}
 use Rattle.rules.specs.Floats.{narrowed}
-use borrow.Author.Rules.{rules}
 use lib.Dec.{T}
 use lib.Ieee.Bits.{of_bits-to_bits}
 use lib.Ieee.{binary64}

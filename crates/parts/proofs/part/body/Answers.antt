@@ -1,6 +1,5 @@
 -- `parts::part::body` meets its contract.
 use Rattle.rules.proofs.Stored.Parts as parts
-use borrow.Author.Rules.{rules}
 use native.Mathlib.Omega.{arith}
 use Rattle.parts.proofs.part.body.Goals as goal
 

@@ -4,7 +4,6 @@ use Rattle.rules.proofs.Chains as chains
 use Rattle.rules.proofs.Stored.Parts as parts
 use Rattle.rules.specs.Bytes.{is_field}
 use Rattle.rules.specs.Numbers.{field_tag}
-use borrow.Author.Rules.{rules}
 use mathlib.Core.Path.{ap, ◌∙◌}
 use Rattle.parts.proofs.part.is_field_part.Goals as goal
 

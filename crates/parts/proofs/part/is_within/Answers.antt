@@ -2,7 +2,6 @@
 use Rattle.rules.proofs.Bools as bools
 use Rattle.rules.proofs.Chains as chains
 use Rattle.rules.proofs.Stored.Parts as parts
-use borrow.Author.Rules.{rules}
 use native.Mathlib.Omega.{arith}
 use Rattle.parts.proofs.part.is_within.Goals as goal
 

@@ -1,6 +1,5 @@
 -- `parts::part::rest` meets its contract.
 use Rattle.rules.proofs.Stored.Parts as parts
-use borrow.Author.Rules.{rules}
 use native.Mathlib.Omega.{arith}
 use Rattle.parts.proofs.part.rest.Goals as goal
 

@@ -1,7 +1,6 @@
 -- `parts::part::whole` meets its contract.
 use Rattle.rules.proofs.Stored.Parts as parts
 use Rattle.rules.specs.Bytes.{whole_of}
-use borrow.Author.Rules.{rules}
 use mathlib.Core.Path.{sym}
 use native.Mathlib.Omega.{arith}
 use Rattle.parts.proofs.part.whole.Goals as goal

@@ -1,6 +1,5 @@
 -- `parts::write::put_header` meets its contract.
 use Rattle.numbers.proofs.Laying as laying
-use borrow.Author.Rules.{rules}
 use lib.ListN.{length-set}
 use mathlib.Core.Path.{refl}
 use native.Mathlib.Omega.{arith}

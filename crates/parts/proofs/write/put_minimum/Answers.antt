@@ -1,6 +1,5 @@
 -- `parts::write::put_minimum` meets its contract.
 use Rattle.numbers.proofs.Laying as laying
-use borrow.Author.Rules.{rules}
 use mathlib.Core.Path.{refl}
 use native.Mathlib.Omega.{arith}
 use Rattle.parts.proofs.write.put_minimum.Goals as goal

@@ -1,6 +1,5 @@
 -- `parts::write::put_part` meets its contract.
 use Rattle.numbers.proofs.Laying as laying
-use borrow.Author.Rules.{rules}
 use mathlib.Core.Path.{refl}
 use native.Mathlib.Omega.{arith}
 use Rattle.parts.proofs.write.put_part.Goals as goal
