@@ -1,6 +1,5 @@
 -- `counted::query_len` meets its contract.
 use Rattle.counted.proofs.Keeping.{length_none, length_alone, length_several}
-use borrow.Author.Rules.{rules}
 use mathlib.Core.Path.{sym, ◌∙◌}
 use native.Mathlib.Omega.{arith}
 use Rattle.counted.proofs.query_len.Goals as goal

@@ -1,6 +1,5 @@
 -- `gorbihesh::gorbihesh_parse` meets its contract.
 use Rattle.gorbihesh.proofs.Edge.{parse_short, parse_near, parse_left_lem, parse_refused}
-use borrow.Author.Rules.{rules}
 use native.Mathlib.Omega.{arith}
 use Rattle.gorbihesh.proofs.gorbihesh_parse.Goals as goal
 

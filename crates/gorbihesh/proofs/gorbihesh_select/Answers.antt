@@ -1,6 +1,5 @@
 -- `gorbihesh::gorbihesh_select` meets its contract.
 use Rattle.gorbihesh.proofs.Edge.{select_few, select_left_lem, select_refused}
-use borrow.Author.Rules.{rules}
 use native.Mathlib.Omega.{arith}
 use Rattle.gorbihesh.proofs.gorbihesh_select.Goals as goal
 

@@ -1,6 +1,5 @@
 -- `gorbihesh::rewrite_by` meets its contract.
 use Rattle.gorbihesh.proofs.Edge.{rewrite_short, rewrite_few, rewrite_left_lem}
-use borrow.Author.Rules.{rules}
 use native.Mathlib.Omega.{arith}
 use Rattle.gorbihesh.proofs.rewrite_by.Goals as goal
 

@@ -1,7 +1,6 @@
 -- `put_token` meets its contract: four stores in a row lay the token's four bytes, and nothing else changes. Assumes nothing.
 use Prim.Native.Nat.{◌+◌, ◌*◌}
 use Rattle.row.proofs.Rows.{four}
-use borrow.Author.Rules.{rules}
 use lib.ListN.{length-set}
 use native.Mathlib.Omega.{arith}
 use Rattle.lexer.proofs.put_token.Goals as goal

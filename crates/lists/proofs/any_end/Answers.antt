@@ -3,7 +3,6 @@ use Rattle.lists.proofs.Lister as lister
 use Rattle.rules.proofs.Bools as bools
 use Rattle.rules.proofs.Choosing.Entries as entries
 use Rattle.rules.proofs.Stored.Parts as parts
-use borrow.Author.Rules.{rules}
 use mathlib.Core.Path.{sym, ap, ◌∙◌}
 use native.Mathlib.Omega.{arith}
 use Rattle.lists.proofs.any_end.Goals as goal

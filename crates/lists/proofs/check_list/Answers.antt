@@ -1,6 +1,5 @@
 -- `lists::check_list` meets its contract.
 use Rattle.rules.proofs.Choosing.Entries as entries
-use borrow.Author.Rules.{rules}
 use mathlib.Core.Path.{sym, ◌∙◌}
 use Rattle.lists.proofs.check_list.Goals as goal
 

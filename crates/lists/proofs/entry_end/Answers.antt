@@ -1,6 +1,4 @@
 -- `lists::entry_end` meets its contract.
-use borrow.Author.Rules.{rules}
-use native.Mathlib.Omega.{arith}
 use Rattle.lists.proofs.entry_end.Goals as goal
 
 pub returns-then-e-gt0 : goal.returns-then-e-gt0

@@ -6,7 +6,6 @@ use Rattle.rules.proofs.Stored.Parts as parts
 use Rattle.rules.specs.Lists.{is_field_with}
 use Rattle.rules.specs.Numbers.{place_tag, whole_tag, float_tag}
 use Rattle.rules.specs.Query.{whole, float}
-use borrow.Author.Rules.{rules}
 use mathlib.Core.Path.{sym, ap, ◌∙◌}
 use native.Mathlib.Omega.{arith}
 use Rattle.lists.proofs.is_any_entry.Goals as goal

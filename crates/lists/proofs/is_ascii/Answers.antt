@@ -1,9 +1,7 @@
 use Rattle.lists.proofs.Lister as lister
 use Rattle.rules.proofs.Bools as bools
-use borrow.Author.Rules.{rules}
 use borrow.Author.Tests.{eqb-true}
-use mathlib.Core.Path.{refl, sym, ◌∙◌}
-use native.Mathlib.Omega.{arith}
+use mathlib.Core.Path.{refl}
 use Rattle.lists.proofs.is_ascii.Goals as goal
 
 pub returns-then-tops8-ne0 : goal.returns-then-tops8-ne0

@@ -3,9 +3,7 @@ use Rattle.rules.proofs.Stored.Parts as parts
 use Rattle.rules.proofs.Stored.Rows as rows
 use Rattle.rules.specs.Bytes.{every}
 use Rattle.rules.specs.Lists.{is_entry}
-use borrow.Author.Rules.{rules}
-use lib.ListN.{length}
-use mathlib.Core.Path.{◌≡◌, refl, sym, ap, ◌∙◌}
+use mathlib.Core.Path.{refl, sym, ap, ◌∙◌}
 use Rattle.lists.proofs.is_entries.Goals as goal
 
 pub loop-t-init : goal.loop-t-init

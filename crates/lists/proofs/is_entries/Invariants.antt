@@ -1,11 +1,7 @@
-use Rattle.lists.proofs.Lister as lister
-use Rattle.rules.proofs.Stored.Parts as parts
-use Rattle.rules.proofs.Stored.Rows as rows
 use Rattle.rules.specs.Bytes.{every}
 use Rattle.rules.specs.Lists.{is_entry}
-use borrow.Author.Rules.{rules}
 use lib.ListN.{length}
-use mathlib.Core.Path.{◌≡◌, refl, sym, ap, ◌∙◌}
+use mathlib.Core.Path.{◌≡◌}
 use Rattle.lists.proofs.is_entries.Given as goal
 
 abbrev pub invariant-loop-t : goal.invariant-loop-t

@@ -5,7 +5,6 @@ use Rattle.rules.proofs.Bools as bools
 use Rattle.rules.proofs.Chains as chains
 use Rattle.rules.specs.Bytes.{rest_of}
 use Rattle.stored.proofs.Reader as reader
-use borrow.Author.Rules.{rules}
 use mathlib.Core.Path.{ap, ◌∙◌}
 use Rattle.lists.proofs.is_fielded.Goals as goal
 

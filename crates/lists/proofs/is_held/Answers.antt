@@ -1,5 +1,4 @@
 -- `lists::is_held` meets its contract.
-use borrow.Author.Rules.{rules}
 use borrow.Author.Tests.{eq-eqb, ne_eqb}
 use mathlib.Core.Path.{sym, ◌∙◌}
 use Rattle.lists.proofs.is_held.Goals as goal

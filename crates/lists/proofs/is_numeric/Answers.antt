@@ -1,8 +1,6 @@
 use Rattle.rules.proofs.Bools as bools
-use borrow.Author.Rules.{rules}
 use borrow.Author.Tests.{eq-eqb, ne_eqb}
-use mathlib.Core.Path.{sym, refl}
-use native.Mathlib.Omega.{arith}
+use mathlib.Core.Path.{sym}
 use Rattle.lists.proofs.is_numeric.Goals as goal
 
 pub returns-then-tag-eq-WHOLE_TAG : goal.returns-then-tag-eq-WHOLE_TAG

@@ -5,7 +5,6 @@ use Rattle.rules.proofs.Stored.Parts as parts
 use Rattle.rules.specs.Bytes.{every}
 use Rattle.rules.specs.Lists.{is_entry, is_record}
 use Rattle.rules.specs.Numbers.{record_tag}
-use borrow.Author.Rules.{rules}
 use mathlib.Core.Path.{ap, ◌∙◌}
 use Rattle.lists.proofs.is_record.Goals as goal
 

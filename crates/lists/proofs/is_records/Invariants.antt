@@ -1,13 +1,8 @@
 -- `lists::is_records` meets its contract.
-use Rattle.rules.proofs.Bools as bools
-use Rattle.rules.proofs.Choosing.Entries as entries
-use Rattle.rules.proofs.Stored.Parts as parts
-use Rattle.rules.proofs.Stored.Rows as rows
 use Rattle.rules.specs.Bytes.{every}
 use Rattle.rules.specs.Lists.{is_record}
-use borrow.Author.Rules.{rules}
 use lib.ListN.{length}
-use mathlib.Core.Path.{◌≡◌, refl, sym, ap, ◌∙◌}
+use mathlib.Core.Path.{◌≡◌}
 use Rattle.lists.proofs.is_records.Given as goal
 
 abbrev pub invariant-loop-t : goal.invariant-loop-t

@@ -1,8 +1,6 @@
 use Rattle.lists.proofs.Lister as lister
 use Rattle.rules.proofs.Bools as bools
-use borrow.Author.Rules.{rules}
-use mathlib.Core.Path.{refl, sym, ap, ◌∙◌}
-use native.Mathlib.Omega.{arith}
+use mathlib.Core.Path.{refl, sym, ◌∙◌}
 use Rattle.lists.proofs.is_short.Goals as goal
 
 pub returns-then-tag-eq-PLACE_TAG : goal.returns-then-tag-eq-PLACE_TAG

@@ -1,6 +1,5 @@
 use Prim.Native.Nat.{◌-◌}
 use Rattle.lists.proofs.Lister as lister
-use borrow.Author.Rules.{rules}
 use lib.ListN.{length-take}
 use native.Mathlib.Omega.{arith}
 use Rattle.lists.proofs.quick_end.Goals as goal

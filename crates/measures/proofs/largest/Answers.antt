@@ -1,10 +1,8 @@
 -- `measures::largest` meets its contract.
-use Prim.Native.Nat.{ℕ, ◌+◌}
+use Prim.Native.Nat.{◌+◌}
 use Rattle.measures.proofs.Walking as walking
 use Rattle.measures.specs.Measure.{worth_of}
 use Rattle.rules.specs.Bytes.{tag_of}
-use borrow.Author.Rules.{rules}
-use lib.ListN.{length}
 use native.Mathlib.Omega.{arith}
 use Rattle.measures.proofs.largest.Goals as goal
 

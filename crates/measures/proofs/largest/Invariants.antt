@@ -1,11 +1,7 @@
 -- `measures::largest` meets its contract.
-use Prim.Native.Nat.{ℕ, ◌+◌}
+use Prim.Native.Nat.{ℕ}
 use Rattle.measures.proofs.Walking as walking
-use Rattle.measures.specs.Measure.{worth_of}
-use Rattle.rules.specs.Bytes.{tag_of}
-use borrow.Author.Rules.{rules}
 use lib.ListN.{length}
-use native.Mathlib.Omega.{arith}
 use Rattle.measures.proofs.largest.Given as goal
 
 abbrev pub invariant-loop-t : goal.invariant-loop-t

@@ -2,7 +2,6 @@
 use Prim.Native.Nat.{ℕ}
 use Rattle.rules.proofs.Stored.Parts as parts
 use Rattle.rules.specs.Bytes.{of_big}
-use borrow.Author.Rules.{rules}
 use borrow.Author.Tests.{eq-eqb, ne_eqb}
 use lib.ListN.{take}
 use mathlib.Core.List.{List}

@@ -1,7 +1,6 @@
 -- `measures::onward` meets its contract.
 use Prim.Native.Nat.{ℕ}
 use Rattle.rules.proofs.Stored.Parts as parts
-use borrow.Author.Rules.{rules}
 use lib.ListN.{drop}
 use mathlib.Core.Path.{ap, ◌∙◌}
 use native.Mathlib.Omega.{arith}

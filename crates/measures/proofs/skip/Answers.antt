@@ -1,6 +1,5 @@
 -- `measures::skip` meets its contract.
 use Rattle.measures.proofs.Walking as walking
-use borrow.Author.Rules.{rules}
 use borrow.Author.Tests.{eq-eqb, le-leb, lt-leb}
 use mathlib.Core.Path.{sym, ◌∙◌}
 use native.Mathlib.Omega.{arith}

@@ -1,10 +1,7 @@
 -- `measures::weight` meets its contract.
-use Prim.Native.Nat.{ℕ, max}
+use Prim.Native.Nat.{ℕ}
 use Rattle.measures.proofs.Walking as walking
-use Rattle.measures.specs.Measure.{least_of}
-use borrow.Author.Rules.{rules}
 use lib.ListN.{length}
-use native.Mathlib.Omega.{arith}
 use Rattle.measures.proofs.weight.Given as goal
 
 abbrev pub invariant-loop-t : goal.invariant-loop-t

@@ -1,6 +1,5 @@
 -- `probe::probe_numeral` meets its contract: in each arm the answer is the one that was matched. Assumes nothing.
 use Rattle.probe.specs.Packed.{packed}
-use borrow.Author.Rules.{rules}
 use mathlib.Core.Path.{sym, ap, ◌∙◌}
 use Rattle.probe.proofs.probe_numeral.Goals as goal
 

@@ -4,7 +4,6 @@ use Rattle.probe_selection.specs.Probe.{packed}
 use Rattle.selection.specs.Select.{told}
 use Rattle.selection.specs.declared.select.Selected.TheVariants.{Refused, Chosen}
 use Rattle.selection.specs.declared.select.Selected.{Selected}
-use borrow.Author.Rules.{rules}
 use mathlib.Core.Path.{◌≡◌, sym, ap, ◌∙◌}
 use native.Mathlib.Omega.{arith}
 use Rattle.probe_selection.proofs.probe_select_bytes.Goals as goal

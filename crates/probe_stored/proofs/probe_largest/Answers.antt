@@ -1,6 +1,5 @@
 -- `probe_stored::probe_largest` meets its contract.
 use Rattle.probe_stored.proofs.Probing as probing
-use borrow.Author.Rules.{rules}
 use native.Mathlib.Omega.{arith}
 use Rattle.probe_stored.proofs.probe_largest.Goals as goal
 

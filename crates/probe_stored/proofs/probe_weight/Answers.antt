@@ -1,6 +1,5 @@
 -- `probe_stored::probe_weight` meets its contract.
 use Rattle.probe_stored.proofs.Probing as probing
-use borrow.Author.Rules.{rules}
 use native.Mathlib.Omega.{arith}
 use Rattle.probe_stored.proofs.probe_weight.Goals as goal
 

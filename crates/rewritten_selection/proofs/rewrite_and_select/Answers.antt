@@ -3,7 +3,6 @@ use Prim.Native.Nat.{ℕ}
 use Rattle.rewritten_selection.proofs.Choosing as choosing
 use Rattle.rules.specs.Answers.{zeros}
 use Rattle.selection.specs.declared.select.Selected.{Selected}
-use borrow.Author.Rules.{rules}
 use lib.ListN.{replicate}
 use mathlib.Core.Path.{refl, sym, ap, ◌∙◌}
 use native.Mathlib.Omega.{arith}

@@ -1,7 +1,6 @@
 -- `row::field_part` meets its contract: the default field, or the text of the token before `from`. Assumes nothing.
 use Prim.Native.Nat.{◌-◌}
 use Rattle.row.proofs.Rows.{name_token}
-use borrow.Author.Rules.{rules}
 use mathlib.Core.Path.{sym, ◌∙◌}
 use native.Mathlib.Omega.{arith}
 use Rattle.row.proofs.field_part.Goals as goal

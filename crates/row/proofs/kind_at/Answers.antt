@@ -2,7 +2,6 @@
 use Rattle.row.proofs.Rows.{token_is, token_none}
 use Rattle.row.specs.Row.{token_at}
 use Rattle.rules.specs.Lexing.{Token}
-use borrow.Author.Rules.{rules}
 use mathlib.Core.Path.{sym, ap}
 use native.Mathlib.Omega.{arith}
 use Rattle.row.proofs.kind_at.Goals as goal

@@ -2,9 +2,7 @@
 use Rattle.row.proofs.Rows.{token_is, token_none}
 use Rattle.row.specs.Row.{token_at}
 use Rattle.rules.specs.Lexing.{Token}
-use borrow.Author.Rules.{rules}
 use mathlib.Core.Path.{sym, ap, ◌∙◌}
-use native.Mathlib.Omega.{arith}
 use Rattle.row.proofs.place_at.Goals as goal
 
 pub returns-then-i-n : goal.returns-then-i-n

@@ -1,6 +1,5 @@
 -- `row::put_note` meets its contract: one store. Assumes nothing.
 use Rattle.row.proofs.Noting.{renoted}
-use borrow.Author.Rules.{rules}
 use native.Mathlib.Omega.{arith}
 use Rattle.row.proofs.put_note.Goals as goal
 

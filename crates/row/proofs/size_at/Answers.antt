@@ -1,6 +1,5 @@
 -- `row::size_at` meets its contract: the length of the token's bytes. Assumes nothing.
 use Prim.Native.Nat.{◌+◌, ◌*◌}
-use borrow.Author.Rules.{rules}
 use native.Mathlib.Omega.{arith}
 use Rattle.row.proofs.size_at.Goals as goal
 

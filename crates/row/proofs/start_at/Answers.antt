@@ -1,6 +1,5 @@
 -- `row::start_at` meets its contract: the place of the token's bytes. Assumes nothing.
 use Prim.Native.Nat.{◌+◌, ◌*◌}
-use borrow.Author.Rules.{rules}
 use native.Mathlib.Omega.{arith}
 use Rattle.row.proofs.start_at.Goals as goal
 

@@ -1,6 +1,5 @@
 -- `row::text_at` meets its contract: the part that the token's bytes name lies within the room. Assumes nothing.
 use Rattle.row.specs.Row.{token_at}
-use borrow.Author.Rules.{rules}
 use native.Mathlib.Nat.{add-sub_cancel_left}
 use native.Mathlib.Omega.{arith}
 use Rattle.row.proofs.text_at.Goals as goal

@@ -1,8 +1,8 @@
 -- `texts::read_letters` meets its contract. The loop's invariant: the room holds letters from `at` on, as the text does. The measure is what is left of the text. Assumes nothing.
 use Prim.Native.Nat.{◌-◌}
 use Rattle.texts.proofs.Flags.{text_byte, letter_told, letter_goes_on}
-use Rattle.texts.proofs.Unescaped.{Spelling, spelling_none, spelling_more, spelling_over}
-use lib.ListN.{length, get_or}
+use Rattle.texts.proofs.Unescaped.{spelling_none, spelling_more, spelling_over}
+use lib.ListN.{get_or}
 use native.Mathlib.Omega.{arith}
 use Rattle.texts.proofs.read_letters.Goals as goal
 

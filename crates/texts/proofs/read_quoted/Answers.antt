@@ -3,10 +3,9 @@ use Prim.Native.Nat.{◌+◌, ◌-◌}
 use Rattle.rules.proofs.Text.Tokenizing.{quoted_unescapes}
 use Rattle.rules.specs.Lexing.{quoted_text, is_quote, is_backslash}
 use Rattle.rules.specs.Numbers.{open_quote}
-use Rattle.texts.proofs.Unescaped.{Reading, reading_none, reading_at, reading_fault, reading_turn, reading_dangling, escape_most, quote_ends, quote_over}
-use borrow.Author.Rules.{rules}
+use Rattle.texts.proofs.Unescaped.{reading_none, reading_at, reading_fault, reading_turn, reading_dangling, escape_most, quote_ends, quote_over}
 use borrow.Author.Tests.{eq-eqb, ne_eqb}
-use lib.ListN.{length, get_or, drop}
+use lib.ListN.{length, get_or}
 use native.Mathlib.Omega.{arith}
 use Rattle.texts.proofs.read_quoted.Goals as goal
 

@@ -3,13 +3,10 @@ use Prim.Native.Nat.{◌+◌, ◌-◌}
 use Rattle.rules.proofs.Text.Tokenizing.{term_unescapes}
 use Rattle.rules.specs.Analysis.{ends_term}
 use Rattle.rules.specs.Lexing.{term_text}
-use Rattle.rules.specs.Numbers.{on_read}
 use Rattle.texts.proofs.Flags.{text_byte, end_told, no_end_told}
-use Rattle.texts.proofs.Unescaped.{Reading, reading_on, reading_at, reading_turn, reading_dangling, term_ends, term_over}
-use Rattle.texts.specs.Texts.{on_front}
-use borrow.Author.Rules.{rules}
+use Rattle.texts.proofs.Unescaped.{reading_on, reading_at, reading_turn, reading_dangling, term_ends, term_over}
 use borrow.Author.Tests.{eq-eqb, ne_eqb}
-use lib.ListN.{length, get_or, take, drop}
+use lib.ListN.{length, get_or}
 use mathlib.Core.Path.{◌≡◌}
 use native.Mathlib.Omega.{arith}
 use Rattle.texts.proofs.read_rest.Goals as goal

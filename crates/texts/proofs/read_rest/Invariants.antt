@@ -1,17 +1,10 @@
 -- `texts::read_rest` meets its contract. The loop's invariant: what the room holds from `at` on, before what is still to be read, is the term. The measure is what is left of the text. Assumes nothing.
-use Prim.Native.Nat.{◌+◌, ◌-◌}
-use Rattle.rules.proofs.Text.Tokenizing.{term_unescapes}
-use Rattle.rules.specs.Analysis.{ends_term}
+use Prim.Native.Nat.{◌-◌}
 use Rattle.rules.specs.Lexing.{term_text}
 use Rattle.rules.specs.Numbers.{on_read}
-use Rattle.texts.proofs.Flags.{text_byte, end_told, no_end_told}
-use Rattle.texts.proofs.Unescaped.{Reading, reading_on, reading_at, reading_turn, reading_dangling, term_ends, term_over}
+use Rattle.texts.proofs.Unescaped.{Reading}
 use Rattle.texts.specs.Texts.{on_front}
-use borrow.Author.Rules.{rules}
-use borrow.Author.Tests.{eq-eqb, ne_eqb}
-use lib.ListN.{length, get_or, take, drop}
-use mathlib.Core.Path.{◌≡◌}
-use native.Mathlib.Omega.{arith}
+use lib.ListN.{length, take, drop}
 use Rattle.texts.proofs.read_rest.Given as goal
 
 abbrev pub invariant-loop-i : goal.invariant-loop-i

@@ -1,7 +1,6 @@
 -- `texts::read_term` meets its contract: the letters are the term, or it is read on behind them. Assumes nothing.
 use Rattle.texts.proofs.Flags.{text_byte, end_told}
 use Rattle.texts.proofs.Unescaped.{letters_only, letters_first, kept_both, term_ends, term_over}
-use borrow.Author.Rules.{rules}
 use lib.ListN.{get_or}
 use Rattle.texts.proofs.read_term.Goals as goal
 

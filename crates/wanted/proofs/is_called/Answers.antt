@@ -2,7 +2,6 @@
 use Rattle.rules.proofs.Bools as bools
 use Rattle.rules.specs.Lists.{entry_of}
 use Rattle.wanted.proofs.Marking as marking
-use borrow.Author.Rules.{rules}
 use mathlib.Core.Path.{◌∙◌}
 use Rattle.wanted.proofs.is_called.Goals as goal
 

@@ -1,7 +1,6 @@
 -- `wanted::is_marked` meets its contract.
 use Rattle.rules.proofs.Bools as bools
 use Rattle.wanted.proofs.Marking as marking
-use borrow.Author.Rules.{rules}
 use borrow.Author.Tests.{eq-eqb}
 use mathlib.Core.Path.{sym, ◌∙◌}
 use Rattle.wanted.proofs.is_marked.Goals as goal

@@ -3,7 +3,6 @@ use Rattle.rules.proofs.Bools as bools
 use Rattle.rules.proofs.Stored.Parts as parts
 use Rattle.rules.specs.Numbers.{field_tag}
 use Rattle.wanted.proofs.Marking as marking
-use borrow.Author.Rules.{rules}
 use Rattle.wanted.proofs.look.Goals as goal
 
 pub returns-then-not-is_part : goal.returns-then-not-is_part

@@ -3,7 +3,6 @@ use Rattle.rules.proofs.Bools as bools
 use Rattle.rules.proofs.Stored.Parts as parts
 use Rattle.rules.specs.Numbers.{text_tag, word_tag}
 use Rattle.wanted.proofs.Marking as marking
-use borrow.Author.Rules.{rules}
 use lib.ListN.{drop}
 use mathlib.Core.Path.{sym, ap, ◌∙◌}
 use Rattle.wanted.proofs.look_behind.Goals as goal

@@ -1,6 +1,5 @@
 -- `wanted::mark` meets its contract.
 use Rattle.wanted.proofs.Marking as marking
-use borrow.Author.Rules.{rules}
 use mathlib.Core.Path.{refl}
 use Rattle.wanted.proofs.mark.Goals as goal
 

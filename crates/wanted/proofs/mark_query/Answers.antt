@@ -1,8 +1,6 @@
 -- `wanted::mark_query` meets its contract.
 use Rattle.rules.proofs.Stored.Parts as parts
 use Rattle.wanted.proofs.Marking as marking
-use borrow.Author.Rules.{rules}
-use lib.ListN.{length}
 use mathlib.Core.Path.{sym, ◌∙◌}
 use Rattle.wanted.proofs.mark_query.Goals as goal
 

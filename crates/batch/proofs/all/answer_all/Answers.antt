@@ -1,7 +1,5 @@
 use Prim.Native.Nat.{ℕ}
 use Rattle.batch.proofs.Leaving as leaving
-use borrow.Author.Rules.{rules}
-use lib.ListN.{length}
 use lib.ListN.{replicate}
 use mathlib.Core.Path.{refl, sym, ap, ◌∙◌}
 use mathlib.Core.Path.{refl, sym, ◌∙◌}

@@ -1,6 +1,5 @@
 use Rattle.rules.proofs.Stored.Accepted as checked
 use Rattle.selection.proofs.Selections as selections
-use borrow.Author.Rules.{rules}
 use mathlib.Core.Path.{refl, sym, ◌∙◌}
 use native.Mathlib.Omega.{arith}
 use Rattle.batch.proofs.all.prepare.Goals as goal

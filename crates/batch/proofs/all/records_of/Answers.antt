@@ -1,6 +1,4 @@
 use Rattle.rules.proofs.Stored.Accepted as checked
-use borrow.Author.Rules.{rules}
-use native.Mathlib.Omega.{arith}
 use Rattle.batch.proofs.all.records_of.Goals as goal
 
 pub returns-then-verdict-ne0 : goal.returns-then-verdict-ne0

@@ -1,8 +1,6 @@
 use Rattle.batch.proofs.Cutting as cutting
 use Rattle.batch.proofs.Leaving as leaving
-use borrow.Author.Rules.{rules}
-use mathlib.Core.Path.{sym, ◌∙◌}
-use native.Mathlib.Omega.{arith}
+use mathlib.Core.Path.{◌∙◌}
 use Rattle.batch.proofs.all.select_all.Goals as goal
 
 pub returns-then-room-lt-SELECT_ALL_ROOM : goal.returns-then-room-lt-SELECT_ALL_ROOM

@@ -1,15 +1,12 @@
-use Prim.Native.Nat.{ℕ, ◌+◌, ◌-◌, ◌≤◌}
+use Prim.Native.Nat.{◌-◌, ◌≤◌}
 use Prim.Native.Nat.{◌-◌, ◌≤◌}
 use Rattle.batch.proofs.Cutting as cutting
 use Rattle.batch.proofs.Turning as turning
 use Rattle.batch.specs.Cut.{queries_of}
-use Rattle.rules.proofs.Stored.Parts as parts
 use Rattle.rules.specs.Numbers.{selection_depth}
-use borrow.Author.Rules.{rules}
-use lib.ListN.{length, drop}
 use lib.ListN.{length}
-use mathlib.Core.Path.{◌≡◌, refl, sym, ap, ◌∙◌}
-use native.Mathlib.Omega.{arith}
+use lib.ListN.{length}
+use mathlib.Core.Path.{◌≡◌}
 use Rattle.batch.proofs.all.turn_all.Given as goal
 
 abbrev pub invariant-loop-i : goal.invariant-loop-i

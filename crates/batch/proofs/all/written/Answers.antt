@@ -1,7 +1,6 @@
 use Rattle.batch.proofs.Turning as turning
 use Rattle.selection.specs.Select.{told}
 use Rattle.selection.specs.declared.select.Selected.{Selected}
-use borrow.Author.Rules.{rules}
 use mathlib.Core.Path.{sym, ap}
 use native.Mathlib.Omega.{arith}
 use Rattle.batch.proofs.all.written.Goals as goal

@@ -1,16 +1,11 @@
 use Prim.Native.Nat.{◌-◌, ◌≤◌, ◌<◌, ◌^◌}
-use Rattle.batch.proofs.Asking as asking
 use Rattle.batch.proofs.Cutting as cutting
-use Rattle.batch.proofs.Pushing as pushing
 use Rattle.batch.specs.Ask.{Told}
 use Rattle.batch.specs.Cut.{queries_of}
 use Rattle.rules.specs.Bytes.{each}
 use Rattle.rules.specs.Lists.{entry_of}
-use borrow.Author.Rules.{rules}
-use lib.ListN.{length, get_or}
-use lib.Pow.{pow_mono}
-use mathlib.Core.Path.{◌≡◌, refl, ◌∙◌}
-use native.Mathlib.Omega.{arith}
+use lib.ListN.{length}
+use mathlib.Core.Path.{◌≡◌}
 use Rattle.batch.proofs.ask.ask.Given as goal
 
 abbrev pub invariant-loop-i : goal.invariant-loop-i

@@ -1,14 +1,7 @@
-use Prim.Native.Nat.{◌≤◌}
 use Rattle.batch.proofs.Asking as asking
-use Rattle.batch.specs.Ask.{kept, Table}
-use Rattle.batch.specs.Cut.{queries_of}
-use Rattle.entries.specs.Slots.{Before}
 use Rattle.rules.proofs.Stored.Parts as parts
-use Rattle.rules.specs.Numbers.{selection_depth}
 use Rattle.selection.proofs.Selections as selections
-use borrow.Author.Rules.{rules}
-use lib.ListN.{length, length-replicate}
-use mathlib.Core.Path.{◌≡◌, refl, sym, ◌∙◌}
+use mathlib.Core.Path.{refl, sym, ◌∙◌}
 use native.Mathlib.Omega.{arith}
 use Rattle.batch.proofs.ask.keep.Goals as goal
 

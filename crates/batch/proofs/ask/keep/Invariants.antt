@@ -3,13 +3,10 @@ use Rattle.batch.proofs.Asking as asking
 use Rattle.batch.specs.Ask.{kept, Table}
 use Rattle.batch.specs.Cut.{queries_of}
 use Rattle.entries.specs.Slots.{Before}
-use Rattle.rules.proofs.Stored.Parts as parts
 use Rattle.rules.specs.Numbers.{selection_depth}
 use Rattle.selection.proofs.Selections as selections
-use borrow.Author.Rules.{rules}
-use lib.ListN.{length, length-replicate}
-use mathlib.Core.Path.{◌≡◌, refl, sym, ◌∙◌}
-use native.Mathlib.Omega.{arith}
+use lib.ListN.{length}
+use mathlib.Core.Path.{◌≡◌}
 use Rattle.batch.proofs.ask.keep.Given as goal
 
 abbrev pub invariant-loop-t : goal.invariant-loop-t

@@ -1,5 +1,4 @@
 use Rattle.batch.proofs.Planning as planning
-use borrow.Author.Rules.{rules}
 use borrow.Author.Tests.{not-true}
 use native.Mathlib.Omega.{arith}
 use Rattle.batch.proofs.ask.truth.Goals as goal

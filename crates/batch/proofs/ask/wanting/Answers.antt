@@ -1,7 +1,6 @@
 use Rattle.batch.proofs.Asking as asking
 use Rattle.rules.proofs.Bools as bools
 use Rattle.rules.specs.Lists.{entry_of}
-use borrow.Author.Rules.{rules}
 use native.Mathlib.Omega.{arith}
 use Rattle.batch.proofs.ask.wanting.Goals as goal
 

@@ -1,6 +1,4 @@
 use Rattle.batch.proofs.Cutting as cutting
-use borrow.Author.Rules.{rules}
-use native.Mathlib.Omega.{arith}
 use Rattle.batch.proofs.cut.is_first.Goals as goal
 
 pub returns-then-s-lt-LENGTH : goal.returns-then-s-lt-LENGTH

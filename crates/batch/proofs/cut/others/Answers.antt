@@ -1,6 +1,5 @@
 use Rattle.batch.proofs.Cutting as cutting
 use Rattle.rules.proofs.Stored.Cutting as cuts
-use borrow.Author.Rules.{rules}
 use native.Mathlib.Omega.{arith}
 use Rattle.batch.proofs.cut.others.Goals as goal
 

@@ -1,12 +1,8 @@
-use Prim.Native.Nat.{◌-◌, ◌≤◌}
+use Prim.Native.Nat.{◌-◌}
 use Rattle.batch.proofs.Cutting as cutting
 use Rattle.batch.proofs.Planning as planning
-use Rattle.batch.specs.Cut.{queries_of}
-use Rattle.batch.specs.Plan.{Planned}
-use Rattle.rules.specs.Numbers.{queries_most}
-use borrow.Author.Rules.{rules}
 use lib.ListN.{length, length-set}
-use mathlib.Core.Path.{◌≡◌, sym, refl, ◌∙◌, ap}
+use mathlib.Core.Path.{sym, refl, ◌∙◌}
 use native.Mathlib.Omega.{arith}
 use Rattle.batch.proofs.plan.plan.Goals as goal
 

@@ -1,13 +1,9 @@
 use Prim.Native.Nat.{◌-◌, ◌≤◌}
 use Rattle.batch.proofs.Cutting as cutting
-use Rattle.batch.proofs.Planning as planning
 use Rattle.batch.specs.Cut.{queries_of}
 use Rattle.batch.specs.Plan.{Planned}
-use Rattle.rules.specs.Numbers.{queries_most}
-use borrow.Author.Rules.{rules}
-use lib.ListN.{length, length-set}
-use mathlib.Core.Path.{◌≡◌, sym, refl, ◌∙◌, ap}
-use native.Mathlib.Omega.{arith}
+use lib.ListN.{length}
+use mathlib.Core.Path.{◌≡◌}
 use Rattle.batch.proofs.plan.plan.Given as goal
 
 abbrev pub invariant-loop-i : goal.invariant-loop-i

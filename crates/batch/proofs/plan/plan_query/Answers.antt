@@ -1,6 +1,4 @@
-use borrow.Author.Rules.{rules}
 use mathlib.Core.Path.{refl, sym}
-use native.Mathlib.Omega.{arith}
 use Rattle.batch.proofs.plan.plan_query.Goals as goal
 
 pub say-said-requires : goal.say-said-requires

@@ -1,6 +1,5 @@
 use Prim.Native.Nat.{ℕ}
 use Rattle.batch.proofs.Planning as planning
-use borrow.Author.Rules.{rules}
 use lib.ListN.{length-set}
 use lib.Seq.{get_or-set_other}
 use mathlib.Core.Path.{sym, ◌∙◌}

@@ -1,8 +1,6 @@
 use Prim.Native.Nat.{◌-◌}
 use Rattle.batch.proofs.Planning as planning
-use borrow.Author.Rules.{rules}
-use lib.ListN.{length}
-use mathlib.Core.Path.{sym, ◌∙◌, ap}
+use mathlib.Core.Path.{sym, ◌∙◌}
 use native.Mathlib.Omega.{arith}
 use Rattle.batch.proofs.plan.push_words.Goals as goal
 

@@ -1,7 +1,6 @@
 use Rattle.batch.proofs.Planning as planning
 use Rattle.rules.proofs.Stored.Rows as rows
 use Rattle.rules.specs.Lists.{is_entry, entry_of}
-use borrow.Author.Rules.{rules}
 use mathlib.Core.List.{[]}
 use mathlib.Core.Path.{refl}
 use native.Mathlib.Omega.{arith}

@@ -1,15 +1,8 @@
-use Prim.Native.Nat.{ℕ, ◌+◌, ◌≤◌}
 use Rattle.batch.proofs.Asking as asking
 use Rattle.rules.proofs.Stored.Parts as parts
-use Rattle.rules.specs.Bytes.{each}
-use Rattle.rules.specs.Checked.{Is}
-use Rattle.rules.specs.Lists.{record_of}
-use Rattle.rules.specs.Matching.{chosen_from, chosen}
-use Rattle.rules.specs.Query.{Query}
 use Rattle.selection.proofs.Selections as selections
-use borrow.Author.Rules.{rules}
 use lib.ListN.{length}
-use mathlib.Core.Path.{◌≡◌, refl, ap, ◌∙◌}
+use mathlib.Core.Path.{refl, ap, ◌∙◌}
 use native.Mathlib.Omega.{arith}
 use Rattle.batch.proofs.turn.count.Goals as goal
 

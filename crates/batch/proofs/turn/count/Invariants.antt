@@ -1,16 +1,12 @@
-use Prim.Native.Nat.{ℕ, ◌+◌, ◌≤◌}
+use Prim.Native.Nat.{◌+◌, ◌≤◌}
 use Rattle.batch.proofs.Asking as asking
-use Rattle.rules.proofs.Stored.Parts as parts
 use Rattle.rules.specs.Bytes.{each}
 use Rattle.rules.specs.Checked.{Is}
 use Rattle.rules.specs.Lists.{record_of}
 use Rattle.rules.specs.Matching.{chosen_from, chosen}
 use Rattle.rules.specs.Query.{Query}
-use Rattle.selection.proofs.Selections as selections
-use borrow.Author.Rules.{rules}
 use lib.ListN.{length}
-use mathlib.Core.Path.{◌≡◌, refl, ap, ◌∙◌}
-use native.Mathlib.Omega.{arith}
+use mathlib.Core.Path.{◌≡◌}
 use Rattle.batch.proofs.turn.count.Given as goal
 
 abbrev pub invariant-loop-t : goal.invariant-loop-t

@@ -5,11 +5,10 @@ use Rattle.rules.specs.Answers.{selected}
 use Rattle.rules.specs.Bytes.{big}
 use Rattle.selection.proofs.Selections as selections
 use Rattle.selection.specs.Select.{listed}
-use borrow.Author.Rules.{rules}
 use lib.ListN.{length, drop}
 use mathlib.Core.Bool.{true}
 use mathlib.Core.List.{List, ◌++◌}
-use mathlib.Core.Path.{◌≡◌, refl, ap, ◌∙◌}
+use mathlib.Core.Path.{refl, ap, ◌∙◌}
 use native.Mathlib.Omega.{arith}
 use Rattle.batch.proofs.turn.fill.Goals as goal
 

@@ -1,16 +1,8 @@
-use Prim.Native.Nat.{ℕ}
 use Rattle.batch.proofs.Asking as asking
-use Rattle.rules.proofs.Stored.Parts as parts
-use Rattle.rules.specs.Answers.{selected}
 use Rattle.rules.specs.Bytes.{big}
 use Rattle.selection.proofs.Selections as selections
-use Rattle.selection.specs.Select.{listed}
-use borrow.Author.Rules.{rules}
-use lib.ListN.{length, drop}
-use mathlib.Core.Bool.{true}
-use mathlib.Core.List.{List, ◌++◌}
-use mathlib.Core.Path.{◌≡◌, refl, ap, ◌∙◌}
-use native.Mathlib.Omega.{arith}
+use lib.ListN.{length}
+use mathlib.Core.Path.{◌≡◌}
 use Rattle.batch.proofs.turn.fill.Given as goal
 
 abbrev pub invariant-loop-t : goal.invariant-loop-t

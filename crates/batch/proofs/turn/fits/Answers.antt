@@ -1,5 +1,4 @@
 use Rattle.selection.proofs.Selections as selections
-use borrow.Author.Rules.{rules}
 use borrow.Author.Tests.{le-leb}
 use mathlib.Core.Path.{sym}
 use native.Mathlib.Omega.{arith}

@@ -3,9 +3,9 @@ use Rattle.batch.specs.Bits.{bit_at}
 use Rattle.rules.proofs.Stored.Parts as parts
 use Rattle.rules.specs.Bytes.{of_big}
 use borrow.Author.Rules.{rules}
-use lib.ListN.{take, length, drop}
+use lib.ListN.{take}
 use mathlib.Core.List.{List}
-use mathlib.Core.Path.{sym, ap, ◌∙◌}
+use mathlib.Core.Path.{ap, ◌∙◌}
 use native.Mathlib.Omega.{arith}
 use Rattle.batch.proofs.turn.is_chosen.Goals as goal
 

@@ -1,7 +1,5 @@
 use Rattle.selection.proofs.Selections as selections
-use borrow.Author.Rules.{rules}
 use borrow.Author.Tests.{not-true, not-false}
-use mathlib.Core.List.{[]}
 use native.Mathlib.Omega.{arith}
 use Rattle.batch.proofs.turn.put.Goals as goal
 

@@ -1,6 +1,5 @@
 -- `clauses::kinds::added` meets its contract.
 use Rattle.counted.proofs.Deciding.{added_nothing, added_made}
-use borrow.Author.Rules.{rules}
 use mathlib.Core.Path.{sym, ◌∙◌}
 use native.Mathlib.Omega.{arith}
 use Rattle.clauses.proofs.kinds.added.Goals as goal

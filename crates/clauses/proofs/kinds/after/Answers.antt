@@ -1,6 +1,5 @@
 -- `clauses::kinds::after` meets its contract.
 use Rattle.counted.proofs.Deciding.{after_none, after_some}
-use borrow.Author.Rules.{rules}
 use Rattle.clauses.proofs.kinds.after.Goals as goal
 
 pub returns-then-x-eq-UNJOINED : goal.returns-then-x-eq-UNJOINED

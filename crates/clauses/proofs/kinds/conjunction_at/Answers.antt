@@ -1,7 +1,6 @@
 -- `clauses::kinds::conjunction_at` meets its contract.
 use Rattle.counted.proofs.Deciding.{joins_and, joins_or, joins_not, unkept}
 use Rattle.row.specs.Row.{tokens_of}
-use borrow.Author.Rules.{rules}
 use mathlib.Core.Path.{◌∙◌}
 use Rattle.clauses.proofs.kinds.conjunction_at.Goals as goal
 

@@ -1,5 +1,4 @@
 -- `clauses::kinds::is_named` meets its contract.
-use borrow.Author.Rules.{rules}
 use Rattle.clauses.proofs.kinds.is_named.Goals as goal
 
 pub returns-then-is_at : goal.returns-then-is_at

@@ -1,7 +1,6 @@
 -- `clauses::kinds::modifier_at` meets its contract.
 use Rattle.counted.proofs.Deciding.{mod_plus, mod_minus, mod_not, mod_none}
 use Rattle.row.specs.Row.{tokens_of}
-use borrow.Author.Rules.{rules}
 use Rattle.clauses.proofs.kinds.modifier_at.Goals as goal
 
 pub returns-then-t-eq-PLUS_KIND : goal.returns-then-t-eq-PLUS_KIND

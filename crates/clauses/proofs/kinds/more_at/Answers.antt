@@ -1,7 +1,6 @@
 -- `clauses::kinds::more_at` meets its contract.
 use Rattle.counted.proofs.Deciding.{stops_close, stops_end}
 use Rattle.row.specs.Row.{tokens_of}
-use borrow.Author.Rules.{rules}
 use Rattle.clauses.proofs.kinds.more_at.Goals as goal
 
 pub returns-then-t-eq-CLOSE_KIND : goal.returns-then-t-eq-CLOSE_KIND

@@ -1,5 +1,4 @@
 -- `clauses::kinds::tag_after` meets its contract.
-use borrow.Author.Rules.{rules}
 use borrow.Author.Tests.{eq-eqb, ne_eqb}
 use Rattle.clauses.proofs.kinds.tag_after.Goals as goal
 

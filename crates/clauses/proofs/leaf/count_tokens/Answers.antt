@@ -1,7 +1,6 @@
 -- `clauses::leaf::count_tokens` meets its contract.
 use Prim.Native.Nat.{◌-◌}
-use Rattle.clauses.proofs.Tallying.{Counting, counting_starts, counting_ends, counting_goes, counting_few, counting_most}
-use lib.ListN.{length}
+use Rattle.clauses.proofs.Tallying.{counting_starts, counting_ends, counting_goes, counting_few, counting_most}
 use native.Mathlib.Omega.{arith}
 use Rattle.clauses.proofs.leaf.count_tokens.Goals as goal
 

@@ -1,8 +1,7 @@
 -- `clauses::leaf::count_tokens` meets its contract.
 use Prim.Native.Nat.{◌-◌}
-use Rattle.clauses.proofs.Tallying.{Counting, counting_starts, counting_ends, counting_goes, counting_few, counting_most}
+use Rattle.clauses.proofs.Tallying.{Counting}
 use lib.ListN.{length}
-use native.Mathlib.Omega.{arith}
 use Rattle.clauses.proofs.leaf.count_tokens.Given as goal
 
 abbrev pub invariant-loop-t : goal.invariant-loop-t

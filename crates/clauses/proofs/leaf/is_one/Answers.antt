@@ -2,7 +2,6 @@
 use Rattle.analysis.proofs.OneToken.{one_word, one_whole, one_kept, not_english}
 use Rattle.rules.proofs.Bools.{and_no_l}
 use Rattle.rules.proofs.Text.Tokens.{english_not}
-use borrow.Author.Rules.{rules}
 use borrow.Author.Tests.{ltb-true}
 use mathlib.Core.Path.{sym, ◌∙◌}
 use native.Mathlib.Omega.{arith}

@@ -1,9 +1,8 @@
 -- `clauses::leaf::is_one_word` meets its contract.
 use Rattle.analysis.proofs.OneToken.{one_word, one_kept}
 use Rattle.rules.proofs.Bools.{told_no}
-use borrow.Author.Rules.{rules}
 use mathlib.Core.Bool.{true≢false}
-use mathlib.Core.Path.{sym, ◌∙◌}
+use mathlib.Core.Path.{sym}
 use Rattle.clauses.proofs.leaf.is_one_word.Goals as goal
 
 pub returns-then-known : goal.returns-then-known

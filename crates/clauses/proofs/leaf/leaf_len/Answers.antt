@@ -1,6 +1,5 @@
 -- `clauses::leaf::leaf_len` meets its contract.
 use Rattle.clauses.proofs.Tallying.{one_some, leaf_length_one}
-use borrow.Author.Rules.{rules}
 use native.Mathlib.Omega.{arith}
 use Rattle.clauses.proofs.leaf.leaf_len.Goals as goal
 

@@ -1,7 +1,6 @@
 -- `clauses::leaf::phrase_len` meets its contract.
 use Rattle.clauses.proofs.Tallying.{words_most, phrase_length_none, phrase_length_one, phrase_length_many}
 use Rattle.rules.proofs.Text.Tokens.{kept_most}
-use borrow.Author.Rules.{rules}
 use mathlib.Core.Path.{sym, ◌∙◌}
 use native.Mathlib.Omega.{arith}
 use Rattle.clauses.proofs.leaf.phrase_len.Goals as goal

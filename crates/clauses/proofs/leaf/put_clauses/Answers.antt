@@ -1,14 +1,12 @@
 -- `clauses::leaf::put_clauses` meets its contract.
-use Prim.Native.Nat.{◌+◌, ◌-◌, ◌≤◌}
+use Prim.Native.Nat.{◌+◌, ◌-◌}
 use Rattle.analysis.specs.Tokens.{spelled, rest_words}
-use Rattle.clauses.proofs.Writing.{Laying, row_all, laying_ends, laying_fits, laying_on, row_none, row_here, slice_length, clause_room}
+use Rattle.clauses.proofs.Writing.{row_all, laying_ends, laying_fits, laying_on, row_none, row_here, slice_length, clause_room}
 use Rattle.clauses.specs.Leaves.{term_row}
-use Rattle.rules.specs.Analysis.{tokenize}
 use Rattle.rules.specs.Bytes.{part}
 use Rattle.rules.specs.Query.{term}
 use Rattle.rules.specs.Stored.{encode}
-use borrow.Author.Rules.{rules}
-use lib.ListN.{length, take, drop}
+use lib.ListN.{take, drop}
 use native.Mathlib.Omega.{arith}
 use Rattle.clauses.proofs.leaf.put_clauses.Goals as goal
 

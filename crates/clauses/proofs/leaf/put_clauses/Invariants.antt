@@ -1,15 +1,10 @@
 -- `clauses::leaf::put_clauses` meets its contract.
-use Prim.Native.Nat.{◌+◌, ◌-◌, ◌≤◌}
-use Rattle.analysis.specs.Tokens.{spelled, rest_words}
-use Rattle.clauses.proofs.Writing.{Laying, row_all, laying_ends, laying_fits, laying_on, row_none, row_here, slice_length, clause_room}
+use Prim.Native.Nat.{◌-◌, ◌≤◌}
+use Rattle.analysis.specs.Tokens.{rest_words}
+use Rattle.clauses.proofs.Writing.{Laying}
 use Rattle.clauses.specs.Leaves.{term_row}
 use Rattle.rules.specs.Analysis.{tokenize}
-use Rattle.rules.specs.Bytes.{part}
-use Rattle.rules.specs.Query.{term}
-use Rattle.rules.specs.Stored.{encode}
-use borrow.Author.Rules.{rules}
-use lib.ListN.{length, take, drop}
-use native.Mathlib.Omega.{arith}
+use lib.ListN.{length}
 use Rattle.clauses.proofs.leaf.put_clauses.Given as goal
 
 abbrev pub invariant-loop-t : goal.invariant-loop-t

@@ -1,11 +1,10 @@
 -- `clauses::leaf::put_spelled` meets its contract.
-use Prim.Native.Nat.{◌+◌, ◌-◌, ◌≤◌}
+use Prim.Native.Nat.{◌-◌}
 use Rattle.analysis.specs.Tokens.{spelled}
 use Rattle.clauses.proofs.Writing.{spelled_turn, spelled_put}
-use borrow.Author.Rules.{rules}
 use lib.ListN.{length, length-set}
 use lib.Seq.{paste, paste-zero}
-use mathlib.Core.Path.{◌≡◌, refl}
+use mathlib.Core.Path.{refl}
 use native.Mathlib.Omega.{arith}
 use Rattle.clauses.proofs.leaf.put_spelled.Goals as goal
 

@@ -1,12 +1,9 @@
 -- `clauses::leaf::put_spelled` meets its contract.
 use Prim.Native.Nat.{◌+◌, ◌-◌, ◌≤◌}
 use Rattle.analysis.specs.Tokens.{spelled}
-use Rattle.clauses.proofs.Writing.{spelled_turn, spelled_put}
-use borrow.Author.Rules.{rules}
-use lib.ListN.{length, length-set}
-use lib.Seq.{paste, paste-zero}
-use mathlib.Core.Path.{◌≡◌, refl}
-use native.Mathlib.Omega.{arith}
+use lib.ListN.{length}
+use lib.Seq.{paste}
+use mathlib.Core.Path.{◌≡◌}
 use Rattle.clauses.proofs.leaf.put_spelled.Given as goal
 
 abbrev pub invariant-loop-k : goal.invariant-loop-k

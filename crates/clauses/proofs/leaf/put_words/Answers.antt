@@ -1,14 +1,12 @@
 -- `clauses::leaf::put_words` meets its contract.
-use Prim.Native.Nat.{◌+◌, ◌-◌, ◌≤◌}
-use Rattle.analysis.specs.Tokens.{spelled, rest_words, passed}
-use Rattle.clauses.proofs.Writing.{Laying, words_all, laying_ends, laying_fits, laying_on, words_none, words_here, slice_length, word_room}
-use Rattle.rules.specs.Analysis.{tokenize}
+use Prim.Native.Nat.{◌+◌, ◌-◌}
+use Rattle.analysis.specs.Tokens.{spelled, rest_words}
+use Rattle.clauses.proofs.Writing.{words_all, laying_ends, laying_fits, laying_on, words_none, words_here, slice_length, word_room}
 use Rattle.rules.specs.Bytes.{big, part}
 use Rattle.rules.specs.Numbers.{word_tag}
-use Rattle.rules.specs.Parsing.{counted_from, from_first}
+use Rattle.rules.specs.Parsing.{counted_from}
 use Rattle.rules.specs.Stored.{encode_words}
-use borrow.Author.Rules.{rules}
-use lib.ListN.{length, take, drop}
+use lib.ListN.{take, drop}
 use mathlib.Core.List.{◌++◌}
 use native.Mathlib.Omega.{arith}
 use Rattle.clauses.proofs.leaf.put_words.Goals as goal

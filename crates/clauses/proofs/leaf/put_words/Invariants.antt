@@ -1,16 +1,11 @@
 -- `clauses::leaf::put_words` meets its contract.
 use Prim.Native.Nat.{◌+◌, ◌-◌, ◌≤◌}
-use Rattle.analysis.specs.Tokens.{spelled, rest_words, passed}
-use Rattle.clauses.proofs.Writing.{Laying, words_all, laying_ends, laying_fits, laying_on, words_none, words_here, slice_length, word_room}
+use Rattle.analysis.specs.Tokens.{rest_words, passed}
+use Rattle.clauses.proofs.Writing.{Laying}
 use Rattle.rules.specs.Analysis.{tokenize}
-use Rattle.rules.specs.Bytes.{big, part}
-use Rattle.rules.specs.Numbers.{word_tag}
 use Rattle.rules.specs.Parsing.{counted_from, from_first}
 use Rattle.rules.specs.Stored.{encode_words}
-use borrow.Author.Rules.{rules}
-use lib.ListN.{length, take, drop}
-use mathlib.Core.List.{◌++◌}
-use native.Mathlib.Omega.{arith}
+use lib.ListN.{length}
 use Rattle.clauses.proofs.leaf.put_words.Given as goal
 
 abbrev pub invariant-loop-t : goal.invariant-loop-t

@@ -3,7 +3,6 @@ use Prim.Native.Nat.{◌+◌}
 use Rattle.clauses.proofs.Tallying.{tallied_least}
 use Rattle.clauses.proofs.Tallying.{terms_most, term_length_none, term_length_one, term_length_many}
 use Rattle.rules.specs.Analysis.{tokenize}
-use borrow.Author.Rules.{rules}
 use mathlib.Core.Path.{sym, ◌∙◌}
 use native.Mathlib.Omega.{arith}
 use Rattle.clauses.proofs.leaf.term_len.Goals as goal

@@ -1,7 +1,6 @@
 -- `clauses::leaf::write_boolean` meets its contract.
 use Prim.Native.Nat.{◌-◌}
 use Rattle.clauses.proofs.Writing.{boolean_length, boolean_put}
-use borrow.Author.Rules.{rules}
 use mathlib.Core.Path.{refl, ◌∙◌}
 use native.Mathlib.Omega.{arith}
 use Rattle.clauses.proofs.leaf.write_boolean.Goals as goal

@@ -6,7 +6,6 @@ use Rattle.clauses.proofs.Fronts.{put_empty}
 use Rattle.clauses.proofs.Writing.{text_none, text_one, text_many, leaf_none, leaf_one, leaf_boolean, leaf_phrase, made_room, made_put, slice_length}
 use Rattle.counted.specs.Kinds.{made_length}
 use Rattle.rules.proofs.Stored.Sizes.{length_term}
-use borrow.Author.Rules.{rules}
 use lib.ListN.{length, take, drop}
 use mathlib.Core.Path.{ap}
 use native.Mathlib.Omega.{arith}

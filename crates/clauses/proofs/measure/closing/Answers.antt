@@ -3,7 +3,6 @@ use Rattle.clauses.proofs.Bodies.{close_fault, close_missing, close_goes, bracke
 use Rattle.clauses.proofs.Rows.{kind_in_lem, place_most_lem}
 use Rattle.row.specs.Row.{tokens_of}
 use Rattle.rules.specs.Parsing.{query_of}
-use borrow.Author.Rules.{rules}
 use mathlib.Core.Path.{refl, sym, ◌∙◌}
 use native.Mathlib.Omega.{arith}
 use Rattle.clauses.proofs.measure.closing.Goals as goal

@@ -6,7 +6,6 @@ use Rattle.clauses.specs.Leaves.{leaf_of, leaf_kind}
 use Rattle.clauses.specs.declared.kinds.Measured.TheVariants.{Clause}
 use Rattle.row.specs.Row.{tokens_of, name_from}
 use Rattle.rules.specs.Analysis.{tokenize}
-use borrow.Author.Rules.{rules}
 use lib.ListN.{length}
 use mathlib.Core.Path.{sym, ap, ◌∙◌}
 use native.Mathlib.Omega.{arith}

@@ -6,7 +6,6 @@ use Rattle.row.specs.Row.{tokens_of}
 use Rattle.rules.proofs.Stored.Refusals.{number_not, number_got}
 use Rattle.rules.specs.Numerals.{numeral_bits}
 use Rattle.rules.specs.Reading.{number_of}
-use borrow.Author.Rules.{rules}
 use mathlib.Core.Path.{refl, sym, ap, ◌∙◌}
 use native.Mathlib.Omega.{arith}
 use Rattle.clauses.proofs.measure.with_boost.Goals as goal

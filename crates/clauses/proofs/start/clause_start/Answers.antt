@@ -1,7 +1,6 @@
 -- `clauses::start::clause_start` meets its contract.
 use Rattle.clauses.proofs.Bodies.{start_plain, start_long, start_named}
 use Rattle.clauses.proofs.Rows.{named_in}
-use borrow.Author.Rules.{rules}
 use mathlib.Core.Path.{sym, ◌∙◌}
 use native.Mathlib.Omega.{arith}
 use Rattle.clauses.proofs.start.clause_start.Goals as goal

@@ -1,23 +1,21 @@
 -- `clauses::write::write_bracket`, `write_clause` and `write_query` call each other and meet their contracts: unread tokens fall, then a call rank.
-use Prim.Native.Nat.{ℕ, ◌<◌, ◌+◌, ◌-◌, ◌*◌, ◌≤◌}
+use Prim.Native.Nat.{ℕ, ◌+◌, ◌-◌, ◌≤◌}
 use Rattle.clauses.proofs.Fronts.{put_empty, size_most, boost_room}
-use Rattle.clauses.proofs.Going.{body_near, body_after, Going, Turned, going_room, going_start, going_last, going_wide, going_clause, going_nothing, going_made, going_alone, going_ends}
+use Rattle.clauses.proofs.Going.{body_near, body_after, Turned, going_room, going_start, going_last, going_wide, going_clause, going_nothing, going_made, going_alone, going_ends}
 use Rattle.clauses.proofs.Placing.{mid_bounds, mid_put, mid_length, clause_leaf, clause_depth, clause_bracket, bracket_fault, bracket_kept, bracket_sums, bracket_closed, bracket_boost, bracket_query}
 use Rattle.clauses.proofs.Rows.{place_most_lem, kind_in_lem, goes_in}
 use Rattle.clauses.proofs.Steps.{led, past_one}
 use Rattle.clauses.proofs.Writing.{slice_length}
-use Rattle.clauses.specs.Written.{is_boosted, QueryToWrite}
+use Rattle.clauses.specs.Written.{is_boosted}
 use Rattle.counted.specs.Kinds.{made_bytes}
 use Rattle.row.specs.Row.{tokens_of, name_from}
 use Rattle.rules.proofs.Bools.{told_no, told_yes}
 use Rattle.rules.proofs.Stored.Refusals.{no_got}
 use Rattle.rules.specs.Parsing.{query_of}
 use Rattle.rules.specs.Query.{Clauses}
-use Rattle.rules.specs.Setup.{Setup}
-use borrow.Author.Rules.{rules}
 use borrow.Author.Tests.{not-true, not-false}
 use lib.ListN.{length}
-use mathlib.Core.Path.{◌≡◌, refl, sym, ap, ◌∙◌}
+use mathlib.Core.Path.{refl, sym, ap, ◌∙◌}
 use native.Mathlib.Omega.{arith}
 use Rattle.clauses.proofs.write.+write_bracket_write_clause_write_query.Goals as goal
 

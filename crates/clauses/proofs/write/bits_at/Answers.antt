@@ -3,7 +3,6 @@ use Rattle.clauses.proofs.Bodies.{answer_refused, answer_got}
 use Rattle.clauses.proofs.Rows.{text_is}
 use Rattle.clauses.specs.Written.{bits_in}
 use Rattle.rules.specs.Numerals.{numeral_bits}
-use borrow.Author.Rules.{rules}
 use mathlib.Core.Path.{sym, ap, ◌∙◌}
 use native.Mathlib.Omega.{arith}
 use Rattle.clauses.proofs.write.bits_at.Goals as goal

@@ -1,5 +1,4 @@
 -- `clauses::write::body_start` meets its contract.
-use borrow.Author.Rules.{rules}
 use Rattle.clauses.proofs.write.body_start.Goals as goal
 
 pub returns-then-alone : goal.returns-then-alone

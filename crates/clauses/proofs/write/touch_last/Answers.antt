@@ -1,5 +1,4 @@
 -- `clauses::write::touch_last` meets its contract.
-use borrow.Author.Rules.{rules}
 use lib.ListN.{set, length-set}
 use mathlib.Core.Path.{ap}
 use Rattle.clauses.proofs.write.touch_last.Goals as goal

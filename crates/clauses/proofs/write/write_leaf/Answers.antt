@@ -5,7 +5,6 @@ use Rattle.clauses.proofs.Placing.{leaf_boost}
 use Rattle.clauses.proofs.Rows.{text_is, place_text, place_most_lem}
 use Rattle.clauses.specs.Written.{is_boosted}
 use Rattle.row.specs.Row.{tokens_of}
-use borrow.Author.Rules.{rules}
 use lib.ListN.{length}
 use mathlib.Core.Path.{refl, sym, ap, ◌∙◌}
 use native.Mathlib.Omega.{arith}

@@ -2,7 +2,6 @@
 use Rattle.entries.proofs.Entries as entries
 use Rattle.rules.proofs.Stored.Parts as parts
 use Rattle.rules.specs.Bytes.{body_of, rest_of}
-use borrow.Author.Rules.{rules}
 use lib.ListN.{drop}
 use mathlib.Core.Path.{ap, ◌∙◌}
 use Rattle.entries.proofs.entry.text.Goals as goal

@@ -3,7 +3,6 @@ use Rattle.entries.specs.Entry.{field_of}
 use Rattle.rules.proofs.Bools as bools
 use Rattle.rules.specs.Bytes.{same}
 use Rattle.rules.specs.Lists.{entry_of}
-use borrow.Author.Rules.{rules}
 use mathlib.Core.Path.{sym, ap, ◌∙◌}
 use Rattle.entries.proofs.here.has_both.Goals as goal
 

@@ -1,7 +1,6 @@
 -- `entries::here::is_here` meets its contract.
 use Rattle.entries.proofs.Entries as entries
 use Rattle.rules.proofs.Stored.Parts as parts
-use borrow.Author.Rules.{rules}
 use native.Mathlib.Omega.{arith}
 use Rattle.entries.proofs.here.is_here.Goals as goal
 

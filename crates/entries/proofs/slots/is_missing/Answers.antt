@@ -1,7 +1,6 @@
 -- `entries::slots::is_missing` meets its contract.
 use Rattle.entries.proofs.Noting as noting
 use Rattle.rules.proofs.Bools as bools
-use borrow.Author.Rules.{rules}
 use borrow.Author.Tests.{ltb-true}
 use mathlib.Core.Path.{refl}
 use native.Mathlib.Omega.{arith}

@@ -2,7 +2,6 @@
 use Rattle.entries.proofs.Entries as entries
 use Rattle.entries.proofs.Noting as noting
 use Rattle.rules.proofs.Stored.Parts as parts
-use lib.ListN.{length}
 use mathlib.Core.Path.{sym, ◌∙◌}
 use native.Mathlib.Omega.{arith}
 use Rattle.entries.proofs.slots.note.Goals as goal

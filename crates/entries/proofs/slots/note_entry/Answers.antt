@@ -1,8 +1,6 @@
 use Rattle.entries.proofs.Noting as noting
 use Rattle.rules.proofs.Bools as bools
 use Rattle.rules.specs.Lists.{entry_of}
-use borrow.Author.Rules.{rules}
-use native.Mathlib.Omega.{arith}
 use Rattle.entries.proofs.slots.note_entry.Goals as goal
 
 pub is_place-requires : goal.is_place-requires

@@ -1,6 +1,5 @@
 use Rattle.entries.proofs.Noting as noting
 use Rattle.rules.proofs.Stored.Parts as parts
-use borrow.Author.Rules.{rules}
 use mathlib.Core.Path.{sym, ◌∙◌}
 use native.Mathlib.Omega.{arith}
 use Rattle.entries.proofs.slots.note_text.Goals as goal

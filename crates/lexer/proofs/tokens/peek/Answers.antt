@@ -1,5 +1,4 @@
 -- `tokens::peek` meets its contract: past the last byte stands 0. Assumes nothing.
-use borrow.Author.Rules.{rules}
 use lib.ListN.{get_or-eq_default}
 use mathlib.Core.Path.{sym}
 use native.Mathlib.Omega.{arith}

@@ -1,7 +1,6 @@
 -- `tokens::quoted_at` meets its contract, from what the quote was read as. Assumes nothing.
 use Prim.Native.Nat.{◌+◌}
 use Rattle.lexer.proofs.Starts.{quoted_no, quoted_yes}
-use borrow.Author.Rules.{rules}
 use lib.ListN.{drop}
 use Rattle.lexer.proofs.tokens.quoted_at.Goals as goal
 

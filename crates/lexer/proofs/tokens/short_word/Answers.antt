@@ -2,7 +2,6 @@
 use Rattle.lexer.proofs.Words.{short_known, short_none}
 use Rattle.rules.specs.Bytes.{ascii, same}
 use Rattle.rules.specs.Lexing.{word_kind}
-use borrow.Author.Rules.{rules}
 use mathlib.Core.Path.{sym}
 use native.Mathlib.Omega.{arith}
 use Rattle.lexer.proofs.tokens.short_word.Goals as goal

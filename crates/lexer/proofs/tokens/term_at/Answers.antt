@@ -1,7 +1,6 @@
 -- `tokens::term_at` meets its contract: what the term was read as, the byte behind it, and the kind and note of its text. Assumes nothing.
 use Rattle.lexer.proofs.Starts.{term_no, term_wild, term_yes, term_fits}
 use Rattle.rules.specs.Lexing.{is_wildcard}
-use borrow.Author.Rules.{rules}
 use lib.ListN.{drop}
 use mathlib.Core.Path.{sym, ap, ◌∙◌}
 use native.Mathlib.Omega.{arith}

@@ -2,7 +2,6 @@
 use Rattle.lexer.proofs.Starts.{made_letter, made_sign, made_double, made_quoted, made_bad, made_term}
 use Rattle.lexer.specs.Tokens.{double_kind}
 use Rattle.texts.proofs.Flags.{text_byte, letter_told}
-use borrow.Author.Rules.{rules}
 use borrow.Author.Tests.{eq-eqb, ne_eqb}
 use lib.ListN.{get_or}
 use mathlib.Core.Path.{refl, sym, ap, ◌∙◌}

@@ -1,7 +1,6 @@
 -- `tokens::word_kind` meets its contract: an operator word has three bytes or two. Assumes nothing.
 use Rattle.lexer.proofs.Words.{three_bytes, two_bytes, word_none}
 use Rattle.rules.specs.Lexing.{word_kind}
-use borrow.Author.Rules.{rules}
 use mathlib.Core.Path.{sym, ap, ◌∙◌}
 use Rattle.lexer.proofs.tokens.word_kind.Goals as goal
 

@@ -1,6 +1,5 @@
 -- `matching::level::answer` meets its contract.
 use Rattle.matching.proofs.Levels as levels
-use borrow.Author.Rules.{rules}
 use borrow.Author.Tests.{not-true, not-false}
 use Rattle.matching.proofs.level.answer.Goals as goal
 

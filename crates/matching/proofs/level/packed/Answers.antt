@@ -1,6 +1,5 @@
 -- `matching::level::packed` meets its contract.
 use Rattle.matching.proofs.Levels as levels
-use borrow.Author.Rules.{rules}
 use mathlib.Core.Path.{refl}
 use native.Mathlib.Omega.{arith}
 use Rattle.matching.proofs.level.packed.Goals as goal

@@ -1,6 +1,5 @@
 -- `matching::order::float_ordered` meets its contract.
 use Rattle.matching.proofs.Orders as orders
-use borrow.Author.Rules.{rules}
 use mathlib.Core.Path.{sym, ◌∙◌}
 use Rattle.matching.proofs.order.float_ordered.Goals as goal
 

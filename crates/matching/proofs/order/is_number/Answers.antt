@@ -1,5 +1,4 @@
 -- `matching::order::is_number` meets its contract.
-use borrow.Author.Rules.{rules}
 use mathlib.Core.Bool.{not}
 use mathlib.Core.Path.{ap}
 use Rattle.matching.proofs.order.is_number.Goals as goal

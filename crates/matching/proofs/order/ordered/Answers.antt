@@ -1,5 +1,4 @@
 -- `matching::order::ordered` meets its contract.
-use borrow.Author.Rules.{rules}
 use Rattle.matching.proofs.order.ordered.Goals as goal
 
 pub returns-then-float : goal.returns-then-float

@@ -1,6 +1,5 @@
 -- `matching::order::whole_ordered` meets its contract.
 use Rattle.matching.proofs.Orders as orders
-use borrow.Author.Rules.{rules}
 use Rattle.matching.proofs.order.whole_ordered.Goals as goal
 
 pub returns-then-strict : goal.returns-then-strict

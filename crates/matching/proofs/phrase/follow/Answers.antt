@@ -6,10 +6,7 @@ use Rattle.rules.proofs.Bools as bools
 use Rattle.rules.proofs.Stored.Parts as parts
 use Rattle.rules.specs.Bytes.{of_big, each}
 use Rattle.rules.specs.Lists.{entry_of}
-use Rattle.rules.specs.Matching.{follows_from}
-use Rattle.rules.specs.Reading.{word_of, is_word}
-use borrow.Author.Rules.{rules}
-use lib.ListN.{length, drop, take}
+use lib.ListN.{drop, take}
 use mathlib.Core.Bool.{false}
 use mathlib.Core.List.{List}
 use mathlib.Core.Path.{ap, ◌∙◌}

@@ -2,9 +2,7 @@
 use Rattle.entries.proofs.Entries as entries
 use Rattle.entries.proofs.Searches as searches
 use Rattle.rules.proofs.Stored.Parts as parts
-use Rattle.rules.specs.Lists.{entry_of, is_entry}
 use Rattle.rules.specs.Matching.{is_at}
-use lib.ListN.{length}
 use mathlib.Core.Bool.{true}
 use mathlib.Core.Path.{sym, ◌∙◌}
 use Rattle.matching.proofs.phrase.has_at.Goals as goal

@@ -2,11 +2,7 @@
 use Rattle.entries.proofs.Entries as entries
 use Rattle.entries.proofs.Searches as searches
 use Rattle.rules.proofs.Stored.Parts as parts
-use Rattle.rules.specs.Bytes.{each}
-use Rattle.rules.specs.Lists.{is_entry, entry_of}
 use Rattle.rules.specs.Matching.{starts_on}
-use Rattle.rules.specs.Reading.{word_of}
-use lib.ListN.{length}
 use mathlib.Core.Bool.{true}
 use mathlib.Core.Path.{sym, ◌∙◌}
 use Rattle.matching.proofs.phrase.has_start.Goals as goal

@@ -1,12 +1,8 @@
 -- `matching::range::has_range` meets its contract.
 use Rattle.entries.proofs.Entries as entries
 use Rattle.entries.proofs.Searches as searches
-use Rattle.entries.specs.Entry.{numbers}
 use Rattle.rules.proofs.Stored.Parts as parts
-use Rattle.rules.specs.Lists.{entry_of, is_entry}
 use Rattle.rules.specs.Matching.{is_inside, has_range}
-use Rattle.rules.specs.Reading.{bound_of}
-use lib.ListN.{length}
 use mathlib.Core.Bool.{true}
 use mathlib.Core.Path.{sym, ◌∙◌}
 use Rattle.matching.proofs.range.has_range.Goals as goal

@@ -5,7 +5,6 @@ use Rattle.rules.proofs.Bools as bools
 use Rattle.rules.specs.Bytes.{same}
 use Rattle.rules.specs.Lists.{entry_of}
 use Rattle.rules.specs.Reading.{bound_of}
-use borrow.Author.Rules.{rules}
 use mathlib.Core.Path.{sym, ap, ◌∙◌}
 use Rattle.matching.proofs.range.is_inside.Goals as goal
 

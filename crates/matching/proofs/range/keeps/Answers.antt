@@ -2,7 +2,6 @@
 use Rattle.entries.specs.Entry.{numbers}
 use Rattle.matching.proofs.Leaves as leaves
 use Rattle.rules.proofs.Stored.Parts as parts
-use borrow.Author.Rules.{rules}
 use mathlib.Core.Path.{sym, ◌∙◌}
 use native.Mathlib.Omega.{arith}
 use Rattle.matching.proofs.range.keeps.Goals as goal

@@ -1,7 +1,6 @@
 -- `matching::range::lies_in` meets its contract.
 use Rattle.rules.proofs.Bools as bools
 use Rattle.rules.specs.Matching.{lies_in}
-use borrow.Author.Rules.{rules}
 use mathlib.Core.Path.{sym, ◌∙◌}
 use Rattle.matching.proofs.range.lies_in.Goals as goal
 

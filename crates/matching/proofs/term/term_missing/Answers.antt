@@ -1,7 +1,5 @@
 use Rattle.matching.proofs.Leaves as leaves
-use borrow.Author.Rules.{rules}
 use mathlib.Core.Path.{sym}
-use native.Mathlib.Omega.{arith}
 use Rattle.matching.proofs.term.term_missing.Goals as goal
 
 pub body-b-requires : goal.body-b-requires

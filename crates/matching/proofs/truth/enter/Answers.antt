@@ -3,7 +3,6 @@ use Rattle.matching.proofs.Walks as walks
 use Rattle.matching.specs.Truth.{cut}
 use Rattle.rules.proofs.Stored.Parts as parts
 use Rattle.rules.specs.Bytes.{of_big}
-use borrow.Author.Rules.{rules}
 use lib.ListN.{length, take}
 use mathlib.Core.List.{List, []}
 use mathlib.Core.Path.{ap, ◌∙◌}

@@ -3,9 +3,7 @@ use Prim.Native.Nat.{◌-◌}
 use Rattle.matching.proofs.Walks as walks
 use Rattle.rules.specs.Bytes.{each}
 use Rattle.rules.specs.Lists.{entry_of}
-use borrow.Author.Rules.{rules}
-use lib.ListN.{length}
-use mathlib.Core.Path.{◌≡◌, refl, ◌∙◌}
+use mathlib.Core.Path.{refl, ◌∙◌}
 use native.Mathlib.Omega.{arith}
 use Rattle.matching.proofs.truth.holds.Goals as goal
 

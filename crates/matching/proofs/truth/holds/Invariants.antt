@@ -3,10 +3,8 @@ use Prim.Native.Nat.{◌-◌}
 use Rattle.matching.proofs.Walks as walks
 use Rattle.rules.specs.Bytes.{each}
 use Rattle.rules.specs.Lists.{entry_of}
-use borrow.Author.Rules.{rules}
 use lib.ListN.{length}
-use mathlib.Core.Path.{◌≡◌, refl, ◌∙◌}
-use native.Mathlib.Omega.{arith}
+use mathlib.Core.Path.{◌≡◌}
 use Rattle.matching.proofs.truth.holds.Given as goal
 
 abbrev pub invariant-loop-y : goal.invariant-loop-y

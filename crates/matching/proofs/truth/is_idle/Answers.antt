@@ -4,7 +4,6 @@ use Rattle.rules.proofs.Bools as bools
 use Rattle.rules.proofs.Stored.Parts as parts
 use Rattle.rules.specs.Bytes.{each}
 use Rattle.rules.specs.Lists.{entry_of}
-use borrow.Author.Rules.{rules}
 use mathlib.Core.Path.{refl, sym, ◌∙◌}
 use native.Mathlib.Omega.{arith}
 use Rattle.matching.proofs.truth.is_idle.Goals as goal

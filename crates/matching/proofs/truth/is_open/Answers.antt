@@ -1,8 +1,6 @@
 use Rattle.rules.proofs.Bools as bools
-use borrow.Author.Rules.{rules}
 use borrow.Author.Tests.{eq-eqb, ne_eqb}
 use mathlib.Core.Path.{sym}
-use native.Mathlib.Omega.{arith}
 use Rattle.matching.proofs.truth.is_open.Goals as goal
 
 pub returns-then-tag_of-ne-BOOLEAN_TAG : goal.returns-then-tag_of-ne-BOOLEAN_TAG

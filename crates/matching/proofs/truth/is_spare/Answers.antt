@@ -1,9 +1,7 @@
 use Rattle.rules.proofs.Bools as bools
 use Rattle.rules.specs.Numbers.{should_tag}
-use borrow.Author.Rules.{rules}
 use lib.Dec.{eqb}
 use mathlib.Core.Path.{refl, sym}
-use native.Mathlib.Omega.{arith}
 use Rattle.matching.proofs.truth.is_spare.Goals as goal
 
 pub returns-then-not-over : goal.returns-then-not-over

@@ -1,12 +1,8 @@
 use Prim.Native.Nat.{◌-◌}
 use Rattle.matching.proofs.Walks as walks
-use Rattle.matching.specs.Truth.{Past}
 use Rattle.rules.proofs.Bools as bools
 use Rattle.rules.proofs.Stored.Parts as parts
-use Rattle.rules.specs.Bytes.{each}
-use Rattle.rules.specs.Lists.{entry_of}
-use borrow.Author.Rules.{rules}
-use mathlib.Core.Path.{refl, sym, ◌∙◌}
+use mathlib.Core.Path.{refl}
 use native.Mathlib.Omega.{arith}
 use Rattle.matching.proofs.truth.past_idle.Goals as goal
 

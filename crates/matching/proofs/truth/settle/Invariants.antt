@@ -2,13 +2,10 @@
 use Prim.Native.Nat.{◌-◌}
 use Rattle.matching.proofs.Walks as walks
 use Rattle.matching.specs.Truth.{Open}
-use Rattle.matching.specs.declared.level.Level.{Level}
 use Rattle.rules.specs.Bytes.{each}
 use Rattle.rules.specs.Lists.{entry_of}
-use borrow.Author.Rules.{rules}
 use lib.ListN.{length}
-use mathlib.Core.Path.{◌≡◌, refl, sym, ap, ◌∙◌}
-use native.Mathlib.Omega.{arith}
+use mathlib.Core.Path.{◌≡◌}
 use Rattle.matching.proofs.truth.settle.Given as goal
 
 abbrev pub invariant-loop-d : goal.invariant-loop-d

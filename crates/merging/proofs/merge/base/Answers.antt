@@ -1,7 +1,6 @@
 -- `merging::merge::base` meets its contract.
 use Rattle.merging.proofs.Forms as forms
 use Rattle.rules.proofs.Stored.Parts as parts
-use borrow.Author.Rules.{rules}
 use native.Mathlib.Omega.{arith}
 use Rattle.merging.proofs.merge.base.Goals as goal
 

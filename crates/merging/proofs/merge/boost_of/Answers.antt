@@ -3,7 +3,6 @@ use Rattle.merging.proofs.Forms as forms
 use Rattle.rules.proofs.Stored.Parts as parts
 use Rattle.rules.specs.Bytes.{of_big}
 use Rattle.rules.specs.Floats.{widened}
-use borrow.Author.Rules.{rules}
 use lib.ListN.{length-drop, take}
 use mathlib.Core.List.{List}
 use mathlib.Core.Path.{ap, ◌∙◌}

@@ -2,7 +2,6 @@
 use Prim.Native.Nat.{◌-◌}
 use Rattle.merging.proofs.Eating as eating
 use Rattle.merging.proofs.Placed as placed
-use borrow.Author.Rules.{rules}
 use mathlib.Core.Path.{refl}
 use native.Mathlib.Omega.{arith}
 use Rattle.merging.proofs.merge.eat.Goals as goal

@@ -1,10 +1,6 @@
 -- `merging::merge::eat` meets its contract.
 use Prim.Native.Nat.{◌-◌}
 use Rattle.merging.proofs.Eating as eating
-use Rattle.merging.proofs.Placed as placed
-use borrow.Author.Rules.{rules}
-use mathlib.Core.Path.{refl}
-use native.Mathlib.Omega.{arith}
 use Rattle.merging.proofs.merge.eat.Given as goal
 
 abbrev pub invariant-loop-u : goal.invariant-loop-u

@@ -1,6 +1,5 @@
 -- `merging::merge::eat_others` meets its contract.
 use Rattle.merging.proofs.Alike as alike
-use borrow.Author.Rules.{rules}
 use Rattle.merging.proofs.merge.eat_others.Goals as goal
 
 pub returns-then-is_alone : goal.returns-then-is_alone

@@ -1,6 +1,5 @@
 -- `merging::merge::eats` meets its contract.
 use Rattle.merging.proofs.Eating as eating
-use borrow.Author.Rules.{rules}
 use Rattle.merging.proofs.merge.eats.Goals as goal
 
 pub held-requires : goal.held-requires

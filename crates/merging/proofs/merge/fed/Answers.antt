@@ -1,6 +1,5 @@
 -- `merging::merge::fed` meets its contract.
 use Rattle.rules.specs.Floats.{plus}
-use borrow.Author.Rules.{rules}
 use mathlib.Core.Path.{sym, ap, ◌∙◌}
 use Rattle.merging.proofs.merge.fed.Goals as goal
 

@@ -1,7 +1,6 @@
 -- `merging::merge::first_of` meets its contract.
 use Rattle.merging.proofs.Laid as laid
 use Rattle.rules.specs.Floats.{one}
-use borrow.Author.Rules.{rules}
 use lib.ListN.{length}
 use mathlib.Core.Path.{refl, ap, ◌∙◌}
 use native.Mathlib.Omega.{arith}

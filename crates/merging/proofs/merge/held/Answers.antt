@@ -1,5 +1,4 @@
 -- `merging::merge::held` meets its contract.
-use borrow.Author.Rules.{rules}
 use mathlib.Core.Path.{sym, ◌∙◌}
 use Rattle.merging.proofs.merge.held.Goals as goal
 

@@ -1,6 +1,5 @@
 -- `merging::merge::make_way` meets its contract.
 use Rattle.merging.proofs.Laid as laid
-use borrow.Author.Rules.{rules}
 use native.Mathlib.Omega.{arith}
 use Rattle.merging.proofs.merge.make_way.Goals as goal
 

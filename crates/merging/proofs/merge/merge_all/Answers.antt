@@ -2,7 +2,6 @@
 use Prim.Native.Nat.{◌-◌}
 use Rattle.merging.proofs.Merging as merging
 use Rattle.merging.proofs.Placed as placed
-use borrow.Author.Rules.{rules}
 use mathlib.Core.Path.{refl}
 use native.Mathlib.Omega.{arith}
 use Rattle.merging.proofs.merge.merge_all.Goals as goal

@@ -1,6 +1,5 @@
 -- `merging::merge::merged_size` meets its contract.
 use Rattle.merging.proofs.Laid as laid
-use borrow.Author.Rules.{rules}
 use mathlib.Core.Path.{sym, ◌∙◌}
 use Rattle.merging.proofs.merge.merged_size.Goals as goal
 

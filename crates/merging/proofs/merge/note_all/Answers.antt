@@ -2,7 +2,6 @@
 use Rattle.merging.proofs.Alike as alike
 use Rattle.merging.proofs.Forms as forms
 use Rattle.rules.proofs.Stored.Parts as parts
-use borrow.Author.Rules.{rules}
 use lib.ListN.{length}
 use mathlib.Core.Path.{ap}
 use native.Mathlib.Omega.{arith}

@@ -1,6 +1,5 @@
 -- `merging::merge::put_clause` meets its contract.
 use Rattle.merging.proofs.Laid as laid
-use borrow.Author.Rules.{rules}
 use Rattle.merging.proofs.merge.put_clause.Goals as goal
 
 pub returns : goal.returns

@@ -2,7 +2,6 @@
 use Prim.Native.Nat.{◌-◌}
 use Rattle.merging.proofs.Laid as laid
 use Rattle.places.specs.Within.{within}
-use borrow.Author.Rules.{rules}
 use mathlib.Core.Path.{sym, ◌∙◌}
 use native.Mathlib.Omega.{arith}
 use Rattle.merging.proofs.merge.put_merged.Goals as goal

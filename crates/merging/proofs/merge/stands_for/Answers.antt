@@ -1,6 +1,5 @@
 -- `merging::merge::stands_for` meets its contract.
 use Rattle.merging.proofs.Forms as forms
-use borrow.Author.Rules.{rules}
 use Rattle.merging.proofs.merge.stands_for.Goals as goal
 
 pub returns-then-j-k : goal.returns-then-j-k

@@ -1,7 +1,6 @@
 -- `merging::signatures::is_alone` meets its contract.
 use Rattle.merging.proofs.Alike as alike
 use Rattle.merging.specs.Signatures.{cell_of}
-use borrow.Author.Rules.{rules}
 use borrow.Author.Tests.{eqb-true}
 use mathlib.Core.Path.{sym, ap, ◌∙◌}
 use Rattle.merging.proofs.signatures.is_alone.Goals as goal

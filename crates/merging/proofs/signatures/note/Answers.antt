@@ -1,9 +1,8 @@
 -- `merging::signatures::note` meets its contract.
 use Prim.Native.Nat.{ℕ, ◌+◌, ◌/◌}
 use Rattle.merging.proofs.Cells as cells
-use borrow.Author.Rules.{rules}
 use lib.ListN.{get_or}
-use mathlib.Core.Path.{sym, ap}
+use mathlib.Core.Path.{ap}
 use native.Mathlib.Omega.{arith}
 use Rattle.merging.proofs.signatures.note.Goals as goal
 

@@ -1,6 +1,5 @@
 -- `merging::signatures::signature` meets its contract.
 use Rattle.merging.proofs.Alike as alike
-use borrow.Author.Rules.{rules}
 use mathlib.Core.Path.{refl}
 use native.Mathlib.Omega.{arith}
 use Rattle.merging.proofs.signatures.signature.Goals as goal

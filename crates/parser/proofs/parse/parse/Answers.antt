@@ -1,7 +1,6 @@
 -- `parser::parse::parse` meets its contract.
 use Prim.Native.Nat.{ℕ}
 use Rattle.parser.proofs.Delivering.{parse_short, parse_whole}
-use borrow.Author.Rules.{rules}
 use lib.ListN.{replicate}
 use mathlib.Core.Path.{ap, ◌∙◌}
 use Rattle.parser.proofs.parse.parse.Goals as goal

@@ -9,7 +9,6 @@ use Rattle.rules.specs.Lexing.{Token}
 use Rattle.rules.specs.Numbers.{Read, and_then, placed, bad_setup, long_text, not_ascii}
 use Rattle.rules.specs.Parsing.{start_of, parse, parse_tokens}
 use Rattle.rules.specs.Setup.{Setup}
-use borrow.Author.Rules.{rules}
 use lib.ListN.{length, replicate, get_or-replicate}
 use mathlib.Core.List.{List, []}
 use mathlib.Core.Path.{refl, sym, ap, subst, ◌∙◌}

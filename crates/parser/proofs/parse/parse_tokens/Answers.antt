@@ -1,7 +1,6 @@
 -- `parser::parse::parse_tokens` meets its contract.
 use Rattle.clauses.proofs.Rows.{place_most_lem}
 use Rattle.parser.proofs.Delivering.{start_most, delivers_as, tokens_fault, tokens_more, tokens_kept, tokens_end, tokens_write}
-use borrow.Author.Rules.{rules}
 use borrow.Author.Tests.{eq-eqb, ne_eqb}
 use mathlib.Core.Path.{refl, sym, ◌∙◌}
 use native.Mathlib.Omega.{arith}

@@ -1,7 +1,6 @@
 -- `parser::parse::write_whole` meets its contract.
 use Rattle.clauses.proofs.Placing.{first_length, mid_length}
 use Rattle.parser.proofs.Delivering.{none_short, none_fits, some_short, some_fits}
-use borrow.Author.Rules.{rules}
 use mathlib.Core.Path.{◌∙◌}
 use native.Mathlib.Omega.{arith}
 use Rattle.parser.proofs.parse.write_whole.Goals as goal

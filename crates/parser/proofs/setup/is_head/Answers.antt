@@ -1,5 +1,4 @@
 -- `parser::setup::is_head` meets its contract.
-use borrow.Author.Rules.{rules}
 use borrow.Author.Tests.{lt-leb, le-leb}
 use Rattle.parser.proofs.setup.is_head.Goals as goal
 

@@ -1,6 +1,5 @@
 -- `parser::setup::is_plain` meets its contract.
 use Rattle.rules.proofs.Bools.{told_no, told_yes}
-use borrow.Author.Rules.{rules}
 use borrow.Author.Tests.{lt-leb, le-leb}
 use Rattle.parser.proofs.setup.is_plain.Goals as goal
 

@@ -1,12 +1,7 @@
 -- `parser::setup::note_fields` meets its contract.
 use Prim.Native.Nat.{◌-◌}
 use Rattle.fields.specs.Fields.{array_entries}
-use Rattle.parser.proofs.Notes.{Noting, noting_starts, noting_skips, noting_notes, noting_ends, no_colon, no_name, analyzer_small}
-use Rattle.row.specs.Row.{tokens_of}
-use Rattle.rules.specs.Setup.{is_analyzer, analyzer_among}
-use borrow.Author.Rules.{rules}
-use mathlib.Core.Path.{ap, ◌∙◌}
-use native.Mathlib.Omega.{arith}
+use Rattle.parser.proofs.Notes.{Noting}
 use Rattle.parser.proofs.setup.note_fields.Given as goal
 
 abbrev pub invariant-loop-k : goal.invariant-loop-k

@@ -1,8 +1,6 @@
 -- `parser::setup::put_row` meets its contract.
 use Prim.Native.Nat.{◌-◌}
-use Rattle.parser.proofs.Entries.{Testing, testing_starts, testing_turn, testing_stops, testing_ends}
-use borrow.Author.Rules.{rules}
-use lib.ListN.{length}
+use Rattle.parser.proofs.Entries.{testing_starts, testing_turn, testing_stops, testing_ends}
 use mathlib.Core.Path.{refl}
 use Rattle.parser.proofs.setup.put_row.Goals as goal
 

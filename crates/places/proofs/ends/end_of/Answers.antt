@@ -1,7 +1,6 @@
 -- `places::ends::end_of` meets its contract.
 use Rattle.rules.proofs.Stored.Parts as parts
 use Rattle.rules.specs.Bytes.{size_of}
-use borrow.Author.Rules.{rules}
 use lib.ListN.{length, length-drop}
 use mathlib.Core.Path.{ap, ◌∙◌}
 use native.Mathlib.Omega.{arith}

@@ -1,6 +1,5 @@
 -- `places::place::shift` meets its contract.
 use Rattle.places.proofs.Standing as standing
-use borrow.Author.Rules.{rules}
 use Rattle.places.proofs.place.shift.Goals as goal
 
 pub returns-then-to-from : goal.returns-then-to-from

@@ -1,10 +1,9 @@
 -- `places::place::shift_down` meets its contract.
-use Prim.Native.Nat.{◌-◌, ◌≤◌}
+use Prim.Native.Nat.{◌-◌}
 use Rattle.places.proofs.Standing as standing
-use borrow.Author.Rules.{rules}
 use lib.ListN.{length, take, drop, length-set}
 use lib.Seq.{paste, paste-zero}
-use mathlib.Core.Path.{◌≡◌, refl}
+use mathlib.Core.Path.{refl}
 use native.Mathlib.Omega.{arith}
 use Rattle.places.proofs.place.shift_down.Goals as goal
 

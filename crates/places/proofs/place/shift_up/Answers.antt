@@ -1,10 +1,7 @@
 -- `places::place::shift_up` meets its contract.
-use Prim.Native.Nat.{◌+◌, ◌≤◌}
-use Rattle.numbers.specs.Laid.{laid}
 use Rattle.places.proofs.Standing as standing
-use borrow.Author.Rules.{rules}
-use lib.ListN.{length, take, drop, length-set}
-use mathlib.Core.Path.{◌≡◌, refl}
+use lib.ListN.{length, length-set}
+use mathlib.Core.Path.{refl}
 use native.Mathlib.Omega.{arith}
 use Rattle.places.proofs.place.shift_up.Goals as goal
 

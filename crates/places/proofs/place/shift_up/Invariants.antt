@@ -1,11 +1,8 @@
 -- `places::place::shift_up` meets its contract.
 use Prim.Native.Nat.{◌+◌, ◌≤◌}
 use Rattle.numbers.specs.Laid.{laid}
-use Rattle.places.proofs.Standing as standing
-use borrow.Author.Rules.{rules}
-use lib.ListN.{length, take, drop, length-set}
-use mathlib.Core.Path.{◌≡◌, refl}
-use native.Mathlib.Omega.{arith}
+use lib.ListN.{length, take, drop}
+use mathlib.Core.Path.{◌≡◌}
 use Rattle.places.proofs.place.shift_up.Given as goal
 
 abbrev pub invariant-loop-k : goal.invariant-loop-k

@@ -1,6 +1,5 @@
 -- `rewriter::rounds::rewrite_all` meets its contract.
 use Rattle.rewriter.proofs.Settling as settling
-use borrow.Author.Rules.{rules}
 use native.Mathlib.Omega.{arith}
 use Rattle.rewriter.proofs.rounds.rewrite_all.Goals as goal
 

@@ -1,6 +1,5 @@
 -- `round::clauses::counted` meets its contract.
 use Rattle.merging.proofs.Forms as forms
-use borrow.Author.Rules.{rules}
 use native.Mathlib.Omega.{arith}
 use Rattle.round.proofs.clauses.counted.Goals as goal
 

@@ -1,10 +1,9 @@
 -- `round::once::rewrite_clauses` and `round::once::rewrite_once` meet their contracts. What is left to read falls at each call.
-use Prim.Native.Nat.{ℕ, ◌+◌, ◌-◌, ◌<◌}
+use Prim.Native.Nat.{◌+◌, ◌-◌}
 use Rattle.places.proofs.Standing as standing
 use Rattle.round.proofs.Cycling as cycling
 use Rattle.round.proofs.Nested as nested
 use Rattle.rules.proofs.Stored.Parts as parts
-use borrow.Author.Rules.{rules}
 use lib.ListN.{length, length-drop}
 use mathlib.Core.Path.{refl}
 use native.Mathlib.Omega.{arith}

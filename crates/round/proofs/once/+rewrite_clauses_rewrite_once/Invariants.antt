@@ -1,13 +1,7 @@
 -- `round::once::rewrite_clauses` and `round::once::rewrite_once` meet their contracts. What is left to read falls at each call.
-use Prim.Native.Nat.{ℕ, ◌+◌, ◌-◌, ◌<◌}
-use Rattle.places.proofs.Standing as standing
+use Prim.Native.Nat.{◌-◌}
 use Rattle.round.proofs.Cycling as cycling
-use Rattle.round.proofs.Nested as nested
-use Rattle.rules.proofs.Stored.Parts as parts
-use borrow.Author.Rules.{rules}
-use lib.ListN.{length, length-drop}
-use mathlib.Core.Path.{refl}
-use native.Mathlib.Omega.{arith}
+use lib.ListN.{length}
 use Rattle.round.proofs.once.+rewrite_clauses_rewrite_once.Given as goal
 
 abbrev pub decreases-rewrite_clauses : goal.decreases-rewrite_clauses

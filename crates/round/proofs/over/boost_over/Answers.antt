@@ -2,7 +2,6 @@
 use Rattle.round.proofs.Finishing as finishing
 use Rattle.rules.proofs.Stored.Parts as parts
 use Rattle.rules.specs.Bytes.{of_big}
-use borrow.Author.Rules.{rules}
 use lib.ListN.{take, length-drop}
 use mathlib.Core.List.{List}
 use mathlib.Core.Path.{sym, ap, ◌∙◌}

@@ -1,6 +1,5 @@
 -- `round::over::finish_boost` meets its contract.
 use Rattle.round.proofs.Finishing as finishing
-use borrow.Author.Rules.{rules}
 use mathlib.Core.Path.{sym, ◌∙◌}
 use native.Mathlib.Omega.{arith}
 use Rattle.round.proofs.over.finish_boost.Goals as goal

@@ -3,7 +3,6 @@ use Prim.Native.Nat.{◌-◌}
 use Rattle.round.proofs.Finishing as finishing
 use Rattle.round.proofs.Phrases as phrases
 use Rattle.rules.proofs.Stored.Parts as parts
-use borrow.Author.Rules.{rules}
 use lib.ListN.{length}
 use mathlib.Core.Path.{sym, ◌∙◌}
 use native.Mathlib.Omega.{arith}

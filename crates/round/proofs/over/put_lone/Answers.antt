@@ -2,7 +2,6 @@
 use Prim.Native.Nat.{◌-◌}
 use Rattle.round.proofs.Booleans as booleans
 use Rattle.round.proofs.Finishing as finishing
-use borrow.Author.Rules.{rules}
 use mathlib.Core.Path.{sym, ◌∙◌}
 use native.Mathlib.Omega.{arith}
 use Rattle.round.proofs.over.put_lone.Goals as goal

@@ -1,7 +1,6 @@
 -- `round::over::put_merged_boolean` meets its contract.
 use Rattle.round.proofs.Booleans as booleans
 use Rattle.round.proofs.Nested as nested
-use borrow.Author.Rules.{rules}
 use native.Mathlib.Omega.{arith}
 use Rattle.round.proofs.over.put_merged_boolean.Goals as goal
 

@@ -3,7 +3,6 @@ use Rattle.places.specs.Within.{within}
 use Rattle.round.proofs.Booleans as booleans
 use Rattle.rules.specs.Checked.{Are}
 use Rattle.rules.specs.Query.{Clauses}
-use borrow.Author.Rules.{rules}
 use mathlib.Core.Logic.{inl, inr}
 use mathlib.Core.Path.{sym, ◌∙◌, subst}
 use native.Mathlib.Omega.{arith}

@@ -1,7 +1,6 @@
 -- `round::over::score_over` meets its contract.
 use Rattle.places.proofs.Standing as standing
 use Rattle.round.proofs.Finishing as finishing
-use borrow.Author.Rules.{rules}
 use mathlib.Core.Path.{sym, ◌∙◌}
 use native.Mathlib.Omega.{arith}
 use Rattle.round.proofs.over.score_over.Goals as goal

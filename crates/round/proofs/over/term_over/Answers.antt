@@ -1,7 +1,6 @@
 -- `round::over::term_over` meets its contract.
 use Prim.Native.Nat.{◌-◌}
 use Rattle.round.proofs.Finishing as finishing
-use borrow.Author.Rules.{rules}
 use native.Mathlib.Omega.{arith}
 use Rattle.round.proofs.over.term_over.Goals as goal
 

@@ -1,6 +1,5 @@
 -- `selection::ask::is_chosen` meets its contract.
 use Rattle.selection.proofs.Selections as selections
-use borrow.Author.Rules.{rules}
 use native.Mathlib.Omega.{arith}
 use Rattle.selection.proofs.ask.is_chosen.Goals as goal
 

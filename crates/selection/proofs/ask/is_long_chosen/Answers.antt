@@ -3,7 +3,6 @@ use Rattle.rules.proofs.Bools as bools
 use Rattle.rules.specs.Bytes.{each}
 use Rattle.rules.specs.Lists.{entry_of}
 use Rattle.selection.proofs.Selections as selections
-use borrow.Author.Rules.{rules}
 use native.Mathlib.Omega.{arith}
 use Rattle.selection.proofs.ask.is_long_chosen.Goals as goal
 

@@ -2,7 +2,6 @@
 use Rattle.rules.proofs.Bools as bools
 use Rattle.rules.proofs.Stored.Rows as rows
 use Rattle.rules.specs.Lists.{is_entry, entry_of}
-use borrow.Author.Rules.{rules}
 use mathlib.Core.List.{[]}
 use mathlib.Core.Path.{refl}
 use native.Mathlib.Omega.{arith}

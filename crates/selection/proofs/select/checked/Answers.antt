@@ -1,6 +1,5 @@
 -- `selection::select::checked` meets its contract.
 use Rattle.selection.proofs.Selections as selections
-use borrow.Author.Rules.{rules}
 use Rattle.selection.proofs.select.checked.Goals as goal
 
 pub returns-then-fault-ne0 : goal.returns-then-fault-ne0

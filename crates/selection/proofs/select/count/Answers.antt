@@ -1,18 +1,11 @@
 -- `selection::select::count` meets its contract.
-use Prim.Native.Nat.{ℕ, ◌+◌, ◌≤◌}
-use Rattle.entries.specs.Slots.{Before}
+use Prim.Native.Nat.{◌+◌}
 use Rattle.rules.proofs.Stored.Parts as parts
-use Rattle.rules.specs.Bytes.{every, each}
-use Rattle.rules.specs.Checked.{Is}
-use Rattle.rules.specs.Lists.{is_record, record_of}
-use Rattle.rules.specs.Matching.{chosen_from, chosen}
-use Rattle.rules.specs.Numbers.{selection_depth}
-use Rattle.rules.specs.Query.{Query}
 use Rattle.selection.proofs.Selections as selections
 use borrow.Author.Rules.{rules}
 use lib.ListN.{length}
 use mathlib.Core.Bool.{true}
-use mathlib.Core.Path.{◌≡◌, refl, sym, ap, ◌∙◌}
+use mathlib.Core.Path.{refl, sym, ap, ◌∙◌}
 use native.Mathlib.Omega.{arith}
 use Rattle.selection.proofs.select.count.Goals as goal
 

@@ -1,7 +1,6 @@
 -- `selection::select::count` meets its contract.
 use Prim.Native.Nat.{ℕ, ◌+◌, ◌≤◌}
 use Rattle.entries.specs.Slots.{Before}
-use Rattle.rules.proofs.Stored.Parts as parts
 use Rattle.rules.specs.Bytes.{every, each}
 use Rattle.rules.specs.Checked.{Is}
 use Rattle.rules.specs.Lists.{is_record, record_of}
@@ -9,11 +8,9 @@ use Rattle.rules.specs.Matching.{chosen_from, chosen}
 use Rattle.rules.specs.Numbers.{selection_depth}
 use Rattle.rules.specs.Query.{Query}
 use Rattle.selection.proofs.Selections as selections
-use borrow.Author.Rules.{rules}
 use lib.ListN.{length}
 use mathlib.Core.Bool.{true}
-use mathlib.Core.Path.{◌≡◌, refl, sym, ap, ◌∙◌}
-use native.Mathlib.Omega.{arith}
+use mathlib.Core.Path.{◌≡◌}
 use Rattle.selection.proofs.select.count.Given as goal
 
 abbrev pub invariant-loop-t : goal.invariant-loop-t

@@ -1,15 +1,13 @@
 -- `selection::select::fill` meets its contract.
 use Prim.Native.Nat.{ℕ}
-use Rattle.entries.specs.Slots.{Before}
 use Rattle.rules.proofs.Stored.Parts as parts
 use Rattle.rules.specs.Answers.{selected}
-use Rattle.rules.specs.Numbers.{selection_depth}
 use Rattle.selection.proofs.Selections as selections
 use Rattle.selection.specs.Select.{listed, coded, filled}
 use borrow.Author.Rules.{rules}
 use lib.ListN.{length, drop}
 use mathlib.Core.List.{List, ◌++◌}
-use mathlib.Core.Path.{◌≡◌, refl, sym, ap, ◌∙◌}
+use mathlib.Core.Path.{refl, sym, ap, ◌∙◌}
 use native.Mathlib.Omega.{arith}
 use Rattle.selection.proofs.select.fill.Goals as goal
 

@@ -1,12 +1,9 @@
 -- `selection::select::records` meets its contract.
-use Prim.Native.Nat.{◌+◌, ◌≤◌}
 use Rattle.rules.proofs.Stored.Parts as parts
-use Rattle.rules.specs.Bytes.{every, each}
-use Rattle.rules.specs.Lists.{is_record, record_of}
 use Rattle.selection.proofs.Selections as selections
 use lib.ListN.{length}
 use mathlib.Core.Bool.{true}
-use mathlib.Core.Path.{◌≡◌, ap}
+use mathlib.Core.Path.{ap}
 use native.Mathlib.Omega.{arith}
 use Rattle.selection.proofs.select.records.Goals as goal
 

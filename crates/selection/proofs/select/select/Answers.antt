@@ -1,7 +1,6 @@
 -- `selection::select::select` meets its contract.
 use Rattle.rules.proofs.Bools as bools
 use Rattle.selection.proofs.Selections as selections
-use borrow.Author.Rules.{rules}
 use borrow.Author.Tests.{leb-true}
 use mathlib.Core.Path.{sym, ◌∙◌}
 use Rattle.selection.proofs.select.select.Goals as goal

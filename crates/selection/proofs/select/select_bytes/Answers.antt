@@ -3,7 +3,6 @@ use Rattle.rules.proofs.Bools as bools
 use Rattle.rules.specs.Answers.{selected}
 use Rattle.selection.proofs.Selections as selections
 use Rattle.selection.specs.Select.{listed}
-use borrow.Author.Rules.{rules}
 use lib.ListN.{length}
 use mathlib.Core.Path.{sym, ◌∙◌}
 use native.Mathlib.Omega.{arith}

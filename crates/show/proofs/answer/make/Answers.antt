@@ -4,7 +4,6 @@ use Rattle.rules.proofs.Stored.Parts as parts
 use Rattle.rules.specs.Answers.{zeros}
 use Rattle.show.proofs.Answering as answering
 use Rattle.show.specs.Lines.{written_in}
-use borrow.Author.Rules.{rules}
 use lib.ListN.{replicate}
 use lib.ListN.{take, drop, length, length-replicate}
 use mathlib.Core.Path.{sym, ap, ◌∙◌}

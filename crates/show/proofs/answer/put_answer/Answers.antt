@@ -4,7 +4,6 @@ use Rattle.rules.specs.Show.{show_rewritten}
 use Rattle.show.proofs.Laying as laying
 use Rattle.show.specs.Answer.{answer_text}
 use Rattle.show.specs.Node.{kind_text}
-use borrow.Author.Rules.{rules}
 use borrow.Author.Tests.{eq-eqb, ne_eqb}
 use native.Mathlib.Omega.{arith}
 use Rattle.show.proofs.answer.put_answer.Goals as goal

@@ -2,7 +2,6 @@
 use Rattle.rules.specs.Bytes.{ascii}
 use Rattle.show.proofs.Laying as laying
 use Rattle.show.specs.Answer.{refusal_text}
-use borrow.Author.Rules.{rules}
 use Rattle.show.proofs.answer.put_refusal.Goals as goal
 
 pub returns : goal.returns

@@ -1,7 +1,6 @@
 -- `show::call::deliver` meets its contract.
 use Rattle.show.proofs.Answering as answering
 use Rattle.show.specs.Answer.{answer_text}
-use borrow.Author.Rules.{rules}
 use native.Mathlib.Omega.{arith}
 use Rattle.show.proofs.call.deliver.Goals as goal
 

@@ -1,6 +1,5 @@
 -- `show::call::show` meets its contract.
 use Rattle.show.proofs.Answering as answering
-use borrow.Author.Rules.{rules}
 use Rattle.show.proofs.call.show.Goals as goal
 
 pub returns-then-room-lt-REWRITE_ROOM : goal.returns-then-room-lt-REWRITE_ROOM

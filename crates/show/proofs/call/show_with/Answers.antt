@@ -1,6 +1,5 @@
 -- `show::call::show_with` meets its contract.
 use Rattle.show.proofs.Answering as answering
-use borrow.Author.Rules.{rules}
 use Rattle.show.proofs.call.show_with.Goals as goal
 
 pub deliver-requires : goal.deliver-requires

@@ -1,6 +1,5 @@
 -- `show::lines::before` meets its contract.
 use Rattle.show.proofs.Cutting as cutting
-use borrow.Author.Rules.{rules}
 use Rattle.show.proofs.lines.before.Goals as goal
 
 pub slice_bounds-result-end : goal.slice_bounds-result-end

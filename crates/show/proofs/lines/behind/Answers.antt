@@ -1,6 +1,5 @@
 -- `show::lines::behind` meets its contract.
 use Rattle.show.proofs.Cutting as cutting
-use borrow.Author.Rules.{rules}
 use Rattle.show.proofs.lines.behind.Goals as goal
 
 pub returns-then-e-s : goal.returns-then-e-s

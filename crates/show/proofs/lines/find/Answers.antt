@@ -1,8 +1,6 @@
 -- `show::lines::find` meets its contract.
 use Prim.Native.Nat.{◌-◌}
 use Rattle.show.proofs.Cutting as cutting
-use borrow.Author.Rules.{rules}
-use lib.ListN.{length}
 use native.Mathlib.Omega.{arith}
 use Rattle.show.proofs.lines.find.Goals as goal
 

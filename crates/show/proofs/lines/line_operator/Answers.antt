@@ -1,6 +1,5 @@
 -- `show::lines::line_operator` meets its contract.
 use Rattle.show.proofs.Cutting as cutting
-use borrow.Author.Rules.{rules}
 use Rattle.show.proofs.lines.line_operator.Goals as goal
 
 pub returns-then-word-line : goal.returns-then-word-line

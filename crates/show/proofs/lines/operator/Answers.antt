@@ -1,7 +1,6 @@
 -- `show::lines::operator` meets its contract.
 use Rattle.rules.specs.Bytes.{ascii}
 use Rattle.show.proofs.Cutting as cutting
-use borrow.Author.Rules.{rules}
 use Rattle.show.proofs.lines.operator.Goals as goal
 
 pub returns-then-same : goal.returns-then-same

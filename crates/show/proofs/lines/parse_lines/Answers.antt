@@ -2,7 +2,6 @@
 use Rattle.rules.specs.Analysis.{front}
 use Rattle.rules.specs.Show.{in_line}
 use Rattle.show.proofs.Cutting as cutting
-use borrow.Author.Rules.{rules}
 use mathlib.Core.Path.{refl, ap, ◌∙◌}
 use Rattle.show.proofs.lines.parse_lines.Goals as goal
 

@@ -4,7 +4,6 @@ use Rattle.rules.specs.Show.{decimal}
 use Rattle.show.proofs.Laying as laying
 use Rattle.show.proofs.Nodes as nodes
 use Rattle.show.specs.Node.{boolean_text}
-use borrow.Author.Rules.{rules}
 use mathlib.Core.Path.{ap}
 use native.Mathlib.Omega.{arith}
 use Rattle.show.proofs.node.put_boolean.Goals as goal

@@ -4,7 +4,6 @@ use Rattle.rules.specs.Bytes.{ascii}
 use Rattle.rules.specs.Show.{hex}
 use Rattle.show.proofs.Laying as laying
 use Rattle.show.proofs.Nodes as nodes
-use borrow.Author.Rules.{rules}
 use mathlib.Core.Path.{ap}
 use native.Mathlib.Omega.{arith}
 use Rattle.show.proofs.node.put_bound.Goals as goal

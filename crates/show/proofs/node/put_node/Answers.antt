@@ -3,7 +3,6 @@ use Rattle.rules.proofs.Stored.Parts as parts
 use Rattle.rules.specs.Bytes.{ascii}
 use Rattle.show.proofs.Laying as laying
 use Rattle.show.proofs.Nodes as nodes
-use borrow.Author.Rules.{rules}
 use native.Mathlib.Omega.{arith}
 use Rattle.show.proofs.node.put_node.Goals as goal
 

@@ -6,7 +6,6 @@ use Rattle.rules.specs.Show.{shown_field, shown_bound}
 use Rattle.show.proofs.Laying as laying
 use Rattle.show.proofs.Nodes as nodes
 use Rattle.show.specs.Node.{range_text}
-use borrow.Author.Rules.{rules}
 use mathlib.Core.List.{List}
 use mathlib.Core.Path.{ap, ◌∙◌}
 use Rattle.show.proofs.node.put_range.Goals as goal

@@ -2,7 +2,6 @@
 use Rattle.rules.specs.Bytes.{ascii}
 use Rattle.show.proofs.Laying as laying
 use Rattle.show.specs.Node.{range_name}
-use borrow.Author.Rules.{rules}
 use borrow.Author.Tests.{eq-eqb, ne_eqb}
 use Rattle.show.proofs.node.put_range_name.Goals as goal
 

@@ -4,7 +4,6 @@ use Rattle.rules.specs.Show.{shown_field, shown}
 use Rattle.show.proofs.Laying as laying
 use Rattle.show.proofs.Nodes as nodes
 use Rattle.show.specs.Node.{term_text}
-use borrow.Author.Rules.{rules}
 use mathlib.Core.Path.{ap, ◌∙◌}
 use Rattle.show.proofs.node.put_term.Goals as goal
 

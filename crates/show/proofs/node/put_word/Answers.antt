@@ -7,7 +7,6 @@ use Rattle.rules.specs.Show.{decimal, shown}
 use Rattle.show.proofs.Laying as laying
 use Rattle.show.proofs.Nodes as nodes
 use Rattle.show.specs.Node.{word_text}
-use borrow.Author.Rules.{rules}
 use lib.ListN.{take, drop}
 use mathlib.Core.List.{List}
 use mathlib.Core.Path.{ap, ◌∙◌}

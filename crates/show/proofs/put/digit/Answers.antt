@@ -1,5 +1,4 @@
 -- `show::put::digit` meets its contract.
-use borrow.Author.Rules.{rules}
 use borrow.Author.Tests.{lt-ltb, le-ltb}
 use Rattle.show.proofs.put.digit.Goals as goal
 

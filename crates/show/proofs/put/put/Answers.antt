@@ -1,6 +1,5 @@
 -- `show::put::put` meets its contract.
 use Rattle.show.proofs.Laying as laying
-use borrow.Author.Rules.{rules}
 use mathlib.Core.Path.{refl}
 use native.Mathlib.Omega.{arith}
 use Rattle.show.proofs.put.put.Goals as goal

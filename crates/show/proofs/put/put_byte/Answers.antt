@@ -1,6 +1,5 @@
 -- `show::put::put_byte` meets its contract.
 use Rattle.show.proofs.Laying as laying
-use borrow.Author.Rules.{rules}
 use mathlib.Core.List.{[], ◌∷◌}
 use mathlib.Core.Path.{refl}
 use native.Mathlib.Omega.{arith}

@@ -1,19 +1,11 @@
 -- `show::query::show_clauses` and `show::query::show_query` meet their contracts: what is left to read falls at each call.
-use Prim.Native.Nat.{ℕ, ◌<◌}
-use Prim.Native.Nat.{◌+◌, ◌≤◌}
-use Rattle.rules.proofs.Stored.Parts as parts
-use Rattle.rules.specs.Bytes.{tag_of, body_of, rest_of}
+use Prim.Native.Nat.{◌≤◌}
 use Rattle.rules.specs.Checked.{StoredClauses}
-use Rattle.rules.specs.Show.{show, show_clauses}
+use Rattle.rules.specs.Show.{show_clauses}
 use Rattle.show.proofs.Laying as laying
-use Rattle.show.proofs.Nodes as nodes
-use Rattle.show.proofs.Queries as queries
-use Rattle.show.specs.Node.{query_in, row_in, kind_text}
-use borrow.Author.Rules.{rules}
+use Rattle.show.specs.Node.{row_in}
 use lib.ListN.{length}
-use mathlib.Core.List.{List}
-use mathlib.Core.Path.{◌≡◌, refl, ap, ◌∙◌}
-use native.Mathlib.Omega.{arith}
+use mathlib.Core.Path.{◌≡◌}
 use Rattle.show.proofs.query.+show_clauses_show_query.Given as goal
 
 abbrev pub decreases-show_clauses : goal.decreases-show_clauses

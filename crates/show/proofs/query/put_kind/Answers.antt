@@ -2,7 +2,6 @@
 use Rattle.rules.specs.Bytes.{ascii}
 use Rattle.show.proofs.Laying as laying
 use Rattle.show.specs.Node.{kind_text}
-use borrow.Author.Rules.{rules}
 use borrow.Author.Tests.{ne_eqb}
 use Rattle.show.proofs.query.put_kind.Goals as goal
 

@@ -2,7 +2,6 @@
 use Rattle.rules.specs.Bytes.{ascii}
 use Rattle.rules.specs.Show.{line}
 use Rattle.show.proofs.Laying as laying
-use borrow.Author.Rules.{rules}
 use Rattle.show.proofs.query.put_line.Goals as goal
 
 pub returns : goal.returns

@@ -2,7 +2,6 @@
 use Rattle.rules.specs.Bytes.{ascii}
 use Rattle.show.proofs.Laying as laying
 use Rattle.show.proofs.Texts as texts
-use borrow.Author.Rules.{rules}
 use Rattle.show.proofs.text.put_field.Goals as goal
 
 pub returns-then-f-eq0 : goal.returns-then-f-eq0

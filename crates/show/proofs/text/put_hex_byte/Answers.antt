@@ -1,6 +1,5 @@
 -- `show::text::put_hex_byte` meets its contract.
 use Rattle.show.proofs.Laying as laying
-use borrow.Author.Rules.{rules}
 use Rattle.show.proofs.text.put_hex_byte.Goals as goal
 
 pub returns : goal.returns

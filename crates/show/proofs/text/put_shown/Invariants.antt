@@ -1,14 +1,9 @@
 -- `show::text::put_shown` meets its contract.
-use Prim.Native.Nat.{◌+◌, ◌-◌, ◌≤◌}
+use Prim.Native.Nat.{◌-◌, ◌≤◌}
 use Rattle.rules.specs.Show.{shown}
 use Rattle.show.proofs.Laying as laying
-use Rattle.show.proofs.Texts as texts
-use Rattle.show.specs.Lays.{shown_byte}
-use borrow.Author.Rules.{rules}
-use lib.ListN.{get_or}
 use lib.ListN.{length, drop}
-use mathlib.Core.Path.{refl, ◌≡◌}
-use native.Mathlib.Omega.{arith}
+use mathlib.Core.Path.{◌≡◌}
 use Rattle.show.proofs.text.put_shown.Given as goal
 
 abbrev pub invariant-loop-k : goal.invariant-loop-k

@@ -1,7 +1,6 @@
 -- `show::text::put_shown_byte` meets its contract.
 use Rattle.show.proofs.Laying as laying
 use Rattle.show.proofs.Texts as texts
-use borrow.Author.Rules.{rules}
 use Rattle.show.proofs.text.put_shown_byte.Goals as goal
 
 pub returns-then-is_plain : goal.returns-then-is_plain

@@ -3,7 +3,6 @@ use Prim.Native.Nat.{ℕ}
 use Rattle.stored.proofs.Reader as reader
 use Rattle.stored.proofs.Rowing as rowing
 use Rattle.stored.specs.Read.{OfOpened, cut, row_of, verdict}
-use borrow.Author.Rules.{rules}
 use mathlib.Core.Path.{sym, ap, ◌∙◌, subst}
 use native.Mathlib.Omega.{arith}
 use Rattle.stored.proofs.read.check_query.Goals as goal

@@ -1,6 +1,5 @@
 -- `stored::read::is_any_term` meets its contract.
 use Rattle.stored.proofs.Plainly as plainly
-use borrow.Author.Rules.{rules}
 use mathlib.Core.Path.{sym}
 use Rattle.stored.proofs.read.is_any_term.Goals as goal
 

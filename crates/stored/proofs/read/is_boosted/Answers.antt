@@ -1,7 +1,6 @@
 -- `stored::read::is_boosted` meets its contract.
 use Rattle.rules.proofs.Chains as chains
 use Rattle.rules.specs.Stored.{is_boost}
-use borrow.Author.Rules.{rules}
 use borrow.Author.Tests.{le-leb, lt-leb}
 use mathlib.Core.Path.{ap, ◌∙◌}
 use Rattle.stored.proofs.read.is_boosted.Goals as goal

@@ -4,7 +4,6 @@ use Rattle.rules.proofs.Bools as bools
 use Rattle.rules.proofs.Chains as chains
 use Rattle.rules.proofs.Stored.Leaves as leaves
 use Rattle.rules.proofs.Stored.Parts as parts
-use borrow.Author.Rules.{rules}
 use lib.Dec.{eqb}
 use lib.ListN.{length}
 use mathlib.Core.List.{List}

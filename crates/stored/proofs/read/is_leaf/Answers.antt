@@ -2,7 +2,6 @@
 use Prim.Native.Nat.{ℕ}
 use Rattle.rules.proofs.Chains as chains
 use Rattle.stored.specs.Read.{is_leaf}
-use borrow.Author.Rules.{rules}
 use borrow.Author.Tests.{ne_eqb}
 use mathlib.Core.Path.{refl, sym, ap, ◌∙◌}
 use Rattle.stored.proofs.read.is_leaf.Goals as goal

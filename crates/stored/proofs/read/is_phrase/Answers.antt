@@ -4,7 +4,6 @@ use Rattle.rules.proofs.Chains as chains
 use Rattle.rules.specs.Bytes.{every}
 use Rattle.rules.specs.Reading.{is_word}
 use Rattle.stored.proofs.Reader as reader
-use borrow.Author.Rules.{rules}
 use mathlib.Core.Path.{ap, ◌∙◌}
 use Rattle.stored.proofs.read.is_phrase.Goals as goal
 

@@ -4,7 +4,6 @@ use Rattle.rules.proofs.Chains as chains
 use Rattle.rules.proofs.Stored.Parts as parts
 use Rattle.rules.specs.Numbers.{term_tag}
 use Rattle.stored.specs.Read.{is_term}
-use borrow.Author.Rules.{rules}
 use borrow.Author.Tests.{eq-eqb, ne_eqb}
 use mathlib.Core.Bool.{not}
 use mathlib.Core.Path.{ap, ◌∙◌}

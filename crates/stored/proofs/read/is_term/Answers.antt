@@ -4,7 +4,6 @@ use Rattle.rules.proofs.Chains as chains
 use Rattle.rules.proofs.Stored.Parts as parts
 use Rattle.rules.specs.Bytes.{is_text, is_field, body_of, rest_of, is_part}
 use Rattle.rules.specs.Numbers.{field_tag, text_tag}
-use borrow.Author.Rules.{rules}
 use mathlib.Core.Path.{ap, ◌∙◌}
 use Rattle.stored.proofs.read.is_term.Goals as goal
 

@@ -4,7 +4,6 @@ use Rattle.rules.proofs.Chains as chains
 use Rattle.rules.proofs.Stored.Parts as parts
 use Rattle.rules.specs.Bytes.{is_text}
 use Rattle.rules.specs.Numbers.{word_tag}
-use borrow.Author.Rules.{rules}
 use borrow.Author.Tests.{le-leb, lt-leb}
 use mathlib.Core.Path.{ap, ◌∙◌}
 use Rattle.stored.proofs.read.is_word.Goals as goal

@@ -5,9 +5,7 @@ use Rattle.rules.proofs.Stored.Rows as rows
 use Rattle.rules.specs.Bytes.{every}
 use Rattle.rules.specs.Numbers.{word_tag}
 use Rattle.rules.specs.Reading.{is_word}
-use borrow.Author.Rules.{rules}
-use lib.ListN.{length}
-use mathlib.Core.Path.{◌≡◌, refl, sym, ap, ◌∙◌}
+use mathlib.Core.Path.{refl, sym, ap, ◌∙◌}
 use Rattle.stored.proofs.read.is_words.Goals as goal
 
 pub loop-t-init : goal.loop-t-init

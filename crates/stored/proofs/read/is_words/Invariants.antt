@@ -1,13 +1,8 @@
 -- `stored::read::is_words` meets its contract.
-use Rattle.rules.proofs.Bools as bools
-use Rattle.rules.proofs.Stored.Parts as parts
-use Rattle.rules.proofs.Stored.Rows as rows
 use Rattle.rules.specs.Bytes.{every}
-use Rattle.rules.specs.Numbers.{word_tag}
 use Rattle.rules.specs.Reading.{is_word}
-use borrow.Author.Rules.{rules}
 use lib.ListN.{length}
-use mathlib.Core.Path.{◌≡◌, refl, sym, ap, ◌∙◌}
+use mathlib.Core.Path.{◌≡◌}
 use Rattle.stored.proofs.read.is_words.Given as goal
 
 abbrev pub invariant-loop-t : goal.invariant-loop-t

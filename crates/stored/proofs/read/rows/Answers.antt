@@ -1,9 +1,7 @@
 -- `stored::read::rows` meets its contract.
-use Prim.Native.Nat.{◌+◌, ◌*◌, ◌-◌}
+use Prim.Native.Nat.{◌-◌}
 use Rattle.stored.proofs.Rowing as rowing
 use Rattle.stored.specs.Read.{OfNext, cut}
-use borrow.Author.Rules.{rules}
-use lib.ListN.{length}
 use mathlib.Core.Path.{refl, subst}
 use native.Mathlib.Omega.{arith}
 use Rattle.stored.proofs.read.rows.Goals as goal

@@ -3,7 +3,6 @@ use Rattle.rules.proofs.Bools as bools
 use Rattle.rules.proofs.Stored.Parts as parts
 use Rattle.stored.proofs.Stepping as stepping
 use Rattle.stored.specs.Read.{OfOpened}
-use borrow.Author.Rules.{rules}
 use lib.ListN.{length}
 use mathlib.Core.Path.{sym, ap, ◌∙◌, subst}
 use native.Mathlib.Omega.{arith}

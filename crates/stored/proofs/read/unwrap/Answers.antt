@@ -2,7 +2,6 @@
 use Prim.Native.Nat.{◌-◌}
 use Rattle.stored.proofs.Opening as opening
 use Rattle.stored.specs.Read.{OfFront, cut}
-use borrow.Author.Rules.{rules}
 use mathlib.Core.Path.{subst}
 use native.Mathlib.Omega.{arith}
 use Rattle.stored.proofs.read.unwrap.Goals as goal

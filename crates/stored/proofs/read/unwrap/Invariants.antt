@@ -1,10 +1,6 @@
 -- `stored::read::unwrap` meets its contract.
 use Prim.Native.Nat.{◌-◌}
 use Rattle.stored.proofs.Opening as opening
-use Rattle.stored.specs.Read.{OfFront, cut}
-use borrow.Author.Rules.{rules}
-use mathlib.Core.Path.{subst}
-use native.Mathlib.Omega.{arith}
 use Rattle.stored.proofs.read.unwrap.Given as goal
 
 abbrev pub invariant-loop-r : goal.invariant-loop-r

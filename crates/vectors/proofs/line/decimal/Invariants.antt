@@ -1,11 +1,8 @@
 -- `vectors::line::decimal` meets its contract. The loop's invariant: what is left makes the rest of the number.
 use Prim.Native.Nat.{◌-◌, ◌≤◌}
-use Rattle.vectors.proofs.Reading.{decimal_turn, decimal_end}
 use Rattle.vectors.specs.Line.{decimal_of}
-use borrow.Author.Rules.{rules}
 use lib.ListN.{length, drop}
-use mathlib.Core.Path.{◌≡◌, refl, sym, ◌∙◌}
-use native.Mathlib.Omega.{arith}
+use mathlib.Core.Path.{◌≡◌}
 use Rattle.vectors.proofs.line.decimal.Given as goal
 
 abbrev pub invariant-loop-i : goal.invariant-loop-i

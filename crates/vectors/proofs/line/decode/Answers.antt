@@ -1,7 +1,6 @@
 -- `vectors::line::decode` meets its contract. The loop's invariant is `Decoding`.
 use Prim.Native.Nat.{◌-◌}
-use Rattle.vectors.proofs.Reading.{Decoding, decoding_turn, decoded}
-use borrow.Author.Rules.{rules}
+use Rattle.vectors.proofs.Reading.{decoding_turn, decoded}
 use lib.ListN.{length, length-set}
 use mathlib.Core.Logic.{inl, inr}
 use mathlib.Core.Path.{refl}

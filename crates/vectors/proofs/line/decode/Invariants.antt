@@ -1,11 +1,7 @@
 -- `vectors::line::decode` meets its contract. The loop's invariant is `Decoding`.
 use Prim.Native.Nat.{◌-◌}
-use Rattle.vectors.proofs.Reading.{Decoding, decoding_turn, decoded}
-use borrow.Author.Rules.{rules}
-use lib.ListN.{length, length-set}
-use mathlib.Core.Logic.{inl, inr}
-use mathlib.Core.Path.{refl}
-use native.Mathlib.Omega.{arith}
+use Rattle.vectors.proofs.Reading.{Decoding}
+use lib.ListN.{length}
 use Rattle.vectors.proofs.line.decode.Given as goal
 
 abbrev pub invariant-loop-n : goal.invariant-loop-n

@@ -1,11 +1,9 @@
 -- `vectors::line::is_hex` meets its contract. The loop's invariant: the bytes passed are those of the digits.
-use Prim.Native.Nat.{ℕ, ◌+◌, ◌≤◌, ◌<◌, ◌-◌}
+use Prim.Native.Nat.{◌-◌}
 use Rattle.vectors.proofs.Reading.{told_true, told_false}
-use Rattle.vectors.specs.Line.{pair_at}
 use borrow.Author.Count.{below_more}
 use borrow.Author.Rules.{rules}
-use lib.ListN.{length, get_or}
-use mathlib.Core.Path.{◌≡◌, sym, ◌∙◌}
+use mathlib.Core.Path.{sym, ◌∙◌}
 use native.Mathlib.Omega.{arith}
 use Rattle.vectors.proofs.line.is_hex.Goals as goal
 

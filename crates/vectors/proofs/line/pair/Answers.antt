@@ -1,6 +1,5 @@
 -- `vectors::line::pair` meets its contract.
 use Rattle.vectors.specs.Line.{pair_at}
-use borrow.Author.Rules.{rules}
 use Rattle.vectors.proofs.line.pair.Goals as goal
 
 pub returns : goal.returns

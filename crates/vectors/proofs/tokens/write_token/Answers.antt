@@ -1,8 +1,6 @@
 -- `vectors::tokens::write_token` is safe and ends. The loop's invariant: the room keeps its length.
-use Prim.Native.Nat.{◌-◌, ◌≤◌}
-use borrow.Author.Rules.{rules}
+use Prim.Native.Nat.{◌-◌}
 use lib.ListN.{length, length-set}
-use mathlib.Core.Path.{◌≡◌}
 use native.Mathlib.Omega.{arith}
 use Rattle.vectors.proofs.tokens.write_token.Goals as goal
 

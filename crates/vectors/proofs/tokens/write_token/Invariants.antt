@@ -1,9 +1,7 @@
 -- `vectors::tokens::write_token` is safe and ends. The loop's invariant: the room keeps its length.
 use Prim.Native.Nat.{◌-◌, ◌≤◌}
-use borrow.Author.Rules.{rules}
-use lib.ListN.{length, length-set}
+use lib.ListN.{length}
 use mathlib.Core.Path.{◌≡◌}
-use native.Mathlib.Omega.{arith}
 use Rattle.vectors.proofs.tokens.write_token.Given as goal
 
 abbrev pub invariant-loop-n : goal.invariant-loop-n
