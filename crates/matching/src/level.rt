@@ -9,7 +9,7 @@ use names::{MUST_NOT_TAG, SHOULD_TAG};
 
 // Where it ends, how many true Should clauses it still asks for, whether a Must, a Filter or a true Should was met, and the tag of the
 // clause at hand.
-#[derive(Drop)]
+#[derive(Clone, Copy)]
 pub struct Level {
     pub end: usize,
     pub asked: usize,

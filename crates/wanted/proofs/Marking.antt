@@ -146,6 +146,7 @@ going_start l = record { many = l; words = λ n S. inr S; others = λ S. inr S }
 
 -- at the front, or behind it
 front_or_later : {P : List ℕ → Type 0} (t : List ℕ) → Somewhere P t → P t ⊎ Somewhere P (drop 1 t)
+front_or_later {P = P} [] S = elim S [ ]
 front_or_later (x ∷ s) (here h) = inl h
 front_or_later (x ∷ s) (later S) = inr S
 
@@ -157,6 +158,7 @@ going_next {t = t} {ranges = ranges} {r = r} G L em eu = record {
 }
 
 somewhere_long : {P : List ℕ → Type 0} (t : List ℕ) → Somewhere P t → 0 < length t
+somewhere_long {P = P} [] S = elim S [ ]
 somewhere_long (x ∷ s) S = omega arith
 
 pub going_end : {q w t : List ℕ} {ranges : Bool} → Going q w t ranges → length t ≤ 0 → Marks q w ranges
