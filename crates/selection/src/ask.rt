@@ -15,7 +15,7 @@ use wanted::{any_called, mark_query};
 const LONG: usize = 256;
 
 // Whether the query is long; of a long one, whether it may have a range, and what it says of a record with no entry.
-#[derive(Drop)]
+#[derive(Clone, Copy)]
 pub struct Plan {
     pub long: bool,
     pub ranges: bool,

@@ -35,7 +35,7 @@ pub clause-requires : goal.clause-requires
 clause-requires c = ((walks.to_clause c.requires.0 c.requires.1 [] c.big2-asked.result (c.big2-asked.ensures.0 ∙ ap (λ (l : List ℕ). of_big (take 2 l)) (parts.cut_from 6 (cut c.args.q.now c.args.at c.args.end)))).place, c.big2-asked.ensures.1, c.requires.2, c.requires.3)
 
 pub shape_of-row : goal.shape_of-row
-shape_of-row c = c.clause.auto.row.0
+shape_of-row c = c.clause.auto.row
 
 pub returns : goal.returns
 returns c = λ es t. let N = walks.to_clause t c.requires.1 es c.big2-asked.result (c.big2-asked.ensures.0 ∙ ap (λ (l : List ℕ). of_big (take 2 l)) (parts.cut_from 6 (cut c.args.q.now c.args.at c.args.end))) in walks.leads_on es _ _ c.clause.result (omega arith) N.value (c.clause.ensures es N.place)

@@ -27,7 +27,7 @@ pub clause-requires : goal.clause-requires
 clause-requires c = ((walks.back_clause (c.loop-d.invariant.1 c.requires.0) (c.loop-d.d - 1) c.unpacked-l.result (omega arith) c.unpacked-l.ensures c.answer-m.ensures c.is_over-over.ensures c.past_idle-p.ensures (sym c.allowed.ensures ∙ c.if-allowed.true) c.if-p-end.true).place, rw c.answer-m.ensures (omega (arith, ap (λ (l : Level). l.asked) c.unpacked-l.ensures)), c.requires.2, omega (arith, c.loop-d.invariant.0, c.requires.3))
 
 pub shape_of-row-then-p-end : goal.shape_of-row-then-p-end
-shape_of-row-then-p-end c = c.clause.auto.row.0 ∙ c.loop-d.invariant.0
+shape_of-row-then-p-end c = c.clause.auto.row ∙ c.loop-d.invariant.0
 
 pub returns-then-p-end : goal.returns-then-p-end
 returns-then-p-end c = λ o. let N = walks.back_clause (c.loop-d.invariant.1 o) (c.loop-d.d - 1) c.unpacked-l.result (omega arith) c.unpacked-l.ensures c.answer-m.ensures c.is_over-over.ensures c.past_idle-p.ensures (sym c.allowed.ensures ∙ c.if-allowed.true) c.if-p-end.true in walks.leads_on (each entry_of c.args.rec.now) _ _ c.clause.result (let a = (c.loop-d.invariant.1 o).later in omega arith) N.value (c.clause.ensures (each entry_of c.args.rec.now) N.place)

@@ -24,7 +24,7 @@ pub enter-requires : goal.enter-requires
 enter-requires c = (c.requires.0, sym c.is_open.ensures ∙ c.if-is_open.true, c.requires.3, c.requires.4)
 
 pub shape_of-row-then-is_open : goal.shape_of-row-then-is_open
-shape_of-row-then-is_open c = c.enter.auto.row.0
+shape_of-row-then-is_open c = c.enter.auto.row
 
 pub returns-then-is_open : goal.returns-then-is_open
 returns-then-is_open c = λ t. c.enter.ensures (each entry_of c.args.rec.now) t
@@ -51,7 +51,7 @@ pub returns-in-5 : goal.returns-in-5
 returns-in-5 c = λ t. walks.to_constant t (sym c.tag_of.ensures ∙ c.in-5.is) (each entry_of c.args.rec.now)
 
 pub shape_of-row : goal.shape_of-row
-shape_of-row c = c.settle.auto.row.1.1.1.0
+shape_of-row c = c.settle.auto.row
 
 pub returns-in_default : goal.returns-in_default
 unfolding Truth

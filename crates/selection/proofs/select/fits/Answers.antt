@@ -1,0 +1,18 @@
+-- `selection::select::fits` meets its contract.
+use Rattle.selection.proofs.Selections as selections
+use borrow.Author.Tests.{le-leb}
+use mathlib.Core.Path.{sym}
+use native.Mathlib.Omega.{arith}
+use Rattle.selection.proofs.select.fits.Goals as goal
+
+pub records-requires : goal.records-requires
+records-requires c = (selections.ready c.args.query.now c.args.list.now (λ i. omega (arith, c.shared_slice_known-1.given i)) c.requires).list.records
+
+pub returns-then-records-n : goal.returns-then-records-n
+returns-then-records-n c = sym (le-leb _ c.args.n (omega (arith, selections.listed_few (selections.ready c.args.query.now c.args.list.now (λ i. omega (arith, c.shared_slice_known-1.given i)) c.requires))))
+
+pub count-requires : goal.count-requires
+count-requires c = c.requires
+
+pub returns : goal.returns
+returns c = rw c.count.ensures
