@@ -223,7 +223,7 @@ module _ (strict : Bool) (s l rows held room : List ℕ) (B : Bytes s) {refusal 
     few_rows : length D.rows ≤ length rs
     few_rows =
         let S = selection D.reply.bytes l D.rows D.is_selected in
-        let same : S.records ≡ rs = got_same (sym S.List-read ∙ list) in
+        let same : S.records ≡ rs = got_same (sym S.list_read ∙ list) in
         omega (arith, ap length S.listed, chosen_few S.query 0 S.records, ap length same)
 
     not_taken : (n : ℕ) → left refusal count rounds rows' held' room' ≡ left n 0 0 rows (zeros held) (zeros room) → (n ≡ 0 → ⊥)

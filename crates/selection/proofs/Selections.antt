@@ -22,7 +22,7 @@ use Rattle.rules.proofs.Stored.Refusals.{number_got, number_not, number_some, on
 use Rattle.rules.proofs.Stored.Bigs.{length_big}
 use Rattle.rules.proofs.Stored.Parts.{part_is, less_empty, more_empty, rest_shorter, length_whole}
 use Rattle.rules.proofs.Stored.Rows.{first, others, each_done, each_next, Row, done, next, row}
-use Rattle.rules.proofs.Stored.Accepted.{Accepted, accepted, Listed, listed as list-accepted}
+use Rattle.rules.proofs.Stored.Accepted.{Accepted, accepted, Listed, listed as list_accepted}
 use Rattle.rules.proofs.Choosing.Choices.{selection, selected_is, chosen_few}
 use Rattle.numbers.specs.Laid.{laid, Put}
 use Rattle.selection.specs.declared.select.Selected.TheVariants.{Refused, Chosen}
@@ -45,7 +45,7 @@ ready s l B e =
     let g = number_got (selected s l) e in
     let S = selection s l g.0 g.1 in
     let A = accepted selection_bytes selection_depth s 0 B (sym (ap number_of S.query_read)) refl in
-    let L = list-accepted l 0 (sym (ap number_of S.List-read)) refl in
+    let L = list_accepted l 0 (sym (ap number_of S.list_read)) refl in
     record { query = A; list = L; picks = selected_is s l A.query (each record_of l) A.read L.read }
 
 module _ {s l : List ℕ} (R : Ready s l) where

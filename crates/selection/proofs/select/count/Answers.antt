@@ -96,12 +96,12 @@ loop-t-preserved c = (
     parts.rest_shorter c.loop-t.t.now
         c.loop-t-test.true,
   )),
-  λ c.one-n.ensures.1 p. let I = c.loop-t.invariant.3 c.one-n.ensures.1 p in (
+  λ w p. let I = c.loop-t.invariant.3 w p in (
     I.0 + 1,
     selections.count_next
         c.loop-t.n _ I.0 c.is_chosen.result _ _ (selections.chosen_next c.args.query.now c.loop-t.t.now c.is_chosen.result
         c.loop-t-test.true c.body.ensures
-        c.rest-u.ensures c.is_chosen.ensures.truth c.one-n.ensures.1 p I.0) c.one-n.ensures.0 I.1,
+        c.rest-u.ensures c.is_chosen.ensures.truth w p I.0) c.one-n.ensures.0 I.1,
   ),
   selections.before_next c.args.list.now c.loop-t.t.now c.body.ensures
       (selections.record_whole _ (selections.first_record _ c.loop-t-test.true

@@ -13,13 +13,13 @@ pub fits-requires : goal.fits-requires
 fits-requires c = (sym c.checked-n.ensures ∙ c.if-n-ne0.false)
 
 pub returns-then-not-fits : goal.returns-then-not-fits
-returns-then-not-fits c = selections.no_room c.args.query.now c.args.list.now (sym c.checked-n.ensures ∙ c.if-n-ne0.false) c.args.rows.now (bools.told_no c.fits2.ensures c.if-not-fits.true-raw)
+returns-then-not-fits c = selections.no_room c.args.query.now c.args.list.now (sym c.checked-n.ensures ∙ c.if-n-ne0.false) c.args.rows.now (bools.told_no c.fits.ensures c.if-not-fits.true-raw)
 
 pub fill-k-requires : goal.fill-k-requires
-fill-k-requires c = (sym c.checked-n.ensures ∙ c.if-n-ne0.false, leb-true _ _ (bools.told_yes c.fits2.ensures c.if-not-fits.false-raw))
+fill-k-requires c = (sym c.checked-n.ensures ∙ c.if-n-ne0.false, leb-true _ _ (bools.told_yes c.fits.ensures c.if-not-fits.false-raw))
 
 pub shape_of-rows : goal.shape_of-rows
 shape_of-rows c = c.fill-k.auto.rows
 
 pub returns : goal.returns
-returns c = selections.choose c.args.query.now c.args.list.now (sym c.checked-n.ensures ∙ c.if-n-ne0.false) c.args.rows.now _ c.fill-k.result (bools.told_yes c.fits2.ensures c.if-not-fits.false-raw) c.fill-k.ensures.0 c.fill-k.ensures.1
+returns c = selections.choose c.args.query.now c.args.list.now (sym c.checked-n.ensures ∙ c.if-n-ne0.false) c.args.rows.now _ c.fill-k.result (bools.told_yes c.fits.ensures c.if-not-fits.false-raw) c.fill-k.ensures.0 c.fill-k.ensures.1

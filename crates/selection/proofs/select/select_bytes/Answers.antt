@@ -22,12 +22,12 @@ pub shape_of-room-then-not-fits : goal.shape_of-room-then-not-fits
 shape_of-room-then-not-fits c = c.clear.auto.room
 
 pub returns-then-not-fits : goal.returns-then-not-fits
-returns-then-not-fits c = selections.no_room_bytes c.args.query.now c.args.list.now c.args.rows.now c.args.room.now c.clear.ensures (sym c.checked-n.ensures ∙ c.if-n-ne0.false) (bools.told_no c.fits2.ensures c.if-not-fits.true-raw)
+returns-then-not-fits c = selections.no_room_bytes c.args.query.now c.args.list.now c.args.rows.now c.args.room.now c.clear.ensures (sym c.checked-n.ensures ∙ c.if-n-ne0.false) (bools.told_no c.fits.ensures c.if-not-fits.true-raw)
 
 pub fill-w-requires : goal.fill-w-requires
 fill-w-requires c = (
   sym c.checked-n.ensures ∙ c.if-n-ne0.false,
-  selections.fits_bytes (listed (selected c.args.query.now c.args.list.now)) (length c.args.rows.now) (bools.told_yes c.fits2.ensures c.if-not-fits.false-raw),
+  selections.fits_bytes (listed (selected c.args.query.now c.args.list.now)) (length c.args.rows.now) (bools.told_yes c.fits.ensures c.if-not-fits.false-raw),
 )
 
 pub shape_of-rows : goal.shape_of-rows
@@ -37,4 +37,4 @@ pub shape_of-room : goal.shape_of-room
 shape_of-room c = c.clear.auto.room
 
 pub returns : goal.returns
-returns c = selections.choose_bytes c.args.query.now c.args.list.now c.args.rows.now c.args.room.now c.clear.ensures (sym c.checked-n.ensures ∙ c.if-n-ne0.false) _ c.fill-w.result (bools.told_yes c.fits2.ensures c.if-not-fits.false-raw) (selections.listed_most (selections.ready c.args.query.now c.args.list.now (λ i. omega (arith, c.shared_slice_known-1.given i)) (sym c.checked-n.ensures ∙ c.if-n-ne0.false))) c.fill-w.ensures.0 c.fill-w.ensures.1
+returns c = selections.choose_bytes c.args.query.now c.args.list.now c.args.rows.now c.args.room.now c.clear.ensures (sym c.checked-n.ensures ∙ c.if-n-ne0.false) _ c.fill-w.result (bools.told_yes c.fits.ensures c.if-not-fits.false-raw) (selections.listed_most (selections.ready c.args.query.now c.args.list.now (λ i. omega (arith, c.shared_slice_known-1.given i)) (sym c.checked-n.ensures ∙ c.if-n-ne0.false))) c.fill-w.ensures.0 c.fill-w.ensures.1
