@@ -24,10 +24,7 @@ def tags(page):
     """One number for a name in the page, the header and the definitions."""
     said = {row["Name"].strip("`"): int(row["Tag"].strip("`"), 16) for row in pages.with_columns(page, "Tag", "Name")}
     headed = {n: int(t, 16) for n, t in re.findall(r"(GORBIHESH_\w+_TAG) = 0x(\w\w)", open(HEADER).read())}
-    defined = {
-        "GORBIHESH_" + re.sub(r"(?=[A-Z])", "_", name).upper(): int(tag, 16)
-        for name, tag in re.findall(r"^(\w+Tag) = 0x(\w\w)$", open(DEFINITIONS).read(), re.M)
-    }
+    defined = {"GORBIHESH_" + name.upper(): int(tag, 16) for name, tag in re.findall(r"^(\w+_tag) = 0x(\w\w)$", open(DEFINITIONS).read(), re.M)}
     return same("tags, beside the header", said, headed) + same("tags, beside the definitions", said, defined)
 
 

@@ -13,11 +13,17 @@ returns-then-one c = let one = c.requires.2 c.if-one.true in record { made = (λ
 pub term_len-requires : goal.term_len-requires
 term_len-requires c = (c.requires.0, c.requires.1)
 
-pub returns-then-plain : goal.returns-then-plain
-returns-then-plain c = let it = rw c.if-plain.true c.term_len.ensures in record { made = it.0; bound = it.1 }
+pub returns-then-plain-clause-made : goal.returns-then-plain-clause-made
+returns-then-plain-clause-made c = rw c.if-plain.true c.term_len.ensures.made
+
+pub returns-then-plain-clause-bound : goal.returns-then-plain-clause-bound
+returns-then-plain-clause-bound c = c.term_len.ensures.bound
 
 pub phrase_len-requires : goal.phrase_len-requires
 phrase_len-requires c = (c.requires.0, c.requires.1)
 
-pub returns : goal.returns
-returns c = let it = rw c.if-plain.false ((λ o f e. c.phrase_len.ensures.made f e), c.phrase_len.ensures.bound) in record { made = it.0; bound = it.1 }
+pub returns-clause-made : goal.returns-clause-made
+returns-clause-made c = rw c.if-plain.false (λ o f e. c.phrase_len.ensures.made f e)
+
+pub returns-clause-bound : goal.returns-clause-bound
+returns-clause-bound c = c.phrase_len.ensures.bound

@@ -31,9 +31,8 @@ pub one_at-one-requires : goal.one_at-one-requires
 one_at-one-requires c = (c.requires.0, kind_in_lem c.args.room.now c.args.n (leaf_kind c.args.plain) c.args.i (leaf_some c.args.plain) c.requires.2)
 
 pub leaf_len-len-requires : goal.leaf_len-len-requires
-leaf_len-len-requires c = let text_at = c.text_at-text in
-    let z = kind_in_lem c.args.room.now c.args.n (leaf_kind c.args.plain) c.args.i (leaf_some c.args.plain) c.requires.2 in
-    (rw c.field_part-field.ensures c.requires.1.short, rw (text_at.ensures, ← text_is c.args.room.now c.args.n c.args.i z) (omega (arith, place_text c.requires.0 c.args.i z, place_most_lem c.requires.0 (c.args.i + 1))), λ e. rw text_at.ensures (c.one_at-one.ensures e))
+leaf_len-len-requires c = let z = kind_in_lem c.args.room.now c.args.n (leaf_kind c.args.plain) c.args.i (leaf_some c.args.plain) c.requires.2 in
+    (rw c.field_part-field.ensures c.requires.1.short, rw (c.text_at-text.ensures, ← text_is c.args.room.now c.args.n c.args.i z) (omega (arith, place_text c.requires.0 c.args.i z, place_most_lem c.requires.0 (c.args.i + 1))), λ e. rw c.text_at-text.ensures (c.one_at-one.ensures e))
 
 pub overflow_add-i-2 : goal.overflow_add-i-2
 overflow_add-i-2 c = omega (arith, c.requires.3)
@@ -50,17 +49,11 @@ with_boost-requires c = let z = kind_in_lem c.args.room.now c.args.n (leaf_kind 
     (c.requires.0, omega arith, omega (arith, place_text c.requires.0 c.args.i z, place_most_lem c.requires.0 (c.args.i + 1)))
 
 pub returns-then-is_at-2 : goal.returns-then-is_at-2
-returns-then-is_at-2 c = let pre = c.requires in
-    let args = c.args in
-    let with-boost = c.with_boost in
-    let z = kind_in_lem args.room.now args.n (leaf_kind args.plain) args.i (leaf_some args.plain) pre.2 in
-    let b = rw (c.text_at-text.ensures, ← text_is args.room.now args.n args.i z) at c.leaf_len-len.ensures.bound in
-    record { means = (λ st o T. rw (leaf_goes args.plain st (tokens_of args.room.now args.n) (name_from args.room.now args.default.now args.from) args.i (sym c.is_at.ensures ∙ c.if-is_at.false)) (with-boost.ensures.0 st _ (leaf_same (λ a t. leaf_of args.plain st.operator (name_from args.room.now args.default.now args.from) (tokenize a t)) _ _ _ _ _ T.force (c.text_at-text.ensures ∙ sym (text_is args.room.now args.n args.i z)) (c.leaf_len-len.ensures.made st.operator (name_from args.room.now args.default.now args.from) (sym (ap length c.field_part-field.ensures)))))); within = leaf_within pre.0 args.i _ z b with-boost.result with-boost.ensures.1 }
+returns-then-is_at-2 c = let z = kind_in_lem c.args.room.now c.args.n (leaf_kind c.args.plain) c.args.i (leaf_some c.args.plain) c.requires.2 in
+    let b = rw (c.text_at-text.ensures, ← text_is c.args.room.now c.args.n c.args.i z) at c.leaf_len-len.ensures.bound in
+    record { means = (λ st o T. rw (leaf_goes c.args.plain st (tokens_of c.args.room.now c.args.n) (name_from c.args.room.now c.args.default.now c.args.from) c.args.i (sym c.is_at.ensures ∙ c.if-is_at.false)) (c.with_boost.ensures.means st _ (leaf_same (λ a t. leaf_of c.args.plain st.operator (name_from c.args.room.now c.args.default.now c.args.from) (tokenize a t)) _ _ _ _ _ T.force (c.text_at-text.ensures ∙ sym (text_is c.args.room.now c.args.n c.args.i z)) (c.leaf_len-len.ensures.made st.operator (name_from c.args.room.now c.args.default.now c.args.from) (sym (ap length c.field_part-field.ensures)))))); within = leaf_within c.requires.0 c.args.i _ z b c.with_boost.result c.with_boost.ensures.within }
 
 pub returns : goal.returns
-returns c = let pre = c.requires in
-    let args = c.args in
-    let leaf-len = c.leaf_len-len in
-    let z = kind_in_lem args.room.now args.n (leaf_kind args.plain) args.i (leaf_some args.plain) pre.2 in
-    let b = rw (c.text_at-text.ensures, ← text_is args.room.now args.n args.i z) at leaf-len.ensures.1 in
-    record { means = (λ st o T. rw (leaf_goes args.plain st (tokens_of args.room.now args.n) (name_from args.room.now args.default.now args.from) args.i (sym c.is_at.ensures ∙ c.if-is_at.false)) (_, boost_none st (tokens_of args.room.now args.n) (args.i + 1) _ (sym c.is_at-2.ensures ∙ c.if-is_at-2.false), leaf_same (λ a t. leaf_of args.plain st.operator (name_from args.room.now args.default.now args.from) (tokenize a t)) _ _ _ _ _ T.force (c.text_at-text.ensures ∙ sym (text_is args.room.now args.n args.i z)) (leaf-len.ensures.0 st.operator (name_from args.room.now args.default.now args.from) (sym (ap length c.field_part-field.ensures))))); within = leaf_within pre.0 args.i _ z b (Clause leaf-len.result (args.i + 1)) (omega arith, omega arith, omega arith, omega arith) }
+returns c = let z = kind_in_lem c.args.room.now c.args.n (leaf_kind c.args.plain) c.args.i (leaf_some c.args.plain) c.requires.2 in
+    let b = rw (c.text_at-text.ensures, ← text_is c.args.room.now c.args.n c.args.i z) at c.leaf_len-len.ensures.bound in
+    record { means = (λ st o T. rw (leaf_goes c.args.plain st (tokens_of c.args.room.now c.args.n) (name_from c.args.room.now c.args.default.now c.args.from) c.args.i (sym c.is_at.ensures ∙ c.if-is_at.false)) (_, boost_none st (tokens_of c.args.room.now c.args.n) (c.args.i + 1) _ (sym c.is_at-2.ensures ∙ c.if-is_at-2.false), leaf_same (λ a t. leaf_of c.args.plain st.operator (name_from c.args.room.now c.args.default.now c.args.from) (tokenize a t)) _ _ _ _ _ T.force (c.text_at-text.ensures ∙ sym (text_is c.args.room.now c.args.n c.args.i z)) (c.leaf_len-len.ensures.made st.operator (name_from c.args.room.now c.args.default.now c.args.from) (sym (ap length c.field_part-field.ensures))))); within = leaf_within c.requires.0 c.args.i _ z b (Clause c.leaf_len-len.result (c.args.i + 1)) (omega arith, omega arith, omega arith, omega arith) }

@@ -7,6 +7,7 @@ use Rattle.clauses.proofs.Rows.{place_most_lem, kind_in_lem, goes_in}
 use Rattle.clauses.proofs.Steps.{led, past_one}
 use Rattle.clauses.proofs.Writing.{slice_length}
 use Rattle.clauses.specs.Written.{is_boosted, QueryToWrite}
+use Rattle.counted.specs.Kinds.{made_bytes}
 use Rattle.row.specs.Row.{tokens_of, name_from}
 use Rattle.rules.proofs.Bools.{told_no, told_yes}
 use Rattle.rules.proofs.Stored.Refusals.{no_got}
@@ -42,21 +43,15 @@ pub write_bracket-overflow_add-next-then-len-eq0 : goal.write_bracket-overflow_a
 write_bracket-overflow_add-next-then-len-eq0 t c = let K = rw c.in-Clauses.is at c.measure_query.ensures.within in omega (arith, K.1, c.requires.0.few)
 
 pub write_bracket-put_boost-requires : goal.write_bracket-put_boost-requires
-write_bracket-put_boost-requires t c = let pre = c.requires in
-    let args = c.args in
-    let count = c.count-1 in
-    let k = kind_in_lem args.room.now args.p.n 10 count.given.0.1.1.1.0 (λ y. omega arith) (bracket_closed pre.1.6.3 (c.measure_query.ensures.means pre.1.6.0 pre.1.6.3.tuned) count.given.1) in
-    (pre.1.0, omega (arith, k), ap (λ (x : ℕ). args.at + x) c.boost_size.ensures, omega arith, (λ h. absurd (omega arith)), pre.1.5)
+write_bracket-put_boost-requires t c = let k = kind_in_lem c.args.room.now c.args.p.n 10 c.in-Clauses.next (λ y. omega arith) (bracket_closed c.requires.6.3 (c.measure_query.ensures.means c.requires.6.0 c.requires.6.3.tuned) c.in-Clauses.is) in
+    (c.requires.0, omega (arith, k), ap (λ (x : ℕ). c.args.at + x) c.boost_size.ensures, omega arith, (λ h. absurd (omega arith)), c.requires.5)
 
 pub write_bracket-shape_of-out-then-len-eq0 : goal.write_bracket-shape_of-out-then-len-eq0
 write_bracket-shape_of-out-then-len-eq0 t c = c.put_boost.auto.out
 
 pub write_bracket-returns-then-len-eq0 : goal.write_bracket-returns-then-len-eq0
-write_bracket-returns-then-len-eq0 t c = let args = c.args in
-    let count = c.count-1 in
-    let put-boost = c.put_boost in
-    let K = rw count.given.1 at c.measure_query.ensures.within in
-    record { wrote = (λ st m j W. let l = c.query_len-len.ensures.made (bracket_kept W (c.measure_query.ensures.means st W.tuned) count.given.1) (bracket_sums W (c.measure_query.ensures.means st W.tuned) count.given.1) in put-boost.ensures.0 st (query_of (bracket_kept W (c.measure_query.ensures.means st W.tuned) count.given.1)) m j args.out.now (bracket_boost W (c.measure_query.ensures.means st W.tuned) count.given.1) (put_empty args.out.now (args.at + c.boost_size.result) (made_bytes (query_of (bracket_kept W (c.measure_query.ensures.means st W.tuned) count.given.1))) (sym l ∙ c.if-len-eq0.true)) refl); within = (omega (arith, K.0, put-boost.ensures.1), put-boost.ensures.1.1) }
+write_bracket-returns-then-len-eq0 t c = let K = rw c.in-Clauses.is at c.measure_query.ensures.within in
+    record { wrote = (λ st m j W. let l = c.query_len-len.ensures.made (bracket_kept W (c.measure_query.ensures.means st W.tuned) c.in-Clauses.is) (bracket_sums W (c.measure_query.ensures.means st W.tuned) c.in-Clauses.is) in c.put_boost.ensures.wrote st (query_of (bracket_kept W (c.measure_query.ensures.means st W.tuned) c.in-Clauses.is)) m j c.args.out.now (bracket_boost W (c.measure_query.ensures.means st W.tuned) c.in-Clauses.is) (put_empty c.args.out.now (c.args.at + c.boost_size.result) (made_bytes (query_of (bracket_kept W (c.measure_query.ensures.means st W.tuned) c.in-Clauses.is))) (sym l ∙ c.if-len-eq0.true)) refl); within = (omega (arith, K.0, c.put_boost.ensures.within), c.put_boost.ensures.within.1) }
 
 pub write_bracket-slice_bounds-write_query-start : goal.write_bracket-slice_bounds-write_query-start
 write_bracket-slice_bounds-write_query-start t c = let l = c.query_len-len.ensures.made (bracket_kept c.requires.6.3 (c.measure_query.ensures.means c.requires.6.0 c.requires.6.3.tuned) c.in-Clauses.is) (bracket_sums c.requires.6.3 (c.measure_query.ensures.means c.requires.6.0 c.requires.6.3.tuned) c.in-Clauses.is) in
@@ -81,20 +76,16 @@ pub write_bracket-overflow_add-next-in-Clauses : goal.write_bracket-overflow_add
 write_bracket-overflow_add-next-in-Clauses t c = let K = rw c.in-Clauses.is at c.measure_query.ensures.within in omega (arith, K.1, c.requires.0.few)
 
 pub write_bracket-put_boost-requires-in-Clauses : goal.write_bracket-put_boost-requires-in-Clauses
-write_bracket-put_boost-requires-in-Clauses t c = let pre = c.requires in
-    let args = c.args in
-    let count = c.count-1 in
-    let boost-size = c.boost_size in
-    let k = kind_in_lem args.room.now args.p.n 10 count.given.0.1.1.1.0 (λ y. omega arith) (bracket_closed pre.1.6.3 (c.measure_query.ensures.means pre.1.6.0 pre.1.6.3.tuned) count.given.1) in
-    let l = c.query_len-len.ensures.made (bracket_kept pre.1.6.3 (c.measure_query.ensures.means pre.1.6.0 pre.1.6.3.tuned) count.given.1) (bracket_sums pre.1.6.3 (c.measure_query.ensures.means pre.1.6.0 pre.1.6.3.tuned) count.given.1) in
-    let R = boost_room pre.1.6.0 (tokens_of args.room.now args.p.n) (query_of (bracket_kept pre.1.6.3 (c.measure_query.ensures.means pre.1.6.0 pre.1.6.3.tuned) count.given.1)) (count.given.0.1.1.1.0 + 1) args.at (length args.out.now) (bracket_boost pre.1.6.3 (c.measure_query.ensures.means pre.1.6.0 pre.1.6.3.tuned) count.given.1) pre.1.6.3.fits (omega (arith, l, c.if-len-eq0.false)) in
-    let h : (args.at + boost-size.result) + c.query_len-len.result ≤ length args.out.now = omega (arith, R, l, boost-size.ensures) in
-    let r = slice_length args.out.now (args.at + boost-size.result) c.query_len-len.result (omega (arith, h)) in
-    let b = mid_bounds args.out.now c.write_query.new.out (args.at + boost-size.result) ((args.at + boost-size.result) + c.query_len-len.result) (omega arith) h (c.write_query.auto.out ∙ r ∙ omega arith) pre.1.5 in
-    (pre.1.0, omega (arith, k), ap (λ (x : ℕ). args.at + x) boost-size.ensures, omega arith, (λ x. b.0), b.1)
+write_bracket-put_boost-requires-in-Clauses t c = let k = kind_in_lem c.args.room.now c.args.p.n 10 c.in-Clauses.next (λ y. omega arith) (bracket_closed c.requires.6.3 (c.measure_query.ensures.means c.requires.6.0 c.requires.6.3.tuned) c.in-Clauses.is) in
+    let l = c.query_len-len.ensures.made (bracket_kept c.requires.6.3 (c.measure_query.ensures.means c.requires.6.0 c.requires.6.3.tuned) c.in-Clauses.is) (bracket_sums c.requires.6.3 (c.measure_query.ensures.means c.requires.6.0 c.requires.6.3.tuned) c.in-Clauses.is) in
+    let R = boost_room c.requires.6.0 (tokens_of c.args.room.now c.args.p.n) (query_of (bracket_kept c.requires.6.3 (c.measure_query.ensures.means c.requires.6.0 c.requires.6.3.tuned) c.in-Clauses.is)) (c.in-Clauses.next + 1) c.args.at (length c.args.out.now) (bracket_boost c.requires.6.3 (c.measure_query.ensures.means c.requires.6.0 c.requires.6.3.tuned) c.in-Clauses.is) c.requires.6.3.fits (omega (arith, l, c.if-len-eq0.false)) in
+    let h : (c.args.at + c.boost_size.result) + c.query_len-len.result ≤ length c.args.out.now = omega (arith, R, l, c.boost_size.ensures) in
+    let r = slice_length c.args.out.now (c.args.at + c.boost_size.result) c.query_len-len.result (omega (arith, h)) in
+    let b = mid_bounds c.args.out.now c.write_query.new.out (c.args.at + c.boost_size.result) ((c.args.at + c.boost_size.result) + c.query_len-len.result) (omega arith) h (c.write_query.auto.out ∙ r ∙ omega arith) c.requires.5 in
+    (c.requires.0, omega (arith, k), ap (λ (x : ℕ). c.args.at + x) c.boost_size.ensures, omega arith, (λ x. b.0), b.1)
 
 pub write_bracket-returns-in-Fault : goal.write_bracket-returns-in-Fault
-write_bracket-returns-in-Fault t c = let it = bracket_fault c.requires.6.3 (c.measure_query.ensures.means c.requires.6.0 c.requires.6.3.tuned) c.in-Fault.is in record { wrote = it.0; within = it.1 }
+write_bracket-returns-in-Fault t c = record { wrote = λ st m j W. absurd (bracket_fault c.requires.6.3 (c.measure_query.ensures.means c.requires.6.0 c.requires.6.3.tuned) c.in-Fault.is); within = absurd (bracket_fault c.requires.6.3 (c.measure_query.ensures.means c.requires.6.0 c.requires.6.3.tuned) c.in-Fault.is) }
 
 pub write_bracket-shape_of-out : goal.write_bracket-shape_of-out
 write_bracket-shape_of-out t c = let l = c.query_len-len.ensures.made (bracket_kept c.requires.6.3 (c.measure_query.ensures.means c.requires.6.0 c.requires.6.3.tuned) c.in-Clauses.is) (bracket_sums c.requires.6.3 (c.measure_query.ensures.means c.requires.6.0 c.requires.6.3.tuned) c.in-Clauses.is) in
@@ -154,14 +145,12 @@ pub write_clause-overflow_add-i : goal.write_clause-overflow_add-i
 write_clause-overflow_add-i t c = let S1 = rw c.in-At.is at c.clause_start.ensures in omega (arith, S1.high, c.requires.2)
 
 pub write_clause-write_bracket-requires : goal.write_clause-write_bracket-requires
-write_clause-write_bracket-requires t c = let is_at = c.is_at in
-    let if1 = c.if-not-is_at in
-    let S1 = rw c.in-At.is at c.clause_start.ensures in
-    let k = (kind_in_lem c.args.room.now c.args.p.n 9 c.in-At.i (λ y. omega arith) (told_yes is_at.ensures if1.false)) in
-    (omega (arith, S1.low, k, c.decreases), (c.requires.0, S1.fielded c.args.default.now c.requires.1, omega (arith, k), omega (arith, clause_depth S1 c.requires.6.3 (told_yes is_at.ensures if1.false)), c.requires.4, c.requires.5, (c.requires.6.0, c.requires.6.1, c.requires.6.2, clause_bracket S1 c.requires.6.3 (told_yes is_at.ensures if1.false))))
+write_clause-write_bracket-requires t c = let S1 = rw c.in-At.is at c.clause_start.ensures in
+    let k = (kind_in_lem c.args.room.now c.args.p.n 9 c.in-At.i (λ y. omega arith) (told_yes c.is_at.ensures c.if-not-is_at.false-raw)) in
+    (omega (arith, S1.low, k, c.decreases), (c.requires.0, S1.fielded c.args.default.now c.requires.1, omega (arith, k), omega (arith, clause_depth S1 c.requires.6.3 (told_yes c.is_at.ensures c.if-not-is_at.false-raw)), c.requires.4, c.requires.5, (c.requires.6.0, c.requires.6.1, c.requires.6.2, clause_bracket S1 c.requires.6.3 (told_yes c.is_at.ensures c.if-not-is_at.false-raw))))
 
 pub write_clause-returns-in-Long : goal.write_clause-returns-in-Long
-write_clause-returns-in-Long t c = let E = rw c.in-Long.is at c.clause_start.ensures in let it = no_got (sym (E c.requires.6.0 _ _ _) ∙ c.requires.6.3.is.1 c.requires.6.3.is.0 (omega arith)) in record { wrote = it.0; within = it.1 }
+write_clause-returns-in-Long t c = let E = rw c.in-Long.is at c.clause_start.ensures in record { wrote = λ st m j W. no_got (sym (E c.requires.6.0 _ _ _) ∙ c.requires.6.3.is.1 c.requires.6.3.is.0 (omega arith)); within = no_got (sym (E c.requires.6.0 _ _ _) ∙ c.requires.6.3.is.1 c.requires.6.3.is.0 (omega arith)) }
 
 pub write_clause-shape_of-out : goal.write_clause-shape_of-out
 write_clause-shape_of-out t c = c.write_bracket.auto.out
@@ -173,10 +162,7 @@ pub write_query-put_query_front-w-requires : goal.write_query-put_query_front-w-
 write_query-put_query_front-w-requires t c = (going_room c.args.alone c.requires.6.1 (length c.args.out.now) c.requires.6.3.alone_is c.requires.6.3.fills c.requires.4, c.requires.5)
 
 pub write_query-loop-p-init : goal.write_query-loop-p-init
-write_query-loop-p-init t c = let pre = c.requires in
-    let args = c.args in
-    let put-query-front = c.put_query_front-w in
-    (omega arith, pre.1.2, refl, λ st cs j W. going_start args.alone st (tokens_of args.room.now args.p.n) (name_from args.room.now args.default.now args.p.from) args.p.depth cs j args.out.now put-query-front.new.0 args.at put-query-front.result W.alone_is W.fills (omega (arith, put-query-front.auto.0, pre.1.4)) put-query-front.auto.0 put-query-front.ensures W.is)
+write_query-loop-p-init t c = (omega arith, c.requires.2, refl, λ st cs j W. going_start c.args.alone st (tokens_of c.args.room.now c.args.p.n) (name_from c.args.room.now c.args.default.now c.args.p.from) c.args.p.depth cs j c.args.out.now c.put_query_front-w.new.out c.args.at c.put_query_front-w.result W.alone_is W.fills (omega (arith, c.put_query_front-w.auto.out, c.requires.4)) c.put_query_front-w.auto.out c.put_query_front-w.ensures W.is)
 
 pub write_query-more_at-requires : goal.write_query-more_at-requires
 write_query-more_at-requires t c = (c.requires.0.few, c.requires.0.least)
@@ -202,121 +188,80 @@ write_query-body_start-start-requires t c = let G = c.loop-p.invariant.3 c.requi
     omega (arith, going_wide c.args.alone G, c.put_query_front-w.auto.out, c.requires.5)
 
 pub write_query-write_clause-r-requires : goal.write_query-write_clause-r-requires
-write_query-write_clause-r-requires t c = let loop = c.loop-p in
-    let conjunction-at = c.conjunction_at-c in
-    let after = c.after-j in
-    let modifier-at = c.modifier_at-m in
-    let after2 = c.after-k in
-    let touch-last = c.touch_last in
-    let body-start = c.body_start-start in
-    let L = led conjunction-at.result modifier-at.result loop.i after.result after2.result after.ensures.0 after2.ensures.1 in
-    let T : Turned c.requires.6.0 (tokens_of c.args.room.now c.args.p.n) loop.i loop.w loop.last c.args.p.operator loop.out conjunction-at.result after.result modifier-at.result after2.result touch-last.new.0 = record { joins = c.requires.6.3.tuned.joins; goes = not-true _ (sym c.more_at.ensures ∙ c.loop-p-test.true); lead = λ acc e. record { joins = conjunction-at.ensures acc e; first = after.ensures.0; modifies = modifier-at.ensures; second = after2.ensures.1 }; touches = touch-last.ensures; same = touch-last.auto.0 } in
-    let G = loop.invariant.3 c.requires.6.0 c.requires.6.1 c.requires.6.2 (record { tuned = c.requires.6.3.tuned; is = c.requires.6.3.is; alone_is = c.requires.6.3.alone_is; fills = c.put_query_front-w.auto.out ∙ c.requires.6.3.fills }) in
+write_query-write_clause-r-requires t c = let L = led c.conjunction_at-c.result c.modifier_at-m.result c.loop-p.i c.after-j.result c.after-k.result c.after-j.ensures.0 c.after-k.ensures.1 in
+    let T : Turned c.requires.6.0 (tokens_of c.args.room.now c.args.p.n) c.loop-p.i c.loop-p.w c.loop-p.last c.args.p.operator c.loop-p.out c.conjunction_at-c.result c.after-j.result c.modifier_at-m.result c.after-k.result c.touch_last.new.out = record { joins = c.requires.6.3.tuned.joins; goes = not-true _ (sym c.more_at.ensures ∙ c.loop-p-test.true); lead = λ acc e. record { joins = c.conjunction_at-c.ensures acc e; first = c.after-j.ensures.0; modifies = c.modifier_at-m.ensures; second = c.after-k.ensures.1 }; touches = c.touch_last.ensures; same = c.touch_last.auto.out } in
+    let G = c.loop-p.invariant.3 c.requires.6.0 c.requires.6.1 c.requires.6.2 (record { tuned = c.requires.6.3.tuned; is = c.requires.6.3.is; alone_is = c.requires.6.3.alone_is; fills = c.put_query_front-w.auto.out ∙ c.requires.6.3.fills }) in
     let z = going_clause T c.args.alone G in
-    (omega (arith, L.one, L.two, loop.invariant.0, c.decreases), (c.requires.0, c.requires.1, omega (arith, L.one, L.two, loop.invariant.1, c.requires.0.few), c.requires.3, omega (arith, going_wide c.args.alone G, c.put_query_front-w.auto.out, c.requires.5, body_near c.args.alone loop.w, body-start.ensures), omega (arith, touch-last.auto.0, loop.invariant.2, c.put_query_front-w.auto.out, c.requires.5), (c.requires.6.0, z.0, z.1, (record { tuned = c.requires.6.3.tuned; is = z.2; fits = (λ h. omega (arith, z.3 h, body-start.ensures, touch-last.auto.0, loop.invariant.2)) }))))
+    (omega (arith, L.one, L.two, c.loop-p.invariant.0, c.decreases), (c.requires.0, c.requires.1, omega (arith, L.one, L.two, c.loop-p.invariant.1, c.requires.0.few), c.requires.3, omega (arith, going_wide c.args.alone G, c.put_query_front-w.auto.out, c.requires.5, body_near c.args.alone c.loop-p.w, c.body_start-start.ensures), omega (arith, c.touch_last.auto.out, c.loop-p.invariant.2, c.put_query_front-w.auto.out, c.requires.5), (c.requires.6.0, z.0, z.1, (record { tuned = c.requires.6.3.tuned; is = z.2; fits = (λ h. omega (arith, z.3 h, c.body_start-start.ensures, c.touch_last.auto.out, c.loop-p.invariant.2)) }))))
 
 pub write_query-loop-p-smaller-then-r-start : goal.write_query-loop-p-smaller-then-r-start
 write_query-loop-p-smaller-then-r-start t c = let L = led c.conjunction_at-c.result c.modifier_at-m.result c.loop-p.i c.after-j.result c.after-k.result c.after-j.ensures.0 c.after-k.ensures.1 in
     omega (arith, L.one, L.two, c.write_clause-r.ensures.within, goes_in c.args.room.now c.args.p.n c.loop-p.i (not-true _ (sym c.more_at.ensures ∙ c.loop-p-test.true)))
 
 pub write_query-loop-p-preserved-then-r-start : goal.write_query-loop-p-preserved-then-r-start
-write_query-loop-p-preserved-then-r-start t c = let loop = c.loop-p in
-    let conjunction-at = c.conjunction_at-c in
-    let after = c.after-j in
-    let modifier-at = c.modifier_at-m in
-    let after2 = c.after-k in
-    let touch-last = c.touch_last in
-    let body-start = c.body_start-start in
-    let L = led conjunction-at.result modifier-at.result loop.i after.result after2.result after.ensures.0 after2.ensures.1 in (
-      omega (arith, L.one, L.two, c.write_clause-r.ensures.within, loop.invariant.0),
-      c.write_clause-r.ensures.within.1,
-      c.write_clause-r.auto.out ∙ touch-last.auto.0 ∙ loop.invariant.2,
-      λ st cs j W.
-          let T : Turned st (tokens_of c.args.room.now c.args.p.n) loop.i loop.w loop.last c.args.p.operator loop.out conjunction-at.result after.result modifier-at.result after2.result touch-last.new.0 =
-          record { joins = W.tuned.joins; goes = not-true _ (sym c.more_at.ensures ∙ c.loop-p-test.true); lead = λ acc e. record { joins = conjunction-at.ensures acc e; first = after.ensures.0; modifies = modifier-at.ensures; second = after2.ensures.1 }; touches = touch-last.ensures; same = touch-last.auto.0 } in
-          let G = loop.invariant.3 st cs j W in
-          let z = going_clause T c.args.alone G in
-          let P = c.write_clause-r.ensures.wrote st z.0 z.1 (record { tuned = W.tuned; is = z.2; fits = (λ h. omega (arith, z.3 h, body-start.ensures, touch-last.auto.0, loop.invariant.2)) }) in
-          going_nothing T P.0 c.args.alone G body-start.result body-start.ensures z.0 z.2 P.1 c.if-r-start.true,
-    )
+write_query-loop-p-preserved-then-r-start t c = let L = led c.conjunction_at-c.result c.modifier_at-m.result c.loop-p.i c.after-j.result c.after-k.result c.after-j.ensures.0 c.after-k.ensures.1 in (
+  omega (arith, L.one, L.two, c.write_clause-r.ensures.within, c.loop-p.invariant.0),
+  c.write_clause-r.ensures.within.1,
+  c.write_clause-r.auto.out ∙ c.touch_last.auto.out ∙ c.loop-p.invariant.2,
+  λ st cs j W.
+      let T : Turned st (tokens_of c.args.room.now c.args.p.n) c.loop-p.i c.loop-p.w c.loop-p.last c.args.p.operator c.loop-p.out c.conjunction_at-c.result c.after-j.result c.modifier_at-m.result c.after-k.result c.touch_last.new.out =
+      record { joins = W.tuned.joins; goes = not-true _ (sym c.more_at.ensures ∙ c.loop-p-test.true); lead = λ acc e. record { joins = c.conjunction_at-c.ensures acc e; first = c.after-j.ensures.0; modifies = c.modifier_at-m.ensures; second = c.after-k.ensures.1 }; touches = c.touch_last.ensures; same = c.touch_last.auto.out } in
+      let G = c.loop-p.invariant.3 st cs j W in
+      let z = going_clause T c.args.alone G in
+      let P = c.write_clause-r.ensures.wrote st z.0 z.1 (record { tuned = W.tuned; is = z.2; fits = (λ h. omega (arith, z.3 h, c.body_start-start.ensures, c.touch_last.auto.out, c.loop-p.invariant.2)) }) in
+      going_nothing T P.0 c.args.alone G c.body_start-start.result c.body_start-start.ensures z.0 z.2 P.1 c.if-r-start.true,
+)
 
 pub write_query-shape_of-out-then-alone : goal.write_query-shape_of-out-then-alone
 write_query-shape_of-out-then-alone t c = c.write_clause-r.auto.out ∙ c.touch_last.auto.out ∙ c.loop-p.invariant.2 ∙ c.put_query_front-w.auto.out
 
 pub write_query-returns-then-alone : goal.write_query-returns-then-alone
-write_query-returns-then-alone t c = let loop = c.loop-p in
-    let conjunction-at = c.conjunction_at-c in
-    let after = c.after-j in
-    let modifier-at = c.modifier_at-m in
-    let after2 = c.after-k in
-    let touch-last = c.touch_last in
-    let body-start = c.body_start-start in
-    λ st cs j W.
-    let T : Turned st (tokens_of c.args.room.now c.args.p.n) loop.i loop.w loop.last c.args.p.operator loop.out conjunction-at.result after.result modifier-at.result after2.result touch-last.new.0 =
-    record { joins = W.tuned.joins; goes = not-true _ (sym c.more_at.ensures ∙ c.loop-p-test.true); lead = λ acc e. record { joins = conjunction-at.ensures acc e; first = after.ensures.0; modifies = modifier-at.ensures; second = after2.ensures.1 }; touches = touch-last.ensures; same = touch-last.auto.0 } in
+write_query-returns-then-alone t c = λ st cs j W.
+    let T : Turned st (tokens_of c.args.room.now c.args.p.n) c.loop-p.i c.loop-p.w c.loop-p.last c.args.p.operator c.loop-p.out c.conjunction_at-c.result c.after-j.result c.modifier_at-m.result c.after-k.result c.touch_last.new.out =
+    record { joins = W.tuned.joins; goes = not-true _ (sym c.more_at.ensures ∙ c.loop-p-test.true); lead = λ acc e. record { joins = c.conjunction_at-c.ensures acc e; first = c.after-j.ensures.0; modifies = c.modifier_at-m.ensures; second = c.after-k.ensures.1 }; touches = c.touch_last.ensures; same = c.touch_last.auto.out } in
     let G =
-    loop.invariant.3
+    c.loop-p.invariant.3
     st cs j
     (record { tuned = W.tuned; is = W.is; alone_is = W.alone_is; fills = c.put_query_front-w.auto.out ∙ W.fills }) in
     let z = going_clause T c.args.alone G in
-    let P = c.write_clause-r.ensures.wrote st z.0 z.1 (record { tuned = W.tuned; is = z.2; fits = (λ h. omega (arith, z.3 h, body-start.ensures, touch-last.auto.0, loop.invariant.2)) }) in
-    going_alone T P.0 c.args.alone G c.if-alone.true body-start.result body-start.ensures z.0 z.2 P.1 c.if-r-start.false
+    let P = c.write_clause-r.ensures.wrote st z.0 z.1 (record { tuned = W.tuned; is = z.2; fits = (λ h. omega (arith, z.3 h, c.body_start-start.ensures, c.touch_last.auto.out, c.loop-p.invariant.2)) }) in
+    going_alone T P.0 c.args.alone G c.if-alone.true c.body_start-start.result c.body_start-start.ensures z.0 z.2 P.1 c.if-r-start.false
 
 pub write_query-overflow_sub-r : goal.write_query-overflow_sub-r
-write_query-overflow_sub-r t c = let loop = c.loop-p in
-    let conjunction-at = c.conjunction_at-c in
-    let after = c.after-j in
-    let modifier-at = c.modifier_at-m in
-    let after2 = c.after-k in
-    let touch-last = c.touch_last in
-    let T : Turned c.requires.6.0 (tokens_of c.args.room.now c.args.p.n) loop.i loop.w loop.last c.args.p.operator loop.out conjunction-at.result after.result modifier-at.result after2.result touch-last.new.0 = record { joins = c.requires.6.3.tuned.joins; goes = not-true _ (sym c.more_at.ensures ∙ c.loop-p-test.true); lead = λ acc e. record { joins = conjunction-at.ensures acc e; first = after.ensures.0; modifies = modifier-at.ensures; second = after2.ensures.1 }; touches = touch-last.ensures; same = touch-last.auto.0 } in
-    let G = loop.invariant.3 c.requires.6.0 c.requires.6.1 c.requires.6.2 (record { tuned = c.requires.6.3.tuned; is = c.requires.6.3.is; alone_is = c.requires.6.3.alone_is; fills = c.put_query_front-w.auto.out ∙ c.requires.6.3.fills }) in
+write_query-overflow_sub-r t c = let T : Turned c.requires.6.0 (tokens_of c.args.room.now c.args.p.n) c.loop-p.i c.loop-p.w c.loop-p.last c.args.p.operator c.loop-p.out c.conjunction_at-c.result c.after-j.result c.modifier_at-m.result c.after-k.result c.touch_last.new.out = record { joins = c.requires.6.3.tuned.joins; goes = not-true _ (sym c.more_at.ensures ∙ c.loop-p-test.true); lead = λ acc e. record { joins = c.conjunction_at-c.ensures acc e; first = c.after-j.ensures.0; modifies = c.modifier_at-m.ensures; second = c.after-k.ensures.1 }; touches = c.touch_last.ensures; same = c.touch_last.auto.out } in
+    let G = c.loop-p.invariant.3 c.requires.6.0 c.requires.6.1 c.requires.6.2 (record { tuned = c.requires.6.3.tuned; is = c.requires.6.3.is; alone_is = c.requires.6.3.alone_is; fills = c.put_query_front-w.auto.out ∙ c.requires.6.3.fills }) in
     let z = going_clause T c.args.alone G in
-    let P = c.write_clause-r.ensures.wrote c.requires.6.0 z.0 z.1 (record { tuned = c.requires.6.3.tuned; is = z.2; fits = (λ h. omega (arith, z.3 h, c.body_start-start.ensures, touch-last.auto.0, loop.invariant.2)) }) in
+    let P = c.write_clause-r.ensures.wrote c.requires.6.0 z.0 z.1 (record { tuned = c.requires.6.3.tuned; is = z.2; fits = (λ h. omega (arith, z.3 h, c.body_start-start.ensures, c.touch_last.auto.out, c.loop-p.invariant.2)) }) in
     omega (arith, P.1.place)
 
 pub write_query-put_header-requires : goal.write_query-put_header-requires
-write_query-put_header-requires t c = let loop = c.loop-p in
-    let conjunction-at = c.conjunction_at-c in
-    let after = c.after-j in
-    let modifier-at = c.modifier_at-m in
-    let after2 = c.after-k in
-    let touch-last = c.touch_last in
-    let body-start = c.body_start-start in
-    let T : Turned c.requires.6.0 (tokens_of c.args.room.now c.args.p.n) loop.i loop.w loop.last c.args.p.operator loop.out conjunction-at.result after.result modifier-at.result after2.result touch-last.new.0 = record { joins = c.requires.6.3.tuned.joins; goes = not-true _ (sym c.more_at.ensures ∙ c.loop-p-test.true); lead = λ acc e. record { joins = conjunction-at.ensures acc e; first = after.ensures.0; modifies = modifier-at.ensures; second = after2.ensures.1 }; touches = touch-last.ensures; same = touch-last.auto.0 } in
-    let G = loop.invariant.3 c.requires.6.0 c.requires.6.1 c.requires.6.2 (record { tuned = c.requires.6.3.tuned; is = c.requires.6.3.is; alone_is = c.requires.6.3.alone_is; fills = c.put_query_front-w.auto.out ∙ c.requires.6.3.fills }) in
+write_query-put_header-requires t c = let T : Turned c.requires.6.0 (tokens_of c.args.room.now c.args.p.n) c.loop-p.i c.loop-p.w c.loop-p.last c.args.p.operator c.loop-p.out c.conjunction_at-c.result c.after-j.result c.modifier_at-m.result c.after-k.result c.touch_last.new.out = record { joins = c.requires.6.3.tuned.joins; goes = not-true _ (sym c.more_at.ensures ∙ c.loop-p-test.true); lead = λ acc e. record { joins = c.conjunction_at-c.ensures acc e; first = c.after-j.ensures.0; modifies = c.modifier_at-m.ensures; second = c.after-k.ensures.1 }; touches = c.touch_last.ensures; same = c.touch_last.auto.out } in
+    let G = c.loop-p.invariant.3 c.requires.6.0 c.requires.6.1 c.requires.6.2 (record { tuned = c.requires.6.3.tuned; is = c.requires.6.3.is; alone_is = c.requires.6.3.alone_is; fills = c.put_query_front-w.auto.out ∙ c.requires.6.3.fills }) in
     let z = going_clause T c.args.alone G in
-    let P = c.write_clause-r.ensures.wrote c.requires.6.0 z.0 z.1 (record { tuned = c.requires.6.3.tuned; is = z.2; fits = (λ h. omega (arith, z.3 h, body-start.ensures, touch-last.auto.0, loop.invariant.2)) }) in
+    let P = c.write_clause-r.ensures.wrote c.requires.6.0 z.0 z.1 (record { tuned = c.requires.6.3.tuned; is = z.2; fits = (λ h. omega (arith, z.3 h, c.body_start-start.ensures, c.touch_last.auto.out, c.loop-p.invariant.2)) }) in
     let h = z.3 (omega (arith, P.1.place, c.if-r-start.false)) in
-    let a = body_after c.args.alone loop.w c.if-alone.false in
-    (omega (arith, h, a, c.write_clause-r.auto.out, touch-last.auto.0, loop.invariant.2), omega (arith, h, P.1.place, body-start.ensures, c.put_query_front-w.auto.out, c.requires.5))
+    let a = body_after c.args.alone c.loop-p.w c.if-alone.false in
+    (omega (arith, h, a, c.write_clause-r.auto.out, c.touch_last.auto.out, c.loop-p.invariant.2), omega (arith, h, P.1.place, c.body_start-start.ensures, c.put_query_front-w.auto.out, c.requires.5))
 
 pub write_query-loop-p-smaller : goal.write_query-loop-p-smaller
 write_query-loop-p-smaller t c = let L = led c.conjunction_at-c.result c.modifier_at-m.result c.loop-p.i c.after-j.result c.after-k.result c.after-j.ensures.0 c.after-k.ensures.1 in
     omega (arith, L.one, L.two, c.write_clause-r.ensures.within, goes_in c.args.room.now c.args.p.n c.loop-p.i (not-true _ (sym c.more_at.ensures ∙ c.loop-p-test.true)))
 
 pub write_query-loop-p-preserved : goal.write_query-loop-p-preserved
-write_query-loop-p-preserved t c = let loop = c.loop-p in
-    let conjunction-at = c.conjunction_at-c in
-    let after = c.after-j in
-    let modifier-at = c.modifier_at-m in
-    let after2 = c.after-k in
-    let touch-last = c.touch_last in
-    let body-start = c.body_start-start in
-    let L = led conjunction-at.result modifier-at.result loop.i after.result after2.result after.ensures.0 after2.ensures.1 in (
-      omega (arith, L.one, L.two, c.write_clause-r.ensures.within, loop.invariant.0),
-      c.write_clause-r.ensures.within.1,
-      c.put_header.auto.out ∙ c.write_clause-r.auto.out ∙ touch-last.auto.0 ∙ loop.invariant.2,
-      λ st cs j W.
-          let T : Turned st (tokens_of c.args.room.now c.args.p.n) loop.i loop.w loop.last c.args.p.operator loop.out conjunction-at.result after.result modifier-at.result after2.result touch-last.new.0 =
-          record { joins = W.tuned.joins; goes = not-true _ (sym c.more_at.ensures ∙ c.loop-p-test.true); lead = λ acc e. record { joins = conjunction-at.ensures acc e; first = after.ensures.0; modifies = modifier-at.ensures; second = after2.ensures.1 }; touches = touch-last.ensures; same = touch-last.auto.0 } in
-          let G = loop.invariant.3 st cs j W in
-          let z = going_clause T c.args.alone G in
-          let P = c.write_clause-r.ensures.wrote st z.0 z.1 (record { tuned = W.tuned; is = z.2; fits = (λ h. omega (arith, z.3 h, body-start.ensures, touch-last.auto.0, loop.invariant.2)) }) in
-          going_made
-          T P.0 c.args.alone G c.if-alone.false body-start.result body-start.ensures z.0 z.2 P.1 c.if-r-start.false
-          c.tag_after.result (c.write_clause-r.result.end - body-start.result) c.put_header.result c.put_header.new.out c.tag_after.ensures c.put_header.ensures refl (c.put_header.auto.out ∙ c.write_clause-r.auto.out),
-    )
+write_query-loop-p-preserved t c = let L = led c.conjunction_at-c.result c.modifier_at-m.result c.loop-p.i c.after-j.result c.after-k.result c.after-j.ensures.0 c.after-k.ensures.1 in (
+  omega (arith, L.one, L.two, c.write_clause-r.ensures.within, c.loop-p.invariant.0),
+  c.write_clause-r.ensures.within.1,
+  c.put_header.auto.out ∙ c.write_clause-r.auto.out ∙ c.touch_last.auto.out ∙ c.loop-p.invariant.2,
+  λ st cs j W.
+      let T : Turned st (tokens_of c.args.room.now c.args.p.n) c.loop-p.i c.loop-p.w c.loop-p.last c.args.p.operator c.loop-p.out c.conjunction_at-c.result c.after-j.result c.modifier_at-m.result c.after-k.result c.touch_last.new.out =
+      record { joins = W.tuned.joins; goes = not-true _ (sym c.more_at.ensures ∙ c.loop-p-test.true); lead = λ acc e. record { joins = c.conjunction_at-c.ensures acc e; first = c.after-j.ensures.0; modifies = c.modifier_at-m.ensures; second = c.after-k.ensures.1 }; touches = c.touch_last.ensures; same = c.touch_last.auto.out } in
+      let G = c.loop-p.invariant.3 st cs j W in
+      let z = going_clause T c.args.alone G in
+      let P = c.write_clause-r.ensures.wrote st z.0 z.1 (record { tuned = W.tuned; is = z.2; fits = (λ h. omega (arith, z.3 h, c.body_start-start.ensures, c.touch_last.auto.out, c.loop-p.invariant.2)) }) in
+      going_made
+      T P.0 c.args.alone G c.if-alone.false c.body_start-start.result c.body_start-start.ensures z.0 z.2 P.1 c.if-r-start.false
+      c.tag_after.result (c.write_clause-r.result.end - c.body_start-start.result) c.put_header.result c.put_header.new.out c.tag_after.ensures c.put_header.ensures refl (c.put_header.auto.out ∙ c.write_clause-r.auto.out),
+)
 
 pub write_query-shape_of-out : goal.write_query-shape_of-out
 write_query-shape_of-out t c = c.loop-p.invariant.2 ∙ c.put_query_front-w.auto.out

@@ -7,6 +7,7 @@ use Rattle.clauses.proofs.Rows.{place_most_lem, kind_in_lem, goes_in}
 use Rattle.clauses.proofs.Steps.{led, past_one}
 use Rattle.clauses.proofs.Writing.{slice_length}
 use Rattle.clauses.specs.Written.{is_boosted, QueryToWrite}
+use Rattle.counted.specs.Kinds.{made_bytes}
 use Rattle.row.specs.Row.{tokens_of, name_from}
 use Rattle.rules.proofs.Bools.{told_no, told_yes}
 use Rattle.rules.proofs.Stored.Refusals.{no_got}

@@ -17,10 +17,9 @@ pub overflow_add-result : goal.overflow_add-result
 overflow_add-result c = omega (arith, c.requires.1, c.requires.0.few)
 
 pub returns-then-end-start : goal.returns-then-end-start
-returns-then-end-start c = let args = c.args in
-    let y = size_some (is_boosted (tokens_of args.room.now args.n) args.i) c.requires.2 c.if-start-at.false in
-    let k = kind_in_lem args.room.now args.n 1 (args.i + 1) (λ z. omega arith) (and_r (is_at 11 (tokens_of args.room.now args.n) args.i) (is_at 1 (tokens_of args.room.now args.n) (args.i + 1)) y.0) in
-    record { wrote = (λ st m w j before e P l. boost_empty st (tokens_of args.room.now args.n) m args.i e P y.0 c.if-end-start.true); within = (omega arith, omega (arith, k)) }
+returns-then-end-start c = let y = size_some (is_boosted (tokens_of c.args.room.now c.args.n) c.args.i) c.requires.2 c.if-start-at.false in
+    let k = kind_in_lem c.args.room.now c.args.n 1 (c.args.i + 1) (λ z. omega arith) (and_r (is_at 11 (tokens_of c.args.room.now c.args.n) c.args.i) (is_at 1 (tokens_of c.args.room.now c.args.n) (c.args.i + 1)) y.0) in
+    record { wrote = (λ st m w j before e P l. boost_empty st (tokens_of c.args.room.now c.args.n) m c.args.i e P y.0 c.if-end-start.true); within = (omega arith, omega (arith, k)) }
 
 pub overflow_sub-end : goal.overflow_sub-end
 overflow_sub-end c = let y = size_some (is_boosted (tokens_of c.args.room.now c.args.n) c.args.i) c.requires.2 c.if-start-at.false in omega (arith, y.1, c.requires.3)
@@ -35,9 +34,8 @@ pub overflow_add-i : goal.overflow_add-i
 overflow_add-i c = omega (arith, c.requires.1, c.requires.0.few)
 
 pub bits_at-requires : goal.bits_at-requires
-bits_at-requires c = let args = c.args in
-    let y = size_some (is_boosted (tokens_of args.room.now args.n) args.i) c.requires.2 c.if-start-at.false in
-    let k = kind_in_lem args.room.now args.n 1 (args.i + 1) (λ z. omega arith) (and_r (is_at 11 (tokens_of args.room.now args.n) args.i) (is_at 1 (tokens_of args.room.now args.n) (args.i + 1)) y.0) in
+bits_at-requires c = let y = size_some (is_boosted (tokens_of c.args.room.now c.args.n) c.args.i) c.requires.2 c.if-start-at.false in
+    let k = kind_in_lem c.args.room.now c.args.n 1 (c.args.i + 1) (λ z. omega arith) (and_r (is_at 11 (tokens_of c.args.room.now c.args.n) c.args.i) (is_at 1 (tokens_of c.args.room.now c.args.n) (c.args.i + 1)) y.0) in
     (c.requires.0, k)
 
 pub put_big4-requires : goal.put_big4-requires
@@ -52,10 +50,7 @@ pub shape_of-out : goal.shape_of-out
 shape_of-out c = c.put_big4.auto.out ∙ c.put_header-b.auto.out
 
 pub returns : goal.returns
-returns c = let args = c.args in
-    let if2 = c.if-end-start in
-    let bits_at = c.bits_at in
-    let y = size_some (is_boosted (tokens_of args.room.now args.n) args.i) c.requires.2 c.if-start-at.false in
-    let k = kind_in_lem args.room.now args.n 1 (args.i + 1) (λ z. omega arith) (and_r (is_at 11 (tokens_of args.room.now args.n) args.i) (is_at 1 (tokens_of args.room.now args.n) (args.i + 1)) y.0) in
-    let h = c.requires.4 (omega (arith, c.requires.3, if2.false)) in
-    record { wrote = (λ st m w j before e P l. boost_front st (tokens_of args.room.now args.n) m args.i e P y.0 if2.false (args.end - args.at - 3) bits_at.result c.put_header-b.ensures c.put_big4.ensures bits_at.ensures y.1 refl (omega (arith, h, l)) l); within = (omega arith, omega (arith, k)) }
+returns c = let y = size_some (is_boosted (tokens_of c.args.room.now c.args.n) c.args.i) c.requires.2 c.if-start-at.false in
+    let k = kind_in_lem c.args.room.now c.args.n 1 (c.args.i + 1) (λ z. omega arith) (and_r (is_at 11 (tokens_of c.args.room.now c.args.n) c.args.i) (is_at 1 (tokens_of c.args.room.now c.args.n) (c.args.i + 1)) y.0) in
+    let h = c.requires.4 (omega (arith, c.requires.3, c.if-end-start.false)) in
+    record { wrote = (λ st m w j before e P l. boost_front st (tokens_of c.args.room.now c.args.n) m c.args.i e P y.0 c.if-end-start.false (c.args.end - c.args.at - 3) c.bits_at.result c.put_header-b.ensures c.put_big4.ensures c.bits_at.ensures y.1 refl (omega (arith, h, l)) l); within = (omega arith, omega (arith, k)) }
