@@ -19,7 +19,7 @@ use stored::read::for_selection;
 use stretches::clear;
 
 // A refusal by its number, or how many records were chosen.
-#[derive(Drop)]
+#[derive(Clone, Copy)]
 pub enum Selected {
     Refused(u8),
     Chosen(usize),

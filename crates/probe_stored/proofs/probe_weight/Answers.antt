@@ -1,11 +1,14 @@
-use Rattle.std.proofs.Common.{arith}
-use Rattle.probe_stored.proofs.probe_weight.Goals as goal
+-- `probe_stored::probe_weight` meets its contract.
 use Rattle.probe_stored.proofs.Probing as probing
+use borrow.Author.Rules.{rules}
+use native.Mathlib.Omega.{arith}
+use Rattle.probe_stored.proofs.probe_weight.Goals as goal
 
--- src/lib.rt:42:5
+pub returns-then-for_selection-ne0 : goal.returns-then-for_selection-ne0
+returns-then-for_selection-ne0 c = probing.no_weight c.args.s.now _ c.for_selection.ensures c.if-for_selection-ne0.true
+
 pub weight-requires : goal.weight-requires
-weight-requires c = probing.is_stored_lem c.args.s.now _ c.for_selection.ensures (λ i. omega (arith, c.type_inv.s i)) c.if-for_selection-ne0.false
+weight-requires c = probing.is_stored_lem c.args.s.now _ c.for_selection.ensures (λ i. omega (arith, c.shared_slice_known-1.given i)) c.if-for_selection-ne0.false
 
--- src/lib.rt:35:1
 pub returns : goal.returns
-returns c = probing.weighs c.args.s.now _ c.for_selection.ensures (λ i. omega (arith, c.type_inv.s i)) c.if-for_selection-ne0.false _ c.weight.ensures
+returns c = probing.weighs c.args.s.now _ c.for_selection.ensures (λ i. omega (arith, c.shared_slice_known-1.given i)) c.if-for_selection-ne0.false _ c.weight.ensures
