@@ -2,6 +2,10 @@
 // is a program that runs one list. It writes how many lines agree, or the first that differs.
 #![tactic(auto)]
 
+ghost use Rattle.std.specs.Prelude.{◌≡◌, ◌≤◌, length, IfOk};
+
+use std::io::{self, Read, Write};
+
 mod line;
 mod numerals;
 mod parsing;
@@ -9,7 +13,7 @@ mod rewriting;
 mod tokens;
 
 // What a line of the list is about.
-#[derive(Drop)]
+#[derive(Clone, Copy)]
 pub enum List {
     Tokens,
     Numerals,
@@ -36,37 +40,65 @@ fn is_comment(line: &[u8]) -> bool {
     line[0] == b'#'
 }
 
-fn tell_difference(line: &[u8]) {
-    io::write_all(libc::STDOUT_FILENO, b"differs: ");
-    io::write_all(libc::STDOUT_FILENO, line);
-    io::write_all(libc::STDOUT_FILENO, b"\n");
+fn tell_difference(rt: &HostRuntime, line: &[u8]) -> io::Result<()> {
+    rt.stdout().write_all(b"differs: ")?;
+    rt.stdout().write_all(line)?;
+    rt.stdout().write_all(b"\n")
 }
 
-fn run_lines(list: List, s: &[u8], agree: &[u8]) {
+fn tell_count(rt: &HostRuntime, n: u64, agree: &[u8]) -> io::Result<()> {
+    print!(rt; "{n}")?;
+    rt.stdout().write_all(agree)
+}
+
+fn run_lines(rt: &HostRuntime, list: List, s: &[u8], agree: &[u8]) -> io::Result<()> {
     let mut n: u64 = 0;
     let mut at: usize = 0;
     while at < s.len() {
         let end = line::part_end(s, at, b'\n');
         if !is_comment(&s[at..end]) {
             if !agrees(list, &s[at..end]) {
-                tell_difference(&s[at..end]);
-                return;
+                return tell_difference(rt, &s[at..end]);
             }
             n += 1;
         }
         at = end + 1;
     }
-    io::print_decimal(libc::STDOUT_FILENO, n);
-    io::write_all(libc::STDOUT_FILENO, agree);
+    tell_count(rt, n, agree)
+}
+
+// Reads until the buffer is full or the input ends, and gives how many bytes that is.
+fn read_full(rt: &HostRuntime, input: &mut [u8]) -> io::Result<usize>
+    ensures { IfOk result (λ n. n ≤ length input.new) }
+{
+    let mut done = 0;
+    while done < input.len() {
+        let n = rt.stdin().read(&mut input[done..])?;
+        if n == 0 {
+            break;
+        }
+        done += n;
+    }
+    Ok(done)
+}
+
+// The buffer for a list. Lending it as a slice asks for its length alone.
+fn empty_input() -> [u8; INPUT_MOST]
+    ensures { INPUT_MOST ≡ length result }
+{
+    [0u8; INPUT_MOST]
+}
+
+fn run_in(rt: &HostRuntime, list: List, input: &mut [u8], agree: &[u8]) -> io::Result<()> {
+    let n = read_full(rt, input)?;
+    if n == INPUT_MOST {
+        return rt.stdout().write_all(b"the list is too long\n");
+    }
+    run_lines(rt, list, &input[..n], agree)
 }
 
 // `agree` is what to write behind the number of lines that agree.
-pub fn run(list: List, agree: &[u8]) {
-    let mut input = [0u8; INPUT_MOST];
-    let n = io::read_full(libc::STDIN_FILENO, &mut input);
-    if n == INPUT_MOST {
-        io::write_all(libc::STDOUT_FILENO, b"the list is too long\n");
-        return;
-    }
-    run_lines(list, &input[..n], agree);
+pub fn run(rt: &HostRuntime, list: List, agree: &[u8]) -> io::Result<()> {
+    let mut input = empty_input();
+    run_in(rt, list, &mut input, agree)
 }

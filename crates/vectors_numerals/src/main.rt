@@ -1,8 +1,9 @@
 // Runs the fixed list of numerals (tests/original/lists/numerals.txt, on standard input).
 #![tactic(auto)]
 
+use std::io;
 use vectors::List;
 
-fn main() {
-    vectors::run(List::Numerals, b" numerals equal\n");
+fn main(rt: HostRuntime) -> io::Result<()> {
+    vectors::run(&rt, List::Numerals, b" numerals equal\n")
 }
