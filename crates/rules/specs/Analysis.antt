@@ -1,5 +1,5 @@
 -- Classes, analyzers and chunks. Section 'Lexing and parsing', from 'A constant table of 128 entries' and from 'Analyzers'.
-use Rattle.std.specs.Prelude.{ℕ, zero, suc, ◌+◌, ◌*◌, List, [], ◌∷◌, ◌++◌, map, Bool, not, ◌&&◌, ◌||◌, cond, length, take, drop, leb, eqb}
+use Rattle.std.specs.Prelude.{ℕ, zero, suc, ◌+◌, List, [], ◌∷◌, ◌++◌, map, Bool, not, ◌&&◌, ◌||◌, cond, length, take, drop, eqb}
 use Rattle.rules.specs.Numbers.{chunk_most, whitespace_analyzer, simple_analyzer, words_analyzer, english_analyzer}
 pub use Rattle.rules.specs.Bytes.{between, is_capital, is_letter, is_digit}
 use Rattle.rules.specs.Bytes.{ascii, is_empty, some, those}

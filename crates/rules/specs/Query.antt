@@ -1,6 +1,7 @@
 -- Queries. Section 'Stored form'.
 -- A query and its clauses are a pair of types, since antt takes no `List` of the type that is being declared.
-use Rattle.std.specs.Prelude.{◌≡◌, refl, ℕ, ◌+◌, max, List, [], ◌∷◌, Bool, true, false}
+use Rattle.std.specs.Prelude.{◌≡◌, refl, ℕ, ◌+◌, max, List, [], ◌∷◌, Bool, true, false, get_or, drop}
+use mathlib.Core.Path.{ap, ap₂}
 use Rattle.std.proofs.Math.Decide.{ℕ_discrete}
 use Rattle.std.proofs.Common.{arith}
 
@@ -62,9 +63,9 @@ unfoldable mutual
 
 -- the library's `List-discrete` does not compute outside its module
 abbrev pub cell : {A : Type 0} {x y : A} {xs ys : List A} → Dec (x ≡ y) → Dec (xs ≡ ys) → Dec (◌≡◌ {A = List A} (x ∷ xs) (y ∷ ys))
-cell (yes p) (yes q) = yes (cc)
-cell (yes p) (no n) = no (λ e. n (cc))
-cell (no n) d = no (λ e. n (cc))
+cell (yes p) (yes q) = yes (ap₂ (λ a l. a ∷ l) p q)
+cell (yes p) (no n) = no (λ e. n (ap (drop 1) e))
+cell {x = x} (no n) d = no (λ e. n (ap (λ l. get_or l 0 x) e))
 
 unfoldable pub list_discrete : {A : Type 0} → Discrete A → Discrete (List A)
 list_discrete d [] [] = yes refl

@@ -4,7 +4,7 @@ use Prim.Native.Nat.{ℕ, ◌+◌, ◌*◌, ◌≤◌, max}
 use native.Mathlib.Omega.{arith}
 use lib.ListN.{length}
 use Rattle.rules.specs.Query.{Query, term, phrase, boolean, boost, constant_score, match_all, match_none, range, Clauses, none, clause, depth, depths}
-use Rattle.rules.specs.Stored.{encode_bound, encode_words, encode, encodes}
+use Rattle.rules.specs.Stored.{encode, encodes}
 use Rattle.rules.specs.Rewriting.{weight, weights, base, clause_count, clause_counts, bulk, bulks}
 use Rattle.rules.proofs.Stored.Sizes.{length_term, length_phrase, length_boolean, length_boost, length_constant_score, length_match_all, length_match_none, length_range, length_none, length_clause}
 

@@ -9,7 +9,7 @@ use lib.Ieee.{Float}
 use Rattle.rules.specs.Query.{Word, word, Kind, must, should, must_not, filter, Query, term, phrase, boolean, boost, constant_score, match_all, match_none, range, Clauses, none, clause, equal}
 use Rattle.rules.specs.Floats.{one, widened, narrowed, plus, is_one}
 use Rattle.rules.specs.Rewriting.{weight, is_none, boosted, scored, phrased, scores, summable, stands_for, base, boost_of, Merged, empty, merged, add_merged, merge_onto, reboosted, clauses_of, merged_boolean, lone, lone_or_merged, should_count, only_must_not, of_live, is_dead, live, rewrite_boolean, rewrite_once, rewrite_each, rounds, rewrite, result_of}
-use Rattle.rules.specs.Eating.{held, eats, fed}
+use Rattle.rules.specs.Eating.{held, fed}
 use Rattle.rules.specs.Tidy.{Apart, Distinct, Tidy, Tidies}
 use Rattle.rules.proofs.Bools.{clash, and_l}
 use Rattle.rules.proofs.Rewriting.Kinds.{stands_same}

@@ -2,15 +2,15 @@
 use mathlib.Core.Path.{◌≡◌, refl, sym, ap, ◌∙◌}
 use Prim.Native.Nat.{ℕ, zero, suc, ◌+◌, ◌-◌, ◌≤◌, ◌<◌}
 use mathlib.Core.List.{List, [], ◌∷◌}
-use mathlib.Core.Bool.{Bool, true, false}
+use mathlib.Core.Bool.{true, false}
 use native.Mathlib.Omega.{arith}
-use lib.ListN.{length, take, drop, length-drop}
+use lib.ListN.{length, length-drop}
 use lib.Dec.{leb}
 use borrow.Author.Tests.{leb-true}
 use Rattle.rules.specs.Numbers.{malformed_query, Read, got, refused, need, on_read}
 use Rattle.rules.specs.Bytes.{is_empty}
 use Rattle.rules.specs.Batch.{long_first, first_query, other_queries, is_first, cut_in, cut}
-use Rattle.rules.proofs.Bools.{clash, and_l, and_r}
+use Rattle.rules.proofs.Bools.{clash, and_r}
 use Rattle.rules.proofs.Stored.Rows.{enough}
 use Rattle.rules.proofs.Stored.Refusals.{need_yes, need_no, need_got, on_got}
 

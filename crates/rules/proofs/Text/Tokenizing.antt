@@ -1,7 +1,7 @@
 -- What lexing gives: tokens of the known kinds, in the order of their places, each text within the bytes that its token takes, and one
 -- answer whatever the fuel, once it suffices. Section 'Lexing and parsing'.
 use mathlib.Core.Path.{◌≡◌, refl, ap, subst, ◌∙◌}
-use mathlib.Core.Logic.{◌⊎◌, ⊎_elim}
+use mathlib.Core.Logic.{⊎_elim}
 use Prim.Native.Nat.{ℕ, zero, suc, ◌+◌, ◌-◌, ◌≤◌, ◌<◌}
 use mathlib.Core.List.{List, [], ◌∷◌}
 use mathlib.Core.Bool.{Bool, true, false, not, ◌||◌, cond}

@@ -1,22 +1,21 @@
 -- Words: where the next boundary is, the words from a place on, and the tokens that are left there, chunk by chunk. Assumes nothing.
 use mathlib.Core.Path.{◌≡◌, refl, sym, ap, ◌∙◌}
 use mathlib.Core.Logic.{◌⊎◌, inl, inr, ⊎_elim}
-use mathlib.Core.Bool.{Bool, and-false, true, false, not, ◌&&◌, ◌||◌, cond, true≢false}
+use mathlib.Core.Bool.{Bool, and-false, true, false, ◌||◌, cond, true≢false}
 use mathlib.Core.List.{List, [], ◌∷◌, ◌++◌, map}
 use Prim.Native.Nat.{ℕ, zero, suc, ◌+◌, ◌-◌, ◌≤◌, ◌<◌, min}
 use native.Mathlib.Decide.{dec_lt}
-use native.Mathlib.Nat.{add-zero, add-suc}
 use native.Mathlib.Omega.{arith}
 use lib.Dec.{leb}
-use lib.ListN.{length, get_or, take, drop, length-take, length-drop, drop_of_length-le, get_or-eq_default}
+use lib.ListN.{length, get_or, take, drop, length-take, length-drop}
 use lib.Seq.{drop-drop, get_or-drop, take-length}
 use borrow.Author.Tests.{le-leb, lt-leb}
 use Rattle.rules.specs.Numbers.{chunk_most}
 use Rattle.rules.specs.Bytes.{is_letter, is_digit, some, all, those}
-use Rattle.rules.specs.Words.{WordBreak, outside, is, extend_num_let, word_break, joins, values, joined, reach_in, reach, words_in, is_alphanumeric, words_from, words}
+use Rattle.rules.specs.Words.{outside, is, extend_num_let, word_break, joins, values, joined, reach_in, reach, words_in, is_alphanumeric, words_from, words}
 use Rattle.rules.specs.Analysis.{chunks, cut}
 use Rattle.rules.specs.InWords.{is_solid, is_inner, bridged, value_at, is_bridge, is_within, word_at, left_over, pieces_from, seek_in, token_start}
-use Rattle.rules.proofs.Bools.{and_l, and_r, and_no_r, or_false, split, both, or_l, or_r, either, neither}
+use Rattle.rules.proofs.Bools.{and_l, and_r, and_no_r, or_false, both, or_l, or_r, either, neither}
 use Rattle.rules.proofs.Text.Pieces.{by_test, all_nil, all_cons, all_one, all_take, all_drop, total, chunks_nil, chunks_step, take_take, drop_take, cut_total, those_total}
 use Rattle.rules.proofs.Text.Classes.{is_plain, letter_value, digit_value}
 use Rattle.rules.proofs.Text.Values.{inner_joins, outer_joins, over_joins, bridge_joins, bridge_far, past_joins}
