@@ -11,7 +11,7 @@ help: ## this list
 	@sed -n 's/^\([a-z]*\):.*## /  make \1	/p' Makefile | expand -t 20
 	@sed -n 's/^#   /  /p' Makefile
 
-test: ## the gate: every proof from nothing, every run beside the Rust
+test: ## the gate: every proof, wrong programs, every run beside the Rust
 	.ci/run
 
 edits: ## wrong versions of the code, each of which the prover must refuse; make edits CRATE.. for some crates
