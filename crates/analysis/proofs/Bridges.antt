@@ -1,7 +1,7 @@
 -- What classes tell of bytes in a word. Assumes nothing.
 use mathlib.Core.Path.{◌≡◌, sym, ap, ◌∙◌}
 use mathlib.Core.Logic.{inl}
-use mathlib.Core.Bool.{Bool, true, false, not, ◌||◌}
+use mathlib.Core.Bool.{Bool, true, false, ◌||◌}
 use mathlib.Core.List.{List}
 use Prim.Native.Nat.{ℕ, zero, suc, ◌/◌, ◌%◌, ◌+◌, ◌-◌, ◌≤◌, ◌<◌}
 use native.Mathlib.Omega.{arith}
@@ -11,7 +11,7 @@ use borrow.Author.Tests.{eq-eqb, not-true}
 use Rattle.rules.specs.Words.{is, a_letter, is_mid_letters, is_mid_numbers, values, word_break}
 use Rattle.rules.specs.Analysis.{class_of}
 use Rattle.rules.specs.InWords.{is_solid, is_inner, bridged, value_at, is_bridge, is_within}
-use Rattle.rules.proofs.Bools.{and_false, told_no, told_yes}
+use Rattle.rules.proofs.Bools.{and_false}
 use Rattle.rules.proofs.Text.Classes.{letters_flag, numbers_flag, joins_flag, alphanumeric_flag, letter_flag, letter_value, digit_value}
 use Rattle.rules.proofs.Text.Values.{bridged_by, nothing_bridged, no_first, no_last, outer_joins}
 use Rattle.rules.proofs.Text.Words.{value_in, value_past, way_joined, joined_first, joined_is}
@@ -113,20 +113,20 @@ module _ (s : List ℕ) where
     told_within f g = g ∙ sym (within_behind s at (inner_before f))
 
     module _ (f : r ≡ false) {p : Bool} (g : p ≡ is_inner (value_at s (suc (suc at)))) where
-      pub told_outside : not p ≡ true → false ≡ is_within s at
-      told_outside h = sym (within_none s at (inner_before f) (told_no g h))
+      pub told_outside : p ≡ false → false ≡ is_within s at
+      told_outside h = sym (within_none s at (inner_before f) (sym g ∙ h))
 
-      pub told_one : not p ≡ false → at ≡ 1 → false ≡ is_within s at
+      pub told_one : p ≡ true → at ≡ 1 → false ≡ is_within s at
       told_one h z =
           sym
           (ap (is_within s) z
-          ∙ within_one s (ap (λ (k : ℕ). is_inner (value_at s (suc k))) (sym z) ∙ inner_before f) (ap (λ (k : ℕ). is_inner (value_at s (suc (suc k)))) (sym z) ∙ told_yes g h))
+          ∙ within_one s (ap (λ (k : ℕ). is_inner (value_at s (suc k))) (sym z) ∙ inner_before f) (ap (λ (k : ℕ). is_inner (value_at s (suc (suc k)))) (sym z) ∙ sym g ∙ h))
 
-      pub told_before : {q : Bool} → not p ≡ false → q ≡ is_bridge s (at - 1) → q ≡ is_within s at
+      pub told_before : {q : Bool} → p ≡ true → q ≡ is_bridge s (at - 1) → q ≡ is_within s at
       told_before h k = k ∙ step (at - 1) (omega arith)
         where
           step : (b : ℕ) → at ≡ suc b → is_bridge s b ≡ is_within s at
           step b z =
               sym
               (ap (is_within s) z
-              ∙ within_before s b (ap (λ (k : ℕ). is_inner (value_at s (suc k))) (sym z) ∙ inner_before f) (ap (λ (k : ℕ). is_inner (value_at s (suc (suc k)))) (sym z) ∙ told_yes g h))
+              ∙ within_before s b (ap (λ (k : ℕ). is_inner (value_at s (suc k))) (sym z) ∙ inner_before f) (ap (λ (k : ℕ). is_inner (value_at s (suc (suc k)))) (sym z) ∙ sym g ∙ h))

@@ -2,16 +2,16 @@
 use mathlib.Core.Path.{◌≡◌, refl, sym, ap, ◌∙◌}
 use mathlib.Core.Bool.{Bool, true, false, cond, true≢false}
 use mathlib.Core.List.{List}
-use Prim.Native.Nat.{ℕ, ◌+◌, ◌-◌, min}
+use Prim.Native.Nat.{ℕ, ◌+◌, ◌-◌, ◌<◌, min}
 use native.Mathlib.Omega.{arith}
 use lib.Dec.{eqb}
 use lib.ListN.{length, take, drop, length-take, length-drop}
 use lib.Seq.{take_all}
 use Rattle.rules.specs.Numbers.{chunk_most}
-use Rattle.rules.specs.Analysis.{front, is_words}
-use Rattle.rules.proofs.Text.Pieces.{front_most, front_take}
+use Rattle.rules.specs.Analysis.{front, after, is_words}
+use Rattle.rules.proofs.Text.Pieces.{outside, first_length, front_most, front_take}
 use Rattle.analysis.specs.Tokens.{by_analyzer, inside, wanted, span_from, first_of, start_from, text_from, Found}
-use Rattle.analysis.proofs.Steps.{whole_start, whole_text_lem, every_inside, found}
+use Rattle.analysis.proofs.Steps.{whole_start, whole_text_lem, every_inside, found, rest_is, text_most_lem}
 
 -- ---- analyzers that take a text whole, by the code's test
 
@@ -49,3 +49,17 @@ module _ (a : ℕ) (s : List ℕ) (x : is_words a ≡ false) (at : ℕ) where
       rw (length-take, length-take chunk_most f) (omega (arith, front_most (inside a) u, length-drop start s)) in
       found a s x at start (span_from (wanted a true) s start end - start) p
       (rw (← p, cut_first a f w, front_take (inside a) (end - start) u, m) (omega arith))
+
+  -- no byte that a token has is left
+  pub none_left : (start : ℕ) → start ≡ start_from (inside a) s at → start ≡ length s → Found a s at (length s) 0
+  none_left start p z = found a s x at (length s) 0 (sym z ∙ p) (omega (arith, text_most_lem (inside a) a s at))
+
+  -- one is, and so the chunk has it
+  pub chunk_some : (start end : ℕ) → start ≡ start_from (inside a) s at → start < length s → end ≡ start + min 255 (length s - start) →
+      0 < span_from (wanted a true) s start end - start
+  unfolding span_from wanted
+  chunk_some start end p l e =
+      let u = drop start s in
+      let v : after (outside (inside a)) (drop at s) ≡ u = rest_is (inside a) s at ∙ ap (λ (i : ℕ). drop i s) (sym p) in
+      let f = rw v at (first_length (inside a) (drop at s) (rw v (rw length-drop (omega arith)))) in
+      rw (front_take (inside a) (end - start) u, length-take) (omega (arith, f, length-take 255 (front (inside a) u)))

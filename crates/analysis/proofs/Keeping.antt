@@ -1,13 +1,12 @@
 -- Going from token to token past those that are left out. Assumes nothing.
 use mathlib.Core.Path.{◌≡◌, refl, sym, ap, ◌∙◌}
-use mathlib.Core.Bool.{Bool, true, false, not, ◌&&◌, cond}
+use mathlib.Core.Bool.{Bool, true, false, ◌&&◌, cond}
 use mathlib.Core.List.{List, [], ◌∷◌}
 use Prim.Native.Nat.{ℕ, zero, suc, ◌+◌, ◌-◌, ◌≤◌, ◌<◌}
 use native.Mathlib.Omega.{arith}
 use native.Mathlib.Numerals.{add-one}
 use lib.Dec.{eqb}
 use lib.ListN.{length, take, drop}
-use borrow.Author.Tests.{not-true, not-false}
 use Rattle.rules.specs.Bytes.{ascii, same, some}
 use Rattle.rules.specs.Query.{word}
 use Rattle.rules.specs.Words.{stop_words, is_stop_word}
@@ -168,11 +167,5 @@ module _ {a : ℕ} {s : List ℕ} {at p from position start len : ℕ} (P : Pass
 -- ---- a part of the text, as the code has it
 
 module _ (a : ℕ) (s : List ℕ) (start len : ℕ) {r : Bool} (e : r ≡ is_left_out a (spelled a (take (start + len - start) (drop start s)))) where
-  part_told : {b : Bool} → r ≡ b → is_left_out a (spelled a (take len (drop start s))) ≡ b
+  pub part_told : {b : Bool} → r ≡ b → is_left_out a (spelled a (take len (drop start s))) ≡ b
   part_told f = let z : start + len - start ≡ len = omega arith in sym (e ∙ ap (λ (n : ℕ). is_left_out a (spelled a (take n (drop start s)))) z) ∙ f
-
-  pub told_kept : not r ≡ true → is_left_out a (spelled a (take len (drop start s))) ≡ false
-  told_kept h = part_told (not-true r h)
-
-  pub told_left : not r ≡ false → is_left_out a (spelled a (take len (drop start s))) ≡ true
-  told_left h = part_told (not-false r h)

@@ -6,5 +6,6 @@ pub mod OneToken
 pub mod Keeping
 pub mod Only
 pub mod Bridges
+pub mod Firsts
 pub mod Seeking
 pub mod Packing

@@ -4,16 +4,16 @@ use mathlib.Core.Bool.{Bool, true, false, ◌&&◌, ◌||◌}
 use mathlib.Core.List.{List, [], ◌∷◌, map}
 use Prim.Native.Nat.{ℕ, zero, suc, ◌+◌, ◌*◌, ◌-◌, ◌≤◌, ◌<◌}
 use native.Mathlib.Omega.{arith}
-use native.Mathlib.Numerals.{add-one}
 use lib.Dec.{leb, ltb, eqb}
-use lib.ListN.{length, get_or, drop, length-drop, length-map, drop_of_length-le}
+use lib.ListN.{length, get_or, drop, length-drop, length-map}
 use lib.Seq.{drop-cons, get_or-drop}
 use borrow.Author.Tests.{eq-eqb, ne_eqb, eqb-true, leb-true, ltb-true, lt-ltb}
 use Rattle.rules.specs.Bytes.{ascii, same, some, all}
 use Rattle.rules.specs.Words.{stop_words, is_stop_word}
 use Rattle.rules.specs.Analysis.{is_capital, lower, lowercase, is_left_out}
-use Rattle.rules.proofs.Bools.{alike, both, or_l, and_l, and_r, fails, clash}
+use Rattle.rules.proofs.Bools.{alike, both, and_l, and_r, fails, clash}
 use Rattle.rules.proofs.Text.Pieces.{by_test, all_cons, all_one, all_nil}
+use Rattle.std.specs.List.{list_any}
 use Rattle.analysis.specs.Tokens.{spelled}
 use Rattle.analysis.specs.Stops.{packed, stop_keys}
 
@@ -121,16 +121,6 @@ unfolding packed
 packed_cap [] f = omega arith
 packed_cap (c ∷ t) f = omega (arith, packed_cap t (λ i. f (suc i)), lower_byte c (f 0))
 
--- ---- the table, an entry at a time
-
-pub some_on : (P : ℕ → Bool) (l : List ℕ) (i : ℕ) → i < length l → some P (drop i l) ≡ P (get_or l i 0) || some P (drop (suc i) l)
-unfolding some
-some_on P l i h = ap (some P) (drop-cons l i 0 h)
-
-pub some_none : (P : ℕ → Bool) → some P [] ≡ false
-unfolding some
-some_none P = refl
-
 -- ---- as the code asks
 
 pub key_most : (t : List ℕ) (i : ℕ) → ((j : ℕ) → get_or t j 0 < 256) → 0 < i → length t ≤ 5 → packed (lowercase (drop i t)) < 8589934592
@@ -147,24 +137,14 @@ pub key_end : (t : List ℕ) (i : ℕ) → i ≤ 0 → {k : ℕ} → k ≡ packe
 key_end t zero h e = e
 key_end t (suc i) h e = absurd (omega arith)
 
-keys_count : length stop_keys ≡ 33
-unfolding stop_keys stop_words
-keys_count = refl
+-- as `contains` looks for it
+eqb_turned : (k l : ℕ) → eqb k l ≡ eqb l k
+eqb_turned k l = alike (eqb k l) (eqb l k) (λ e. eq-eqb l k (sym (eqb-true k l e))) (λ e. eq-eqb k l (sym (eqb-true l k e)))
 
-module _ (key i : ℕ) {keys : List ℕ} (k : keys ≡ stop_keys) (l : some (eqb key) stop_keys ≡ some (eqb key) (drop i stop_keys)) where
-  pub stop_found : i < 33 → get_or keys i 0 ≡ key → true ≡ some (eqb key) stop_keys
-  stop_found h e =
-      sym
-      (l ∙ some_on (eqb key) stop_keys i (rw keys_count h)
-      ∙ or_l (some (eqb key) (drop (suc i) stop_keys)) (eq-eqb key (get_or stop_keys i 0) (sym (ap (λ (t : List ℕ). get_or t i 0) (sym k) ∙ e))))
-
-  pub stop_more : i < 33 → (get_or keys i 0 ≡ key → ⊥) → some (eqb key) stop_keys ≡ some (eqb key) (drop (i + 1) stop_keys)
-  stop_more h n =
-      l ∙ some_on (eqb key) stop_keys i (rw keys_count h)
-      ∙ rw (add-one i, ne_eqb key (get_or stop_keys i 0) (λ e. n (ap (λ (t : List ℕ). get_or t i 0) k ∙ sym e)))
-
-  pub stop_none : 33 ≤ i → false ≡ some (eqb key) stop_keys
-  stop_none h = sym (l ∙ ap (some (eqb key)) (drop_of_length-le stop_keys {i = i} (rw keys_count h)) ∙ some_none (eqb key))
+pub some_any : (key : ℕ) (keys : List ℕ) → list_any (λ k. eqb k key) keys ≡ some (eqb key) keys
+unfolding some
+some_any key [] = refl
+some_any key (k ∷ keys) = ap₂ ◌||◌ (eqb_turned k key) (some_any key keys)
 
 pub stop_long : (t : List ℕ) → 5 < length t → false ≡ is_stop_word (lowercase t)
 stop_long t h = sym (stop_short (lowercase t) (rw length-map h))

@@ -1,13 +1,13 @@
 -- Where a word begins, and where it ends, a byte at a time. Assumes nothing.
 use mathlib.Core.Path.{◌≡◌, refl, sym, ap, subst, ◌∙◌}
 use mathlib.Core.Logic.{◌⊎◌, inl, inr, ⊎_elim}
-use mathlib.Core.Bool.{Bool, true, false, true≢false, ◌||◌}
+use mathlib.Core.Bool.{Bool, true, false, true≢false, not, ◌||◌}
 use mathlib.Core.List.{List}
 use Prim.Native.Nat.{ℕ, zero, suc, ◌+◌, ◌-◌, ◌≤◌, ◌<◌, min}
 use native.Mathlib.Omega.{arith}
 use native.Mathlib.Numerals.{add-one}
-use lib.Dec.{leb}
-use lib.ListN.{length, get_or, length-take, length-drop, drop_of_length-le}
+use lib.Dec.{leb, ltb}
+use lib.ListN.{length, get_or, take, drop, length-take, length-drop, drop_of_length-le}
 use borrow.Author.Tests.{le-leb, lt-leb}
 use Rattle.rules.specs.Words.{is, extend_num_let, joined, reach, is_alphanumeric}
 use Rattle.rules.specs.Analysis.{class_of}
@@ -18,6 +18,9 @@ use Rattle.rules.proofs.Text.Values.{bridge_near}
 use Rattle.rules.proofs.Text.Words.{by_less, OnWay, joined_past, reach_at, reach_more, reach_least, reach_most, solid_at, inner_at, bridge_joined, outer_boundary, way_joined, way_on, begins_way, found_begins, skip_pieces, skip_start, start_begins, start_end, start_within, pieces_end, begins_one}
 use Rattle.rules.specs.Numbers.{chunk_most}
 use Rattle.analysis.specs.Words.{Begins, Starts, Held}
+use Rattle.std.proofs.lemmas.Bool.Decides.{nat_tests}
+use Rattle.std.specs.List.{position_or_len}
+use Rattle.analysis.proofs.Firsts.{part_length, fails_before, passes_at}
 use Rattle.analysis.proofs.Bridges.{or_skip}
 use Rattle.analysis.specs.Tokens.{word_text, FoundWord}
 
@@ -204,40 +207,46 @@ module _ (s : List ℕ) where
   pub ending_breaks : {start end i : ℕ} {b : Bool} → Ending s start end i → (i < end → is_inner (value_at s (suc (suc i))) ≡ false) → i < end → b ≡ is_bridge s i → b ≡ false → i ≡ min end (reach s (suc start))
   ending_breaks {start} {end} {i} E n h e g = ending_stops E (e ∙ sym (or_skip (is_bridge s i) (n h))) g h
 
--- bytes that hold together, one at a time
-module _ (s : List ℕ) {from end i : ℕ} (l : from ≤ i) (each : (k : ℕ) → from ≤ k → k < i → is_inner (value_at s (suc (suc k))) ≡ true) where
-  module _ (h : i < end) (m : end ≤ length s) {x : ℕ} (e : x ≡ class_of (get_or s i 0)) where
-    plain_here : is_inner (value_at s (suc (suc i))) ≡ leb 16 x
-    plain_here = inner_at s i (omega arith) ∙ sym (plain_flag (get_or s i 0)) ∙ ap (leb 16) (sym e)
+-- bytes that hold together, up to the first that does not
+abbrev pub outer : ℕ → Bool
+outer c = ltb (class_of c) 16
 
-    pub held_stops : x < 16 → Held s from end i
-    held_stops g = record { low = l; high = omega arith; each = each; stop = λ _. plain_here ∙ lt-leb 16 x g }
+outer_inner : (x : ℕ) (b : Bool) → ltb x 16 ≡ b → leb 16 x ≡ not b
+outer_inner x true e = grind (arith, nat_tests)
+outer_inner x false e = grind (arith, nat_tests)
 
-    pub held_on : 16 ≤ x → (k : ℕ) → from ≤ k → k < i + 1 → is_inner (value_at s (suc (suc k))) ≡ true
-    held_on g k o p = by_less k i (λ q. each k o q) (λ q. let z : k ≡ i = omega arith in rw z (plain_here ∙ le-leb 16 x g))
-
-  pub held_ends : i ≤ end → end ≤ i → Held s from end end
-  held_ends m h = let z : i ≡ end = omega arith in record { low = omega arith; high = omega arith; each = λ k o p. each k o (omega arith); stop = λ q. absurd (omega arith) }
+pub held_first : (s : List ℕ) {from end r : ℕ} → from ≤ end → end ≤ length s → r ≡ position_or_len outer (take (end - from) (drop from s)) → r ≤ length (take (end - from) (drop from s)) → Held s from end (from + r)
+held_first s {from} {end} {r} l m e h =
+    let n : from + r ≤ end = omega (arith, part_length s l m) in
+    record {
+      low = omega arith;
+      high = n;
+      each = λ k i j. told k (omega arith) (fails_before s l m outer e k i j (omega arith));
+      stop = λ q. told (from + r) q (passes_at s l m outer e q);
+    }
+  where
+    told : (k : ℕ) → k < end → {b : Bool} → outer (get_or s k 0) ≡ b → is_inner (value_at s (suc (suc k))) ≡ not b
+    told k i {b} f = inner_at s k (omega arith) ∙ sym (plain_flag (get_or s k 0)) ∙ outer_inner (class_of (get_or s k 0)) b f
 
 -- ---- the first token of words
 
 module _ {s : List ℕ} {at start : ℕ} (S : Starts s at start) where
-  pub found_none : length s ≤ start → FoundWord s at start 0
+  pub found_none : length s ≤ start → FoundWord s at (length s) 0
   unfolding word_text
-  found_none h = record {
+  found_none h = let z : start ≡ length s = omega (arith, S.high) in subst (λ (i : ℕ). FoundWord s at i 0) z (record {
     place = S.place;
     size = sym (rw (← S.place, drop_of_length-le s {i = start} h, length-take) (omega arith));
     onward = S.low;
     within = omega (arith, S.high);
     none = λ _. S.same ∙ pieces_end s start h;
     one = λ l. absurd (omega arith);
-  }
+  })
 
   module _ (h : start < length s) {end e : ℕ} (c : end ≡ start + min chunk_most (length s - start)) (m : e ≡ min end (reach s (suc start))) where
     word_size : e - start ≡ min chunk_most (reach s (suc start) - start)
     word_size = omega (arith, reach_least s (suc start), reach_most s (suc start) h)
 
-    pub word_past : start ≤ e
+    pub word_past : start < e
     word_past = omega (arith, reach_least s (suc start))
 
     text_size : length (word_text s at) ≡ min chunk_most (reach s (suc start) - start)

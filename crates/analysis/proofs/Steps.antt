@@ -3,13 +3,15 @@
 use mathlib.Core.Path.{◌≡◌, refl, sym, ap, subst, fun_ext, ◌∙◌}
 use mathlib.Core.Bool.{Bool, true, false, cond}
 use mathlib.Core.List.{List, [], ◌∷◌, ◌++◌, map, append_assoc}
-use Prim.Native.Nat.{ℕ, suc, ◌+◌, ◌-◌, ◌≤◌, ◌<◌, min}
+use Prim.Native.Nat.{ℕ, suc, ◌+◌, ◌-◌, ◌≤◌, ◌<◌, min, max}
 use native.Mathlib.Decide.{ℕ_discrete}
 use native.Mathlib.Omega.{arith}
 use lib.ListN.{length, take, drop, length-take, length-drop, take-append-drop, drop_of_length-le}
 use lib.Seq.{drop-drop, drop-length, take-length, take-append_seam}
 use lib.Dec.{eqb}
 use borrow.Author.Tests.{ne_eqb}
+use Rattle.std.proofs.Common.{Option, None, Some}
+use Rattle.std.specs.Option.{MatchOption}
 use Rattle.rules.specs.Numbers.{chunk_most}
 use Rattle.rules.specs.Analysis.{front, after, is_letter, lowercase, is_words, token_texts}
 use Rattle.rules.specs.Words.{reach}
@@ -227,6 +229,16 @@ past a s at h = by_test (is_words a) words runs
 
     runs : is_words a ≡ false → Found a s at at 0
     runs x = let p = past_start (inside a) s at h in found a s x at at 0 (sym p) (omega (arith, text_most_lem (inside a) a s at))
+
+-- at a place behind it, and of words before it, as the code has the first token or none
+pub past_piece : (a : ℕ) (s : List ℕ) (at : ℕ) → length s ≤ at → Found a s at (max at (length s)) 0
+past_piece a s at h = let z : max at (length s) ≡ at = omega arith in rw z (past a s at h)
+
+pub word_piece : {A : Type 0} (r : Option A) (start len : A → ℕ) (a : ℕ) (s : List ℕ) (at : ℕ) → is_words a ≡ true → at ≤ length s →
+    MatchOption r (FoundWord s at (length s) 0) (λ p. FoundWord s at (start p) (len p) × 0 < len p) →
+    MatchOption r (Found a s at (max at (length s)) 0) (λ p. Found a s at (start p) (len p) × 0 < len p)
+word_piece None start len a s at x h f = let z : max at (length s) ≡ length s = omega arith in rw z (found_word a s x f h)
+word_piece (Some p) start len a s at x h f = (found_word a s x f.0 h, f.1)
 
 -- every place has its token: the tokens from the first place on are those of the text
 pub rest_first : (a : ℕ) (s : List ℕ) → rest_texts a s 0 ≡ token_texts a s

@@ -12,7 +12,7 @@ use classes::lower;
 const STOP_MOST: usize = 5;
 
 // The source's order: a, an, and, ..
-const STOP_KEYS: [u64; 33] = [
+static STOP_KEYS: [u64; 33] = [
     0x161, // a
     0x16e61, // an
     0x1646e61, // and
@@ -54,10 +54,8 @@ fn key(word: &[u8]) -> u64
     ensures { result ≡ packed (lowercase word.now) }
 {
     let mut key: u64 = 1;
-    let mut i = word.len();
-    while 0 < i {
-        i -= 1;
-        key = key * 256 + lower(word[i]) as u64;
+    for i in (0..word.len()).rev() {
+        key = key * 256 + u64::from(lower(word[i]));
     }
     key
 }
@@ -65,22 +63,11 @@ fn key(word: &[u8]) -> u64
 fn is_stop_key(key: u64) -> bool
     ensures { result ≡ some (eqb key) stop_keys }
 {
-    let keys = STOP_KEYS;
-    let mut i = 0;
-    while i < 33 {
-        if keys[i] == key {
-            return true;
-        }
-        i += 1;
-    }
-    false
+    STOP_KEYS.contains(&key)
 }
 
 pub fn is_stop_word(word: &[u8]) -> bool
     ensures { result ≡ is_stop_word (lowercase word.now) }
 {
-    if STOP_MOST < word.len() {
-        return false;
-    }
-    is_stop_key(key(word))
+    word.len() <= STOP_MOST && is_stop_key(key(word))
 }

@@ -1,26 +1,27 @@
 -- A record asked of all queries: which of them want something of it, their answers bit after bit, and the table as it fills.
 use mathlib.Core.Path.{◌≡◌, refl, sym, ap, ◌∙◌}
-use mathlib.Core.Logic.{◌⊎◌, inl, inr, ⊎_elim}
-use Prim.Native.Nat.{ℕ, zero, suc, ◌+◌, ◌-◌, ◌*◌, ◌%◌, ◌^◌, ◌≤◌, ◌<◌}
-use mathlib.Core.List.{List, [], ◌∷◌}
+use mathlib.Core.Logic.{◌⊎◌, inl, inr}
+use Prim.Native.Nat.{ℕ, ◌+◌, ◌-◌, ◌*◌, ◌%◌, ◌≤◌, ◌<◌}
+use mathlib.Core.List.{List, []}
 use mathlib.Core.Bool.{Bool, true, false, ◌||◌}
 use native.Mathlib.Omega.{arith}
-use native.Mathlib.Numerals.{add-one}
-use lib.ListN.{length, get_or, take, drop, length-drop}
-use lib.Seq.{drop-drop, get_or-drop}
+use lib.ListN.{length, get_or, take, drop}
 use lib.Dec.{eqb}
 use lib.Bits.{bit_or}
 use borrow.Author.Tests.{eqb-true, eqb-false}
-use Rattle.rules.specs.Bytes.{big, of_big, is_empty, body_of, rest_of, every, each, some}
-use Rattle.rules.specs.Numbers.{Read, got}
-use Rattle.rules.specs.Reading.{number_of, read_for_selection}
-use Rattle.rules.specs.Lists.{Entry, place, value, is_entry, entry_of, is_record, record_of}
+use Rattle.rules.specs.Bytes.{big, of_big, rest_of, every, each, some}
+use Rattle.std.specs.Prelude.{Result, Ok}
+use Rattle.names.specs.Refusals.{checked}
+use Rattle.names.specs.declared.refusal.Refusal.{Refusal}
+use Rattle.selection.proofs.Selections.{passes}
+use Rattle.rules.specs.Reading.{read_for_selection}
+use Rattle.rules.specs.Lists.{Entry, place, value, is_entry, entry_of, record_of}
 use Rattle.rules.specs.Matching.{bit}
 use Rattle.rules.proofs.Bools.{clash, split, or_assoc, or_false}
 use Rattle.rules.proofs.Stored.Bigs.{read_big, length_big}
 use Rattle.rules.proofs.Stored.Parts.{less_empty, more_empty}
 use Rattle.rules.proofs.Stored.Rows.{first, others, each_done, each_next}
-use Rattle.numbers.specs.Laid.{laid, Put}
+use Rattle.numbers.specs.Laid.{Put}
 use Rattle.numbers.proofs.Laying.{before_laid, there_laid}
 use Rattle.places.proofs.Standing.{kept_same}
 use Rattle.entries.specs.Slots.{hash_of, slots_many}
@@ -29,7 +30,7 @@ use Rattle.wanted.specs.Wanted.{calls_by}
 use Rattle.matching.specs.Truth.{Truth}
 use Rattle.batch.specs.Bits.{bit_at}
 use Rattle.batch.specs.Plan.{Else, numbers_at, wanted_by, numbers_by, bare_by, Known}
-use Rattle.batch.specs.Ask.{Sound, Told, kept, row_at, Table}
+use Rattle.batch.specs.Ask.{Sound, Told, row_at, Table}
 use Rattle.batch.proofs.Pushing.{bit_next, bit_first, bit_none, bit_or_lem}
 
 -- ---- which queries want something
@@ -82,15 +83,15 @@ module _ {masks rec e : List ℕ} {any : ℕ} (C : Calling masks rec e any) wher
 pub told_none : {qs : List (List ℕ)} {es : List Entry} → Told qs 0 es 0
 told_none = record { at = λ i h. absurd (omega arith) }
 
-pub told_next : {qs : List (List ℕ)} {n : ℕ} {es : List Entry} {bits : ℕ} → Told qs n es bits → (fault : ℕ) (y : Bool) {q : List ℕ} {more : ℕ} → q ≡ get_or qs n []
-    → fault ≡ number_of (read_for_selection q) → (fault ≡ 0 → Truth q es y) → more ≡ bits * 2 + bit y → Told qs (n + 1) es more
+pub told_next : {qs : List (List ℕ)} {n : ℕ} {es : List Entry} {bits : ℕ} → Told qs n es bits → (fault : Result (Unit {0}) Refusal) (y : Bool) {q : List ℕ} {more : ℕ} → q ≡ get_or qs n []
+    → fault ≡ checked (read_for_selection q) → (fault ≡ Ok tt → Truth q es y) → more ≡ bits * 2 + bit y → Told qs (n + 1) es more
 told_next {qs} {n} {es} {bits} T fault y {q} {more} e f g m = record { at = λ i h s. go i h s (split (eqb i n)) }
   where
     go : (i : ℕ) → i < n + 1 → Sound (get_or qs i []) → (eqb i n ≡ true) ⊎ (eqb i n ≡ false) → Truth (get_or qs i []) es (bit_at more (n + 1 - 1 - i))
     go i h s (inl z) =
         let k : i ≡ n = eqb-true i n z in
         let c : n + 1 - 1 - n ≡ 0 = omega arith in
-        rw (m, k, c, bit_first bits y, ← e) (g (f ∙ ap (λ (s : List ℕ). number_of (read_for_selection s)) (e ∙ ap (λ (x : ℕ). get_or qs x []) (sym k)) ∙ s))
+        rw (m, k, c, bit_first bits y, ← e) (g (f ∙ ap (λ (s : List ℕ). checked (read_for_selection s)) (e ∙ ap (λ (x : ℕ). get_or qs x []) (sym k)) ∙ passes (read_for_selection (get_or qs i [])) s))
     go i h s (inr z) =
         let c : n + 1 - 1 - i ≡ n - 1 - i + 1 = omega (arith, eqb-false i n z) in
         rw (m, c, bit_next bits y (n - 1 - i)) (T.at i (omega (arith, eqb-false i n z)) s)
@@ -99,46 +100,10 @@ pub told_all : {qs : List (List ℕ)} {n many : ℕ} {es : List Entry} {bits : �
 told_all {n = n} {many} T h k = let e : n ≡ many = omega arith in rw (← e) T
 
 -- a query that wants nothing of the record
-pub uncalled : {s masks : List ℕ} {fault j : ℕ} (es : List Entry) → Known s fault masks j → fault ≡ 0 → (any : ℕ) → bit_at any j ≡ some (calling masks j) es
+pub uncalled : {s masks : List ℕ} {fault : Result (Unit {0}) Refusal} {j : ℕ} (es : List Entry) → Known s fault masks j → fault ≡ Ok tt → (any : ℕ) → bit_at any j ≡ some (calling masks j) es
     → {w b : Bool} → w ≡ bit_at any j → b ≡ bare_by masks j → w ≡ false → Truth s es b
 unfolding Else
 uncalled es K z any c ew eb h = rw eb (K.else z es (sym c ∙ sym ew ∙ h))
-
--- ---- the records of a list, one after the other
-
--- those from i on are in t
-pub record From (l t : List ℕ) (i : ℕ) : Type 0 where
-  pub records : every is_record t ≡ true
-  pub left : i + length t ≤ length l
-  pub these : drop i (each record_of l) ≡ each record_of t
-
-pub from_start : {l : List ℕ} → every is_record l ≡ true → From l l 0
-from_start h = record { records = h; left = omega arith; these = refl }
-
-module _ {l t : List ℕ} {i : ℕ} (F : From l t i) where
-  module _ (more : 0 < length t) where
-    split_first : drop i (each record_of l) ≡ record_of t ∷ each record_of (rest_of t)
-    split_first = F.these ∙ each_next record_of t (more_empty t more)
-
-    pub from_there : i < length (each record_of l)
-    from_there = let k = ap length split_first in omega (arith, length-drop i (each record_of l))
-
-    pub from_record : {b : List ℕ} → b ≡ body_of t → get_or (each record_of l) i [] ≡ each entry_of b
-    unfolding record_of
-    from_record e =
-        let z : i ≡ i + 0 = omega arith in
-        ap (λ (k : ℕ). get_or (each record_of l) k []) z ∙ sym (get_or-drop i (each record_of l) 0 []) ∙ ap (λ (rs : List (List Entry)). get_or rs 0 []) split_first
-        ∙ ap (each entry_of) (sym e)
-
-    pub from_next : {u : List ℕ} → u ≡ rest_of t → length u < length t → From l u (i + 1)
-    from_next {u} e s = record {
-      records = rw e (others is_record t (more_empty t more) F.records);
-      left = let k = F.left in omega arith;
-      these = sym (drop-drop 1 i (each record_of l)) ∙ ap (drop 1) split_first ∙ ap (each record_of) (sym e);
-    }
-
-  pub from_end : length t ≤ 0 → length (each record_of l) ≤ i
-  from_end h = let k = ap length (F.these ∙ each_done record_of t (less_empty t h)) in omega (arith, length-drop i (each record_of l))
 
 -- ---- the table
 
@@ -164,5 +129,5 @@ module _ {qs : List (List ℕ)} {many : ℕ} {l : List ℕ} where
       go r h k (inl z) = let e : r ≡ i = eqb-true r i z in rw (e, row_put table i bits fits b P) A
       go r h k (inr z) = rw (row_kept table i r bits (omega (arith, eqb-false r i z)) fits P) (T.at r (omega (arith, eqb-false r i z)) k)
 
-  pub table_most : {table : List ℕ} {i n : ℕ} → Table qs many l i table → length (each record_of l) ≤ i → Table qs many l n table
-  table_most T h = record { at = λ r k e. T.at r (omega arith) e }
+  pub table_most : {table : List ℕ} {i n : ℕ} → Table qs many l i table → ((r : ℕ) → r < n → r < length (each record_of l) → r < i) → Table qs many l n table
+  table_most T f = record { at = λ r k e. T.at r (f r k e) e }

@@ -1,6 +1,6 @@
 -- A slice of queries, gone through one after the other.
 use mathlib.Core.Path.{◌≡◌, refl, sym, ap, ◌∙◌}
-use Prim.Native.Nat.{ℕ, zero, suc, ◌+◌, ◌-◌, ◌≤◌, ◌<◌}
+use Prim.Native.Nat.{ℕ, suc, ◌+◌, ◌-◌, ◌≤◌, ◌<◌}
 use mathlib.Core.List.{List, [], ◌∷◌, ◌++◌, append-nil, append_assoc}
 use mathlib.Core.Bool.{Bool, true, false}
 use native.Mathlib.Omega.{arith}
@@ -9,16 +9,17 @@ use lib.ListN.{length, get_or, take, drop, length-append}
 use lib.Seq.{drop-cons, drop-drop}
 use lib.Dec.{leb}
 use borrow.Author.Tests.{le-leb, lt-leb, leb-true}
-use Rattle.rules.specs.Numbers.{Read, got, refused, number, need, on_read, and_then, malformed_query, many_queries, queries_most}
+use Rattle.rules.specs.Numbers.{Read, got, refused, need, on_read, and_then, many_queries, queries_most}
 use Rattle.rules.specs.Bytes.{is_empty, of_big}
 use Rattle.rules.specs.Batch.{first_query, other_queries, is_first, cut, read_queries}
 use Rattle.rules.proofs.Bools.{and_no_l, alike}
 use Rattle.rules.proofs.Stored.Parts.{less_empty, more_empty, cut_from}
 use Rattle.rules.proofs.Stored.Refusals.{got_same}
 use Rattle.rules.proofs.Stored.Cutting.{cut_done, cut_bad, cut_next, front, Front, others_shorter}
-use Rattle.batch.specs.declared.cut.Cut.{Cut}
-use Rattle.batch.specs.declared.cut.Cut.TheVariants.{Refused, Many}
-use Rattle.batch.specs.Cut.{cut_as, queries_in, queries_of, Cuts}
+use Rattle.std.specs.Prelude.{Result, Ok, Err}
+use Rattle.names.specs.declared.refusal.Refusal.{Refusal}
+use Rattle.names.specs.declared.refusal.Refusal.TheVariants as code
+use Rattle.batch.specs.Cut.{cut_as, queries_of, Cuts}
 
 -- ---- the query at the front
 
@@ -76,7 +77,7 @@ module _ {s t : List ℕ} {n : ℕ} (C : Counted s t n) where
       left = let k = C.left in let l = ap length e in omega (arith, others_shorter t more);
     }
 
-    pub counted_bad : is_first t ≡ false → Refused (number malformed_query) ≡ cut_as (read_queries s)
+    pub counted_bad : is_first t ≡ false → Err code.MalformedQuery ≡ cut_as (read_queries s)
     unfolding read_queries
     counted_bad h = rw (C.whole, cut_bad t (more_empty t more) h)
 
@@ -84,27 +85,27 @@ module _ {s t : List ℕ} {n : ℕ} (C : Counted s t n) where
     counted_all : cut s ≡ got C.done
     counted_all = C.whole ∙ rw (cut_done t (less_empty t over)) (ap got (append-nil C.done))
 
-    pub counted_many : queries_most < n → Refused (number many_queries) ≡ cut_as (read_queries s)
+    pub counted_many : queries_most < n → Err code.ManyQueries ≡ cut_as (read_queries s)
     unfolding read_queries
     counted_many h = rw (counted_all, lt-leb (length C.done) queries_most (let k = C.count in omega arith))
 
-    pub counted_few : n ≤ queries_most → Many n ≡ cut_as (read_queries s)
+    pub counted_few : n ≤ queries_most → Ok n ≡ cut_as (read_queries s)
     unfolding read_queries
-    counted_few h = let k = C.count in rw (counted_all, le-leb (length C.done) queries_most (omega arith)) (ap Many k)
+    counted_few h = let k = C.count in rw (counted_all, le-leb (length C.done) queries_most (omega arith)) (ap (λ (m : ℕ). let x : Result ℕ Refusal = Ok m in x) k)
 
 -- ---- what was cut, by what the cut answered
 
-pub cuts : (s : List ℕ) {r : Cut} (n : ℕ) → r ≡ cut_as (read_queries s) → r ≡ Many n → Cuts s n
+pub cuts : (s : List ℕ) {r : Result ℕ Refusal} (n : ℕ) → r ≡ cut_as (read_queries s) → r ≡ Ok n → Cuts s n
 unfolding read_queries queries_of
 cuts s n e h = go (cut s) refl (sym h ∙ e)
   where
-    by : (qs : List (List ℕ)) (b : Bool) → leb (length qs) queries_most ≡ b → cut s ≡ got qs → Many n ≡ cut_as (need b many_queries (got qs)) → Cuts s n
+    by : (qs : List (List ℕ)) (b : Bool) → leb (length qs) queries_most ≡ b → cut s ≡ got qs → Ok n ≡ cut_as (need b many_queries (got qs)) → Cuts s n
     by qs true l p e =
         let k : n ≡ length qs = cc in
         record { is = rw p; count = rw p k; few = omega (arith, leb-true (length qs) queries_most l) }
     by qs false l p e = absurd (let z : ◌≡◌ {A = ℕ} 0 1 = cc in omega arith)
 
-    go : (o : Read (List (List ℕ))) → cut s ≡ o → Many n ≡ cut_as (and_then o (λ qs. need (leb (length qs) queries_most) many_queries (got qs))) → Cuts s n
+    go : (o : Read (List (List ℕ))) → cut s ≡ o → Ok n ≡ cut_as (and_then o (λ qs. need (leb (length qs) queries_most) many_queries (got qs))) → Cuts s n
     go (got qs) p e = by qs (leb (length qs) queries_most) refl p e
     go (refused x) p e = absurd (let z : ◌≡◌ {A = ℕ} 0 1 = cc in omega arith)
 

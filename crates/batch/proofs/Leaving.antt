@@ -1,18 +1,23 @@
 -- What the call leaves, refused or not.
 use mathlib.Core.Path.{◌≡◌, refl, sym, ap, ◌∙◌}
-use Prim.Native.Nat.{ℕ, ◌+◌, ◌*◌, ◌/◌, ◌≤◌, ◌<◌}
-use mathlib.Core.List.{List, []}
+use Prim.Native.Nat.{ℕ, ◌*◌, ◌/◌, ◌≤◌, ◌<◌}
+use mathlib.Core.List.{List}
 use native.Mathlib.Omega.{arith}
 use lib.ListN.{length}
 use lib.Dec.{leb}
 use borrow.Author.Tests.{le-leb, lt-leb}
-use Rattle.rules.specs.Numbers.{Refusal, number, Read, got, refused, need, and_then, short_room, long_answer, many_queries, list_most, queries_most, select_all_room}
+use Rattle.rules.specs.Numbers.{Refusal, number, Read, got, refused, need, and_then, short_room, long_answer, queries_most, select_all_room}
 use Rattle.rules.specs.Answers.{zeros}
-use Rattle.rules.specs.Batch.{cut, read_queries, answerable, leave_all, turns, select_all_left}
-use Rattle.batch.specs.declared.cut.Cut.{Cut}
-use Rattle.batch.specs.declared.cut.Cut.TheVariants.{Refused, Many}
+use Rattle.rules.specs.Batch.{read_queries, answerable, leave_all, select_all_left}
+use Rattle.std.specs.Prelude.{Result, Err}
+use Rattle.names.specs.Refusals.{numbered}
+use Rattle.names.specs.declared.refusal.Refusal.{Refusal as Code}
+use Rattle.selection.proofs.Selections.{numbered_coded}
 use Rattle.batch.specs.Cut.{cut_as, queries_of, Cuts}
 use Rattle.batch.specs.All.{all_left, Few, Turned}
+
+err_code : {c d : Code} → ◌≡◌ {A = Result ℕ Code} (Err c) (Err d) → c ≡ d
+err_code h = cc
 
 -- what is tested before the first turn
 abbrev gate : List ℕ → List ℕ → List ℕ → Read (List (List ℕ))
@@ -26,12 +31,15 @@ module _ (s answers room : List ℕ) where
     passed : gate s answers room ≡ and_then (read_queries s) (answerable (length answers))
     passed = rw (le-leb select_all_room (length room) long)
 
-    pub gate_cut : {r : Cut} {n : ℕ} → r ≡ cut_as (read_queries s) → r ≡ Refused n → (x : Refusal) × (gate s answers room ≡ refused x) × (n ≡ number x)
-    gate_cut {r} {n} e h = go (read_queries s) refl (sym h ∙ e)
+    pub gate_cut : {r : Result ℕ Code} {c : Code} → r ≡ cut_as (read_queries s) → r ≡ Err c → (x : Refusal) × (gate s answers room ≡ refused x) × (numbered c ≡ number x)
+    gate_cut {r} {c} e h = go (read_queries s) refl (sym h ∙ e)
       where
-        go : (o : Read (List (List ℕ))) → read_queries s ≡ o → Refused n ≡ cut_as o → (x : Refusal) × (gate s answers room ≡ refused x) × (n ≡ number x)
+        same : (x : Refusal) → Err c ≡ cut_as (refused x) → numbered c ≡ number x
+        same x k = (let e = err_code k in ap numbered e) ∙ numbered_coded x
+
+        go : (o : Read (List (List ℕ))) → read_queries s ≡ o → Err c ≡ cut_as o → (x : Refusal) × (gate s answers room ≡ refused x) × (numbered c ≡ number x)
         go (got qs) p k = absurd (let z : ◌≡◌ {A = ℕ} 0 1 = cc in omega arith)
-        go (refused x) p k = (x, passed ∙ ap (λ (o : Read (List (List ℕ))). and_then o (answerable (length answers))) p, cc)
+        go (refused x) p k = (x, passed ∙ ap (λ (o : Read (List (List ℕ))). and_then o (answerable (length answers))) p, same x k)
 
     module _ {many : ℕ} (C : Cuts s many) where
       cut_read : read_queries s ≡ got (queries_of s)

@@ -3,7 +3,7 @@ use mathlib.Core.Path.{◌≡◌, refl, sym, ap, ◌∙◌}
 use mathlib.Core.Logic.{◌⊎◌, inl, inr, ⊎_elim}
 use Prim.Native.Nat.{ℕ, zero, suc, ◌+◌, ◌-◌, ◌*◌, ◌%◌, ◌^◌, ◌≤◌, ◌<◌}
 use mathlib.Core.List.{List, [], ◌∷◌}
-use mathlib.Core.Bool.{Bool, true, false, not, ◌||◌}
+use mathlib.Core.Bool.{Bool, true, false, not}
 use native.Mathlib.Omega.{arith}
 use lib.ListN.{length, get_or, set, length-set}
 use lib.Seq.{get_or-set_same, get_or-set_other}
@@ -12,7 +12,10 @@ use lib.Pow.{pow_mono, pow_pos}
 use borrow.Author.Tests.{leb-true, leb-false, eqb-true, eqb-false, ne_eqb}
 use Rattle.rules.specs.Numbers.{selection_bytes, selection_depth}
 use Rattle.rules.specs.Bytes.{Bytes, some}
-use Rattle.rules.specs.Reading.{number_of, read_for_selection}
+use Rattle.std.specs.Prelude.{Result, Ok, Err}
+use Rattle.names.specs.Refusals.{checked}
+use Rattle.names.specs.declared.refusal.Refusal.{Refusal}
+use Rattle.rules.specs.Reading.{read_for_selection}
 use Rattle.rules.specs.Lists.{Entry, place, value}
 use Rattle.rules.specs.Matching.{bit}
 use Rattle.rules.proofs.Bools.{clash, split, either, or_no_l, or_no_r, neither}
@@ -21,10 +24,10 @@ use Rattle.entries.specs.Slots.{slots_many, hash_of}
 use Rattle.wanted.specs.Wanted.{calls_by}
 use Rattle.wanted.specs.Marks.{several, print_of, is_marked, Marks}
 use Rattle.matching.specs.Truth.{Truth, StoredFor}
-use Rattle.selection.proofs.Selections.{bare_truth}
+use Rattle.selection.proofs.Selections.{sound, bare_truth}
 use Rattle.batch.specs.declared.plan.Said.{Said}
 use Rattle.batch.specs.Bits.{bit_at}
-use Rattle.batch.specs.Plan.{Else, Saying, masks_many, numbers_at, bare_at, PushedWords, Pushed, Planning, wanted_by, numbers_by, bare_by, Known, Planned}
+use Rattle.batch.specs.Plan.{Else, Saying, masks_many, numbers_at, bare_at, PushedWords, Pushed, Planning, wanted_by, Known, Planned}
 use Rattle.batch.proofs.Pushing.{bit_next, bit_first, bit_below}
 
 -- ---- tests that pass no less
@@ -53,10 +56,14 @@ module _ {w w' : ℕ → Bool} {v v' : Bool} (f : (n : ℕ) → w n ≡ true →
 
 -- ---- one query
 
+-- what is refused is not sound
+pub failed : {A : Type 0} {c : Refusal} {u : Unit {0}} → ◌≡◌ {A = Result (Unit {0}) Refusal} (Err c) (Ok u) → A
+failed h = cc
+
 -- a sound query is one that can be asked
-pub stored_for : (s : List ℕ) {fault : ℕ} → Bytes s → fault ≡ number_of (read_for_selection s) → fault ≡ 0 → StoredFor s
+pub stored_for : (s : List ℕ) {fault : Result (Unit {0}) Refusal} {u : Unit {0}} → Bytes s → fault ≡ checked (read_for_selection s) → fault ≡ Ok u → StoredFor s
 stored_for s {fault} B e z =
-    let A = accepted selection_bytes selection_depth s fault B e z in
+    let A = accepted selection_bytes selection_depth s 0 B (sym (sound (read_for_selection s) (sym z ∙ e))) refl in
     record { stored = record { query = A.query; is = A.is }; deep = A.deep; short = A.long }
 
 pub else_marked : {s w : List ℕ} {r : Bool} (bare : Bool) → Marks s w r → Truth s [] bare → Else s (is_marked w) r bare
@@ -86,7 +93,7 @@ module _ {before wanted after : List ℕ} {r : Said} (P : Pushed before wanted r
   old_word : (j n : ℕ) → wanted_by after (j + 1) n ≡ wanted_by before j n
   old_word j n = ap (λ (m : ℕ). bit_at m (j + 1)) (P.words (n % slots_many) (slot_below n)) ∙ bit_next (get_or before (n % slots_many) 0) (not (eqb (get_or wanted (n % slots_many) 0) 0)) j
 
-  known_new : {s : List ℕ} {fault : ℕ} → fault ≡ number_of (read_for_selection s) → Saying s fault wanted r → Known s fault after 0
+  known_new : {s : List ℕ} {fault : Result (Unit {0}) Refusal} → fault ≡ checked (read_for_selection s) → Saying s fault wanted r → Known s fault after 0
   known_new {s} e S = record {
     is = e;
     else = λ z. else_more
@@ -97,7 +104,7 @@ module _ {before wanted after : List ℕ} {r : Said} (P : Pushed before wanted r
         (S.else z);
   }
 
-  known_old : {s : List ℕ} {fault j : ℕ} → Known s fault before j → Known s fault after (j + 1)
+  known_old : {s : List ℕ} {fault : Result (Unit {0}) Refusal} {j : ℕ} → Known s fault before j → Known s fault after (j + 1)
   known_old {s} {j = j} K = record {
     is = K.is;
     else = λ z. else_more
@@ -137,15 +144,15 @@ module _ {before wanted after : List ℕ} {r : Said} (P : Pushed before wanted r
 
 -- ---- all queries
 
-pub planned_none : {qs : List (List ℕ)} {faults masks : List ℕ} → length masks ≡ masks_many → ((i : ℕ) → get_or masks i 0 ≡ 0) → Planned qs 0 faults masks
+pub planned_none : {qs : List (List ℕ)} {faults : List (Result (Unit {0}) Refusal)} {masks : List ℕ} → length masks ≡ masks_many → ((i : ℕ) → get_or masks i 0 ≡ 0) → Planned qs 0 faults masks
 planned_none l z = record { many = l; below = λ i. rw (z i) (omega arith); known = λ i h. absurd (omega arith) }
 
-module _ {qs : List (List ℕ)} {n : ℕ} {faults masks : List ℕ} (P : Planned qs n faults masks) where
+module _ {qs : List (List ℕ)} {n : ℕ} {faults : List (Result (Unit {0}) Refusal)} {masks : List ℕ} (P : Planned qs n faults masks) where
   -- there is a bit left
   pub planned_room : n < 64 → (i : ℕ) → get_or masks i 0 < 2 ^ 63
   planned_room h i = let k = pow_mono {i = n} {j = 63} (omega arith) in omega (arith, P.below i)
 
-  pub planned_next : {q after : List ℕ} {fault : ℕ} → n < length faults → q ≡ get_or qs n [] → fault ≡ number_of (read_for_selection q) → Planning q fault masks after
+  pub planned_next : {q after : List ℕ} {fault : Result (Unit {0}) Refusal} → n < length faults → q ≡ get_or qs n [] → fault ≡ checked (read_for_selection q) → Planning q fault masks after
       → Planned qs (n + 1) (set faults n fault) after
   planned_next {q} {after} {fault} fits e f R = record {
     many = R.pushed.many;
@@ -153,14 +160,14 @@ module _ {qs : List (List ℕ)} {n : ℕ} {faults masks : List ℕ} (P : Planned
     known = λ i h. go i h (split (eqb i n));
   }
     where
-      go : (i : ℕ) → i < n + 1 → (eqb i n ≡ true) ⊎ (eqb i n ≡ false) → Known (get_or qs i []) (get_or (set faults n fault) i 0) after (n + 1 - 1 - i)
+      go : (i : ℕ) → i < n + 1 → (eqb i n ≡ true) ⊎ (eqb i n ≡ false) → Known (get_or qs i []) (get_or (set faults n fault) i (Ok tt)) after (n + 1 - 1 - i)
       go i h (inl z) =
           let k : i ≡ n = eqb-true i n z in
           let c : n + 1 - 1 - n ≡ 0 = omega arith in
-          rw (k, c, get_or-set_same faults n fault 0 fits, ← e) (known_new R.pushed f R.saying)
+          rw (k, c, get_or-set_same faults n fault (Ok tt) fits, ← e) (known_new R.pushed f R.saying)
       go i h (inr z) =
           let c : n + 1 - 1 - i ≡ n - 1 - i + 1 = omega (arith, eqb-false i n z) in
-          rw (c, get_or-set_other faults n i fault 0 (eqb-false i n z)) (known_old R.pushed (P.known i (omega (arith, eqb-false i n z))))
+          rw (c, get_or-set_other faults n i fault (Ok tt) (eqb-false i n z)) (known_old R.pushed (P.known i (omega (arith, eqb-false i n z))))
 
   -- all of them
   pub planned_all : {many : ℕ} → n ≤ many → many ≤ n → Planned qs many faults masks

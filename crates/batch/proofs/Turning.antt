@@ -1,6 +1,6 @@
 -- A query's turn, and the turns one after the other.
 use mathlib.Core.Path.{◌≡◌, refl, sym, ap, ◌∙◌}
-use Prim.Native.Nat.{ℕ, zero, suc, ◌+◌, ◌-◌, ◌*◌, ◌/◌, ◌≤◌, ◌<◌}
+use Prim.Native.Nat.{ℕ, suc, ◌+◌, ◌-◌, ◌*◌, ◌/◌, ◌≤◌, ◌<◌}
 use mathlib.Core.List.{List, [], ◌∷◌, ◌++◌, append_assoc, append-nil}
 use mathlib.Core.Bool.{Bool, true, false}
 use native.Mathlib.Omega.{arith}
@@ -9,21 +9,24 @@ use lib.ListN.{length, get_or, take, drop, length-append, length-drop, take-appe
 use lib.Seq.{drop-drop, drop-cons, drop-length, length-take-le, take-append-add, drop-append-add}
 use lib.Dec.{leb}
 use borrow.Author.Tests.{leb-true}
-use Rattle.rules.specs.Numbers.{Read, got, refused, number, need, long_answer, list_most, queries_most}
-use Rattle.rules.specs.Bytes.{big}
-use Rattle.rules.specs.Reading.{number_of, read_for_selection}
+use Rattle.rules.specs.Numbers.{Read, got, refused, need, long_answer, list_most}
+use Rattle.rules.specs.Bytes.{big, each}
 use Rattle.rules.specs.Answers.{Answer, Left, select_left}
 use Rattle.rules.specs.Batch.{Turns, told_of, turns}
 use Rattle.rules.proofs.Stored.Bigs.{length_big}
 use Rattle.numbers.specs.Laid.{laid, Put}
 use Rattle.numbers.proofs.Laying.{put_then}
-use Rattle.selection.specs.declared.select.Selected.{Selected}
-use Rattle.selection.specs.declared.select.Selected.TheVariants.{Refused, Chosen}
+use Rattle.std.specs.Prelude.{Result, Ok, Err}
+use Rattle.std.specs.Result.{result_unwrap_or}
+use Rattle.names.specs.Refusals.{checked}
+use Rattle.rules.specs.Lists.{Entry, record_of, read_list}
+use Rattle.rules.proofs.Stored.Accepted.{Listed, listed}
+use Rattle.names.specs.declared.refusal.Refusal.{Refusal}
 use Rattle.selection.specs.Select.{within, answer_of, told, SelectsBytes}
-use Rattle.selection.proofs.Selections.{laid_behind}
+use Rattle.selection.proofs.Selections.{laid_behind, sound}
 use Rattle.batch.specs.Cut.{queries_of, Cuts}
 use Rattle.batch.specs.Ask.{Sound, kept, Table}
-use Rattle.batch.specs.Turn.{Column}
+use Rattle.batch.specs.Turn.{Column, records_in}
 use Rattle.batch.specs.All.{Turned}
 
 -- ---- what one turn takes
@@ -39,19 +42,47 @@ within_written n (got ns) = go (leb (length ns) n) refl
     go true h = omega (arith, leb-true (length ns) n h)
     go false h = omega arith
 
-pub told_written : (r : Selected) → (told r).written ≡ 4 * (told r).count
-told_written (Refused n) = refl
-told_written (Chosen n) = refl
+pub told_written : (r : Result ℕ Refusal) → (told r).written ≡ 4 * (told r).count
+told_written (Err c) = refl
+told_written (Ok n) = refl
 
-pub chosen_few : {s : Selected} {n : ℕ} → s ≡ Chosen n → (told s).count ≤ list_most → n ≤ list_most
+pub chosen_few : {s : Result ℕ Refusal} {n : ℕ} → s ≡ Ok n → (told s).count ≤ list_most → n ≤ list_most
 chosen_few e h = rw e at h
+
+-- how many records were chosen, none where the query is refused
+pub unwrapped : (r : Result ℕ Refusal) {n : ℕ} → n ≡ result_unwrap_or r 0 → n ≡ (told r).count
+unwrapped (Err c) e = e
+unwrapped (Ok n) e = e
+
+-- what is known of a list by how many records it has
+pub list_err : (o : Read (List (List Entry))) {c : Refusal} → Err c ≡ records_in o → Err c ≡ checked o
+list_err (got rs) e = cc
+list_err (refused x) e = cc
+
+pub list_ok : (o : Read (List (List Entry))) {n : ℕ} → Ok n ≡ records_in o → Ok tt ≡ checked o
+list_ok (got rs) e = refl
+list_ok (refused x) e = cc
+
+pub refused_list : (o : Read (List (List Entry))) {c : Refusal} → Err c ≡ checked o → Err c ≡ records_in o
+refused_list (got rs) e = cc
+refused_list (refused x) e = cc
+
+module _ (l : List ℕ) {n : ℕ} (e : Ok n ≡ records_in (read_list l)) where
+  pub list_sound : Listed l
+  list_sound = listed l 0 (sym (sound (read_list l) (list_ok (read_list l) e))) refl
+
+  pub list_count : n ≡ length (each record_of l)
+  list_count = let p = e ∙ ap records_in list_sound.read in cc
+
+pub counted_list : (l : List ℕ) {n : ℕ} {u : Unit {0}} → Ok u ≡ checked (read_list l) → n ≡ length (each record_of l) → Ok n ≡ records_in (read_list l)
+counted_list l e k = let L = listed l 0 (sym (sound (read_list l) e)) refl in rw (k, L.read)
 
 -- a refusal and a count, laid one behind the other
 pub tell_put : (a : Answer) {out out₁ out₂ : List ℕ} {at p q x y : ℕ} → a.refusal ≡ x → a.count ≡ y → Put out at (big 4 x) p out₁ → Put out₁ p (big 4 y) q out₂
     → at + 8 ≤ length out → Put out at (told_of a) q out₂
 tell_put a {x = x} {y = y} e f P Q fits = rw (e, f) (put_then P Q (omega (arith, length_big 4 x, length_big 4 y)))
 
-module _ {s l rows rows' : List ℕ} {r : Selected} (S : SelectsBytes s l rows [] rows' [] r) where
+module _ {s l rows rows' : List ℕ} {r : Result ℕ Refusal} (S : SelectsBytes s l rows [] rows' [] r) where
   pub turn_fits : (told r).written ≤ length rows
   turn_fits = rw S.is (let k = within_written (length rows / 4) (Rattle.rules.specs.Answers.selected s l) in omega arith)
 
@@ -105,7 +136,7 @@ turning_start qs l answers rows = record {
 }
 
 module _ {qs : List (List ℕ)} {l answers rows answers' rows' : List ℕ} {i w a : ℕ} (T : Turning qs l answers rows i w a answers' rows') where
-  module _ (more : i < length qs) {q new : List ℕ} {r : Selected} (e : q ≡ get_or qs i []) (S : SelectsBytes q l (drop w rows') [] new [] r)
+  module _ (more : i < length qs) {q new : List ℕ} {r : Result ℕ Refusal} (e : q ≡ get_or qs i []) (S : SelectsBytes q l (drop w rows') [] new [] r)
       (ln : length new ≡ length (drop w rows')) where
     n : ℕ
     n = (told r).written

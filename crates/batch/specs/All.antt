@@ -1,7 +1,9 @@
 -- What the call answers, by its numbers and the bytes that it leaves; and what is known on the way there.
-use Rattle.std.specs.Prelude.{◌≡◌, ℕ, ◌+◌, ◌*◌, ◌≤◌, ◌<◌, List, [], ◌++◌, length, get_or, drop}
+use Rattle.std.specs.Prelude.{◌≡◌, ℕ, ◌*◌, ◌≤◌, ◌<◌, List, [], ◌++◌, length, get_or, drop, Result, Ok}
 use Rattle.rules.specs.Numbers.{list_most, queries_most}
-use Rattle.rules.specs.Reading.{number_of, read_for_selection}
+use Rattle.names.specs.Refusals.{checked}
+use Rattle.names.specs.declared.refusal.Refusal.{Refusal}
+use Rattle.rules.specs.Reading.{read_for_selection}
 use Rattle.rules.specs.Batch.{AllLeft, turns, select_all_left}
 use Rattle.batch.specs.Cut.{queries_of}
 use Rattle.batch.specs.Ask.{kept, Table}
@@ -20,10 +22,10 @@ pub record Few (written count : ℕ) : Type 0 where
   pub queries : count ≤ queries_most
 
 -- the faults of the queries; the table where the list is sound
-pub record Prepared (s : List ℕ) (many : ℕ) (faults l : List ℕ) (list-fault : ℕ) (table : List ℕ) : Type 0 where
+pub record Prepared (s : List ℕ) (many : ℕ) (faults : List (Result (Unit {0}) Refusal)) (l : List ℕ) (records : Result ℕ Refusal) (table : List ℕ) : Type 0 where
   pub long : length faults ≡ queries_most
-  pub known : (i : ℕ) → i < many → get_or faults i 0 ≡ number_of (read_for_selection (get_or (queries_of s) i []))
-  pub holds : list-fault ≡ 0 → Table (queries_of s) many l kept table
+  pub known : (i : ℕ) → i < many → get_or faults i (Ok tt) ≡ checked (read_for_selection (get_or (queries_of s) i []))
+  pub holds : (n : ℕ) → records ≡ Ok n → Table (queries_of s) many l kept table
 
 -- after all turns
 pub record Turned (s : List ℕ) (many : ℕ) (l answers rows : List ℕ) (w : ℕ) (answers' rows' : List ℕ) : Type 0 where

@@ -1,7 +1,9 @@
 -- One record asked of all queries, and the table of answers for the first records.
-use Rattle.std.specs.Prelude.{◌≡◌, ℕ, ◌+◌, ◌-◌, ◌*◌, ◌≤◌, ◌<◌, List, [], true, length, get_or, take, drop}
+use Rattle.std.specs.Prelude.{◌≡◌, ℕ, ◌+◌, ◌-◌, ◌*◌, ◌≤◌, ◌<◌, List, [], true, length, get_or, take, drop, Result}
 use Rattle.rules.specs.Numbers.{list_most, selection_depth, queries_most}
 use Rattle.rules.specs.Bytes.{of_big, every, each}
+use Rattle.names.specs.declared.refusal.Refusal.{Refusal}
+use Rattle.matching.specs.declared.level.Level.{Level}
 use Rattle.rules.specs.Reading.{number_of, read_for_selection}
 use Rattle.rules.specs.Lists.{Entry, is_entry, is_record, entry_of, record_of}
 use Rattle.entries.specs.Slots.{Before}
@@ -15,13 +17,13 @@ abbrev pub Sound : List ℕ → Type 0
 Sound s = number_of (read_for_selection s) ≡ 0
 
 -- the queries of a slice, each with what is found of it
-pub record Queries (s : List ℕ) (many : ℕ) (faults masks : List ℕ) : Type 0 where
+pub record Queries (s : List ℕ) (many : ℕ) (faults : List (Result (Unit {0}) Refusal)) (masks : List ℕ) : Type 0 where
   pub cuts : Cuts s many
   pub planned : Planned (queries_of s) many faults masks
   pub long : length faults ≡ queries_most
 
 -- a record of a list, whose entries stand from `from` on, and the rows for it
-pub record Ready (rec : List ℕ) (from : ℕ) (slots row : List ℕ) : Type 0 where
+pub record Ready (rec : List ℕ) (from : ℕ) (slots : List ℕ) (row : List Level) : Type 0 where
   pub entries : every is_entry rec ≡ true
   pub fits : from + length rec ≤ list_most
   pub before : Before slots from
@@ -47,7 +49,8 @@ row_at table r = of_big (take 8 (drop (8 * r) table))
 pub record Table (qs : List (List ℕ)) (many : ℕ) (l : List ℕ) (n : ℕ) (table : List ℕ) : Type 0 where
   pub at : (r : ℕ) → r < n → r < length (each record_of l) → Told qs many (get_or (each record_of l) r []) (row_at table r)
 
--- a list that was checked
-pub record Records (l : List ℕ) : Type 0 where
+-- a list that was checked, and how many records it has
+pub record Records (l : List ℕ) (n : ℕ) : Type 0 where
+  pub count : n ≡ length (each record_of l)
   pub records : every is_record l ≡ true
   pub long : length l ≤ list_most

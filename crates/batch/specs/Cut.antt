@@ -1,13 +1,13 @@
 -- A slice of queries that was cut, and the answer of the cut.
-use Rattle.std.specs.Prelude.{◌≡◌, ℕ, ◌≤◌, List, [], length}
-use Rattle.rules.specs.Numbers.{Read, got, refused, number, queries_most}
+use Rattle.std.specs.Prelude.{◌≡◌, ℕ, ◌≤◌, List, [], length, Result}
+use Rattle.rules.specs.Numbers.{Read, got, refused, queries_most}
 use Rattle.rules.specs.Batch.{cut}
-use Rattle.batch.specs.declared.cut.Cut.{Cut}
-use Rattle.batch.specs.declared.cut.Cut.TheVariants.{Refused, Many}
+use Rattle.names.specs.Refusals.{answered}
+use Rattle.names.specs.declared.refusal.Refusal.{Refusal}
 
-abbrev pub cut_as : Read (List (List ℕ)) → Cut
-cut_as (got qs) = Many (length qs)
-cut_as (refused r) = Refused (number r)
+-- how many queries there are
+abbrev pub cut_as : Read (List (List ℕ)) → Result ℕ Refusal
+cut_as o = answered (length {A = List ℕ}) o
 
 -- the queries of a slice; none where it can not be cut
 abbrev pub queries_in : Read (List (List ℕ)) → List (List ℕ)

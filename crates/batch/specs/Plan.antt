@@ -1,8 +1,10 @@
 -- What is found once of each query: its fault, and by a bit in each mask which entries it can want, whether it can want a number, and what it says of a
 -- record in which it wants nothing.
-use Rattle.std.specs.Prelude.{◌≡◌, ℕ, ◌+◌, ◌-◌, ◌*◌, ◌%◌, ◌^◌, ◌≤◌, ◌<◌, List, [], Bool, true, false, not, length, get_or, eqb}
+use Rattle.std.specs.Prelude.{◌≡◌, ℕ, ◌+◌, ◌-◌, ◌*◌, ◌%◌, ◌^◌, ◌≤◌, ◌<◌, List, [], Bool, false, not, length, get_or, eqb, Result, Ok}
 use Rattle.rules.specs.Bytes.{some}
-use Rattle.rules.specs.Reading.{number_of, read_for_selection}
+use Rattle.names.specs.Refusals.{checked}
+use Rattle.names.specs.declared.refusal.Refusal.{Refusal}
+use Rattle.rules.specs.Reading.{read_for_selection}
 use Rattle.rules.specs.Lists.{Entry}
 use Rattle.rules.specs.Matching.{bit}
 use Rattle.entries.specs.Slots.{slots_many, hash_of}
@@ -19,9 +21,9 @@ unfoldable pub Else : List ℕ → (ℕ → Bool) → Bool → Bool → Type 0
 Else s w v r = (es : List Entry) → some (calls_by hash_of w (λ f. v)) es ≡ false → Truth s es r
 
 -- of a sound query: what it can want is marked
-pub record Saying (s : List ℕ) (fault : ℕ) (wanted : List ℕ) (r : Said) : Type 0 where
+pub record Saying (s : List ℕ) (fault : Result (Unit {0}) Refusal) (wanted : List ℕ) (r : Said) : Type 0 where
   pub many : length wanted ≡ slots_many
-  pub else : fault ≡ 0 → Else s (is_marked wanted) r.ranges r.bare
+  pub else : fault ≡ Ok tt → Else s (is_marked wanted) r.ranges r.bare
 
 -- ---- the masks: one for each slot, one for numbers, and one for the records without a wanted entry
 
@@ -48,7 +50,7 @@ pub record Pushed (before wanted : List ℕ) (r : Said) (after : List ℕ) : Typ
   pub bare : get_or after bare_at 0 ≡ get_or before bare_at 0 * 2 + bit r.bare
 
 -- a query whose bits were pushed
-pub record Planning (s : List ℕ) (fault : ℕ) (before after : List ℕ) : Type 0 where
+pub record Planning (s : List ℕ) (fault : Result (Unit {0}) Refusal) (before after : List ℕ) : Type 0 where
   pub wanted : List ℕ
   pub said : Said
   pub saying : Saying s fault wanted said
@@ -66,12 +68,12 @@ bare_by masks j = bit_at (get_or masks bare_at 0) j
 
 -- ---- all queries
 
-pub record Known (s : List ℕ) (fault : ℕ) (masks : List ℕ) (j : ℕ) : Type 0 where
-  pub is : fault ≡ number_of (read_for_selection s)
-  pub else : fault ≡ 0 → Else s (wanted_by masks j) (numbers_by masks j) (bare_by masks j)
+pub record Known (s : List ℕ) (fault : Result (Unit {0}) Refusal) (masks : List ℕ) (j : ℕ) : Type 0 where
+  pub is : fault ≡ checked (read_for_selection s)
+  pub else : fault ≡ Ok tt → Else s (wanted_by masks j) (numbers_by masks j) (bare_by masks j)
 
 -- the first n of them; the last has the bit 0
-pub record Planned (qs : List (List ℕ)) (n : ℕ) (faults masks : List ℕ) : Type 0 where
+pub record Planned (qs : List (List ℕ)) (n : ℕ) (faults : List (Result (Unit {0}) Refusal)) (masks : List ℕ) : Type 0 where
   pub many : length masks ≡ masks_many
   pub below : (i : ℕ) → get_or masks i 0 < 2 ^ n
-  pub known : (i : ℕ) → i < n → Known (get_or qs i []) (get_or faults i 0) masks (n - 1 - i)
+  pub known : (i : ℕ) → i < n → Known (get_or qs i []) (get_or faults i (Ok tt)) masks (n - 1 - i)

@@ -3,7 +3,8 @@ ghost use Rattle.std.specs.Prelude.{◌≡◌, ℕ, ◌≤◌, ◌<◌, Bool, tr
 ghost use Rattle.rules.specs.Bytes.{every, each, some};
 ghost use Rattle.rules.specs.Lists.{is_entry, entry_of};
 ghost use Rattle.rules.specs.Numbers.{select_all_room, selection_depth};
-ghost use Rattle.rules.specs.Reading.{number_of, read_for_selection};
+ghost use Rattle.names.specs.Refusals.{checked};
+ghost use Rattle.rules.specs.Reading.{read_for_selection};
 ghost use Rattle.entries.specs.Slots.{hash_of, Told};
 ghost use Rattle.wanted.specs.Wanted.{calls_by};
 ghost use Rattle.matching.specs.Truth.{Truth};
@@ -17,8 +18,10 @@ use super::cut::{first, others};
 use super::plan::{BARE, NUMBERS};
 use entries::entry::{field, is_place, text};
 use entries::slots::{SLOTS, hash, note};
+use matching::level::{Level, NO_LEVEL};
 use matching::truth::holds;
-use names::{HEADER, SELECTION_DEPTH};
+use names::refusal::Refusal;
+use names::{HEADER, QUERIES_MOST, SELECTION_DEPTH};
 use numbers::put_big8;
 use parts::part::{body, rest};
 
@@ -43,48 +46,47 @@ fn called(masks: &[u64], rec: &[u8]) -> u64
     let mut any: u64 = 0;
     let mut e = rec;
     while e.len() > 0 {
-        any = any | wanting(masks, e);
-        let u = rest(e);
-        e = u;
+        any |= wanting(masks, e);
+        e = rest(e);
     }
     any
 }
 
 // ---- one record
 
+// Stays: `wants` saves the asking, and `bare` is the answer then; a closure for the asking would capture all the rest.
+
 // Of a sound query: true or not, as it says of a record in which it wants nothing, or by asking it.
 fn truth(
     q: &[u8],
-    fault: u8,
+    fault: Result<(), Refusal>,
     wants: bool,
     bare: bool,
     rec: &[u8],
     from: usize,
     slots: &[u16],
-    row: &mut [u64],
+    row: &mut [Level],
 ) -> bool
-    requires { (fault ≡ number_of (read_for_selection q.now)) × (fault ≡ 0 → wants ≡ false → Truth q.now (each entry_of rec.now) bare)
+    requires { (fault ≡ checked (read_for_selection q.now)) × (fault ≡ Ok tt → wants ≡ false → Truth q.now (each entry_of rec.now) bare)
         × (every is_entry rec.now ≡ true) × Told slots.now from rec.now × (selection_depth ≤ length row.old) }
-    ensures { fault ≡ 0 → Truth q.now (each entry_of rec.now) result }
+    ensures { fault ≡ Ok tt → Truth q.now (each entry_of rec.now) result }
 {
-    if fault != 0 {
-        return false;
+    match fault {
+        Err(_) => false,
+        Ok(()) if !wants => bare,
+        Ok(()) => holds(q, rec, from, slots, row),
     }
-    if !wants {
-        return bare;
-    }
-    holds(q, rec, from, slots, row)
 }
 
 fn ask(
     queries: &[u8],
     many: usize,
-    faults: &[u8],
+    faults: &[Result<(), Refusal>; QUERIES_MOST],
     masks: &[u64],
     rec: &[u8],
     from: usize,
     slots: &mut [u16],
-    row: &mut [u64],
+    row: &mut [Level],
 ) -> u64
     requires { Queries queries.now many faults.now masks.now × Ready rec.now from slots.old row.old }
     ensures { Asked queries.now many rec.now from slots.new result }
@@ -93,9 +95,8 @@ fn ask(
     note(rec, from, slots);
     let bare = masks[BARE];
     let mut bits: u64 = 0;
-    let mut i: usize = 0;
     let mut t = queries;
-    while i < many {
+    for i in 0..many {
         let j = many - 1 - i;
         let y = truth(
             first(t),
@@ -108,9 +109,7 @@ fn ask(
             row,
         );
         bits = pushed(bits, y);
-        i += 1;
-        let u = others(t);
-        t = u;
+        t = others(t);
     }
     bits
 }
@@ -125,22 +124,20 @@ pub const BITS_BYTES: usize = 8;
 pub fn keep(
     queries: &[u8],
     many: usize,
-    faults: &[u8],
+    faults: &[Result<(), Refusal>; QUERIES_MOST],
     masks: &[u64],
     list: &[u8],
+    records: usize,
     table: &mut [u8],
 )
-    requires { Queries queries.now many faults.now masks.now × Records list.now × (select_all_room ≤ length table.old) }
+    requires { Queries queries.now many faults.now masks.now × Records list.now records × (select_all_room ≤ length table.old) }
     ensures { Table (queries_of queries.now) many list.now kept table.new }
 {
+    // Stays: fixed memory; a slot is found by its hash, and no number says how many count.
     let mut slots = [0u16; SLOTS];
-    let mut row = [0u64; SELECTION_DEPTH];
-    let mut i: usize = 0;
+    let mut row = [NO_LEVEL; SELECTION_DEPTH];
     let mut t = list;
-    while t.len() > 0 {
-        if i == KEPT {
-            return;
-        }
+    for i in 0..records.min(KEPT) {
         let from = list.len() - t.len() + HEADER;
         let bits = ask(
             queries,
@@ -153,8 +150,6 @@ pub fn keep(
             &mut row,
         );
         put_big8(table, BITS_BYTES * i, bits);
-        i += 1;
-        let u = rest(t);
-        t = u;
+        t = rest(t);
     }
 }

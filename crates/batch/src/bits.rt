@@ -15,5 +15,5 @@ pub fn pushed(m: u64, b: bool) -> u64
     requires { m < 2 ^ 63 }
     ensures { result ≡ m * 2 + bit b }
 {
-    if b { m * 2 + 1 } else { m * 2 }
+    m * 2 + u64::from(b)
 }

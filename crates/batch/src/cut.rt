@@ -3,18 +3,12 @@ ghost use Rattle.std.specs.Prelude.{◌≡◌, true};
 ghost use Rattle.rules.specs.Batch.{is_first, first_query, other_queries, read_queries};
 ghost use Rattle.batch.specs.Cut.{cut_as};
 
-use names::{MALFORMED_QUERY, MANY_QUERIES, QUERIES_MOST};
+use names::QUERIES_MOST;
+use names::refusal::Refusal;
 use numbers::big2;
 
 // The bytes of a length.
 const LENGTH: usize = 2;
-
-// A refusal by its number, or how many queries there are.
-#[derive(Drop)]
-pub enum Cut {
-    Refused(u8),
-    Many(usize),
-}
 
 fn is_first(s: &[u8]) -> bool
     ensures { result ≡ is_first s.now }
@@ -41,21 +35,22 @@ pub fn others(s: &[u8]) -> &[u8]
     &s[end..]
 }
 
-pub fn cut_all(s: &[u8]) -> Cut
+// Stays: how many there are is known only at the end, so that there is no range to go over.
+// How many queries there are.
+pub fn cut_all(s: &[u8]) -> Result<usize, Refusal>
     ensures { result ≡ cut_as (read_queries s.now) }
 {
     let mut n: usize = 0;
     let mut t = s;
     while t.len() > 0 {
         if !is_first(t) {
-            return Cut::Refused(MALFORMED_QUERY);
+            return Err(Refusal::MalformedQuery);
         }
         n += 1;
-        let u = others(t);
-        t = u;
+        t = others(t);
     }
     if n > QUERIES_MOST {
-        return Cut::Refused(MANY_QUERIES);
+        return Err(Refusal::ManyQueries);
     }
-    Cut::Many(n)
+    Ok(n)
 }

@@ -11,5 +11,4 @@ pub mod Medium
 pub mod Scales
 pub mod Fills
 pub mod Grammar
-pub mod Wholes
 pub mod Words

@@ -3,7 +3,7 @@ use mathlib.Core.Path.{◌≡◌, refl, sym, ap, ◌∙◌, subst}
 use mathlib.Core.Logic.{inl, inr}
 use mathlib.Core.List.{List}
 use Prim.Native.Nat.{ℕ, zero, suc, ◌+◌, ◌-◌, ◌*◌, ◌/◌, ◌%◌, ◌^◌, ◌≤◌, ◌<◌, zero-le}
-use native.Mathlib.Nat.{le_refl, le_trans, le_of_eq, le-suc, lt_of_lt_of_le, lt_of_le_of_lt, ne_of_lt, ne_of_gt, mod-lt, zero-lt-suc, mul_comm, mul_assoc, add-mul, mul-add, suc-mul, one-mul, mul-le-mul_right, mul-le-mul, pow-suc, zero-mul, eq-zero-or-pos, div-lt_iff_lt-mul, div-add-mod', mul-add-div_right, mul-add-mod_self_right, div-eq_of_lt, mod-eq_of_lt, add-zero, pow-le-pow_right}
+use native.Mathlib.Nat.{le_refl, le_trans, le_of_eq, le-suc, lt_of_lt_of_le, lt_of_le_of_lt, ne_of_lt, ne_of_gt, mod-lt, zero-lt-suc, mul_comm, mul_assoc, add-mul, mul-add, suc-mul, one-mul, mul-le-mul_right, pow-suc, zero-mul, eq-zero-or-pos, div-lt_iff_lt-mul, div-add-mod', mul-add-div_right, mul-add-mod_self_right, div-eq_of_lt, mod-eq_of_lt, add-zero, pow-le-pow_right}
 use native.Mathlib.Numerals.{add-one}
 use native.Mathlib.Omega.{arith}
 use lib.ListN.{length, get_or, set, length-set}
@@ -82,12 +82,6 @@ pub record Going (xs : List ℕ) (from m add : ℕ) (ys : List ℕ) (carry i : �
   pub none : up_to ys from ≡ 0
   pub is : up_to ys i + carry * B ^ i ≡ up_to xs i * m + add * B ^ from
 
-pub going_first : (xs : List ℕ) (from m add : ℕ) → Row xs → from ≤ 18 → up_to xs from ≡ 0 → add < m → Going xs from m add xs add from
-going_first xs from m add r l z h = record { within = l; begun = le_refl from; small = h; row = r; rest = λ j l. refl; none = z; is = tidy (up_to xs from) m (add * B ^ from) z }
-  where
-    tidy : (u m x : ℕ) → u ≡ 0 → u + x ≡ u * m + x
-    tidy u m x z = let e : u * m ≡ 0 * m = ap (λ (y : ℕ). y * m) z in omega (arith, zero-mul m)
-
 step_sum : (u c w a m add lo hi x : ℕ) → u + c * w ≡ a * m + add → lo + hi * B ≡ x * m + c → u + lo * w + hi * (w * B) ≡ (a + x * w) * m + add
 step_sum u c w a m add lo hi x p q =
     let e : lo * w + hi * (w * B) ≡ x * m * w + c * w = shape ∙ ap (λ (z : ℕ). z * w) q ∙ add-mul (x * m) c w in
@@ -96,13 +90,6 @@ step_sum u c w a m add lo hi x p q =
   where
     shape : lo * w + hi * (w * B) ≡ (lo + hi * B) * w
     shape = sym (add-mul lo (hi * B) w ∙ ap (λ (z : ℕ). lo * w + z) (mul_assoc hi B w ∙ ap (λ (z : ℕ). hi * z) (mul_comm B w)))
-
--- a product of a word and a factor, and a carry, fits 64 bits
-pub product_fits : (x m : ℕ) → x < B → m ≤ 2 ^ 47 → x * m < 2 ^ 63
-product_fits x m a b = lt_of_le_of_lt (mul-le-mul (go x a) b) (lit< tt)
-  where
-    go : (x : ℕ) → x < B → x ≤ 0xffff
-    go x h = omega arith
 
 pub going_next : (xs : List ℕ) (from m add : ℕ) (ys : List ℕ) (carry i t : ℕ) → Going xs from m add ys carry i → i < 18 → t ≡ get_or ys i 0 * m + carry → (v : ℕ) → v ≡ t % B → Going xs from m add (set ys i v) (t / B) (i + 1)
 going_next xs from m add ys carry i t g h e v f =
@@ -148,7 +135,6 @@ unfolding limit
 going_last xs from m add ys carry i g h l =
     let i-is : i ≡ 18 = omega (arith, g.within) in
     record {
-      row = g.row;
       none = g.none;
       is = no_over (value ys) carry (B ^ 18) (value xs * m + add * B ^ from) (subst (λ (n : ℕ). up_to ys n + carry * B ^ n ≡ up_to xs n * m + add * B ^ from) i-is g.is) l;
     }
@@ -163,12 +149,6 @@ pub record Dividing (xs : List ℕ) (len f : ℕ) (ys : List ℕ) (rest i : ℕ)
   pub small : rest < f
   pub row : Row ys
   pub is : up_to xs len + f * up_to ys i ≡ f * up_to ys len + rest * B ^ i + up_to ys i
-
-pub dividing_first : (xs : List ℕ) (len f : ℕ) → Row xs → 0 < f → Dividing xs len f xs 0 len
-dividing_first xs len f r h = record { within = le_refl len; small = h; row = r; is = tidy (up_to xs len) (f * up_to xs len) (B ^ len) }
-  where
-    tidy : (x y w : ℕ) → x + y ≡ y + 0 * w + x
-    tidy x y w = omega (arith, zero-mul w)
 
 -- a rest and a word
 pub rest_fits : (rest x f : ℕ) → rest < f → f ≤ 2 ^ 47 → x < B → (rest * B < 2 ^ 63) × (rest * B + x < 2 ^ 64) × (rest * B + x < B * f)
@@ -190,7 +170,7 @@ divide_sum X f U w P Y W rest v r t a b c d =
     let e9 : rest * (P * B) ≡ rest * B * P = ap (λ (z : ℕ). rest * z) (mul_comm P B) ∙ sym (mul_assoc rest B P) in
     omega arith
 
-dividing_turn : (xs : List ℕ) (len f : ℕ) (ys : List ℕ) (rest i t v : ℕ) → Dividing xs len f ys rest (suc i) → len ≤ 18 → 0 < f → f ≤ 2 ^ 47 → t ≡ rest * B + get_or ys i 0 → v ≡ t / f % B → Dividing xs len f (set ys i v) (t % f) i
+dividing_turn : (xs : List ℕ) (len f : ℕ) (ys : List ℕ) (rest i t v : ℕ) → Dividing xs len f ys rest (suc i) → len ≤ 18 → 0 < f → f ≤ 2 ^ 47 → t ≡ rest * B + get_or ys i 0 → v ≡ t / f → Dividing xs len f (set ys i v) (t % f) i
 dividing_turn xs len f ys rest i t v g h F k e q = record {
   within = le_trans (le-suc i) g.within;
   small = mod-lt t F;
@@ -198,7 +178,7 @@ dividing_turn xs len f ys rest i t v g h F k e q = record {
   is = subst (λ (z : ℕ). up_to xs len + f * z ≡ f * up_to (set ys i v) len + t % f * B ^ i + z) (sym (set_below ys i v i (le_refl i)))
       (divide_sum (up_to xs len) f (up_to ys i) (get_or ys i 0) (B ^ i) (up_to ys len) (up_to (set ys i v) len) rest v (t % f) t
       (subst (λ (z : ℕ). up_to xs len + f * z ≡ f * up_to ys len + rest * (B ^ i * B) + z) (up_to_suc ys i) (subst (λ (z : ℕ). up_to xs len + f * up_to ys (suc i) ≡ f * up_to ys len + rest * z + up_to ys (suc i)) (pow-suc B i) g.is))
-      (set_change ys i v len g.row at g.within) e (ap (λ (z : ℕ). z * f + t % f) v_is ∙ div-add-mod' t f));
+      (set_change ys i v len g.row at g.within) e (ap (λ (z : ℕ). z * f + t % f) q ∙ div-add-mod' t f));
 }
   where
     at : i < 18
@@ -207,13 +187,10 @@ dividing_turn xs len f ys rest i t v g h F k e q = record {
     few : t / f < B
     few = quotient_few t f F (subst (λ (z : ℕ). z < B * f) (sym e) (rest_fits rest (get_or ys i 0) f g.small k (g.row.word i)).2)
 
-    v_is : v ≡ t / f
-    v_is = q ∙ mod-eq_of_lt few
-
     v_lt : v < B
-    v_lt = subst (λ (z : ℕ). z < B) (sym v_is) few
+    v_lt = subst (λ (z : ℕ). z < B) (sym q) few
 
-pub dividing_next : (xs : List ℕ) (len f : ℕ) (ys : List ℕ) (rest i t v : ℕ) → Dividing xs len f ys rest i → len ≤ 18 → 0 < i → 0 < f → f ≤ 2 ^ 47 → t ≡ rest * B + get_or ys (i - 1) 0 → v ≡ t / f % B → Dividing xs len f (set ys (i - 1) v) (t % f) (i - 1)
+pub dividing_next : (xs : List ℕ) (len f : ℕ) (ys : List ℕ) (rest i t v : ℕ) → Dividing xs len f ys rest i → len ≤ 18 → 0 < i → 0 < f → f ≤ 2 ^ 47 → t ≡ rest * B + get_or ys (i - 1) 0 → v ≡ t / f → Dividing xs len f (set ys (i - 1) v) (t % f) (i - 1)
 dividing_next xs len f ys rest i t v g h l = dividing_turn xs len f ys rest (i - 1) t v (subst (λ (n : ℕ). Dividing xs len f ys rest n) (sym (back i l)) g) h
 
 -- a whole number by its quotient and its rest
@@ -226,7 +203,7 @@ only_quotient a q f r e h = (
 pub dividing_last : (xs : List ℕ) (len f : ℕ) (ys : List ℕ) (rest i : ℕ) → Dividing xs len f ys rest i → i ≤ 0 → Divided xs ys len f rest
 unfolding up_to
 dividing_last xs len f ys rest (suc i) g h = absurd (omega arith)
-dividing_last xs len f ys rest zero g h = let u = only_quotient (up_to xs len) (up_to ys len) f rest (tidy (up_to xs len) f (up_to ys len) rest g.is) g.small in record { row = g.row; is = u.0; rest = u.1 }
+dividing_last xs len f ys rest zero g h = let u = only_quotient (up_to xs len) (up_to ys len) f rest (tidy (up_to xs len) f (up_to ys len) rest g.is) g.small in record { is = u.0; rest = u.1 }
   where
     tidy : (x f y r : ℕ) → x + f * 0 ≡ f * y + r * 1 + 0 → x ≡ y * f + r
     tidy x f y r e = let c : y * f ≡ f * y = mul_comm y f in omega arith
@@ -236,9 +213,6 @@ pub record Using (xs : List ℕ) (len i : ℕ) : Type 0 where
   pub within : i ≤ len
   pub is : up_to xs i ≡ up_to xs len
 
-pub using_first : (xs : List ℕ) (len : ℕ) → Using xs len len
-using_first xs len = record { within = le_refl len; is = refl }
-
 using_turn : (xs : List ℕ) (len i : ℕ) → Using xs len (suc i) → get_or xs i 0 ≡ 0 → Using xs len i
 using_turn xs len i g e = record { within = le_trans (le-suc i) g.within; is = sym (up_to_suc xs i ∙ ap (λ (x : ℕ). up_to xs i + x * B ^ i) e ∙ tidy (up_to xs i) (B ^ i)) ∙ g.is }
   where
@@ -247,16 +221,6 @@ using_turn xs len i g e = record { within = le_trans (le-suc i) g.within; is = s
 
 pub using_next : (xs : List ℕ) (len i : ℕ) → Using xs len i → 0 < i → get_or xs (i - 1) 0 ≡ 0 → Using xs len (i - 1)
 using_next xs len i g h = using_turn xs len (i - 1) (subst (Using xs len) (sym (back i h)) g)
-
-pub using_some : (xs : List ℕ) (len i : ℕ) → Using xs len i → (get_or xs (i - 1) 0 ≡ 0 → ⊥) → Used xs len i
-using_some xs len i g n = record { within = g.within; is = g.is; top = record { top = λ j e. some (get_or xs j 0) (λ z. n (ap (λ (k : ℕ). get_or xs k 0) (less j i e) ∙ z)) } }
-  where
-    less : (j i : ℕ) → suc j ≡ i → i - 1 ≡ j
-    less j i e = omega arith
-
-    some : (x : ℕ) → (x ≡ 0 → ⊥) → 0 < x
-    some zero n = absurd (n refl)
-    some (suc x) n = zero-lt-suc x
 
 pub using_none : (xs : List ℕ) (len i : ℕ) → Using xs len i → i ≤ 0 → Used xs len 0
 using_none xs len zero g h = record { within = zero-le; is = g.is; top = record { top = λ j e. absurd (omega arith) } }
@@ -268,15 +232,6 @@ pub record Gathered (xs : List ℕ) (low len w i : ℕ) : Type 0 where
   pub within : i ≤ len
   pub is : w * B ^ i + up_to xs i ≡ up_to xs len
   pub small : w < B ^ (len - i)
-
-pub gathered_first : (xs : List ℕ) (low len : ℕ) → low ≤ len → Gathered xs low len 0 len
-gathered_first xs low len h = record { after = h; within = le_refl len; is = tidy (B ^ len) (up_to xs len); small = subst (λ (n : ℕ). 0 < B ^ n) (sym (none len)) (zero-lt-suc 0) }
-  where
-    tidy : (w u : ℕ) → 0 * w + u ≡ u
-    tidy w u = omega (arith, zero-mul w)
-
-    none : (n : ℕ) → n - n ≡ 0
-    none n = omega arith
 
 base_mono : (i j : ℕ) → i ≤ j → B ^ i ≤ B ^ j
 base_mono i j h = pow-le-pow_right (zero-lt-suc 0xffff) h

@@ -1,24 +1,27 @@
--- What the proofs of the functions that read digits cite: a run of digits from a place of a text on, its number, and the loops' turns.
+-- What the proofs of the functions that read digits cite: the digits that a text begins with, their number, and the loops' turns.
 -- Assumes nothing.
 use mathlib.Core.Path.{◌≡◌, refl, sym, ap, ◌∙◌, subst}
-use mathlib.Core.Logic.{◌⊎◌, inl, inr}
-use mathlib.Core.List.{List, [], ◌∷◌}
-use mathlib.Core.Bool.{Bool, true, false, ◌&&◌, cond, true≢false}
+use mathlib.Core.Logic.{inl, inr}
+use mathlib.Core.List.{List, [], ◌∷◌, ◌++◌}
+use mathlib.Core.Bool.{Bool, true, false, ◌&&◌, cond}
 use Prim.Native.Nat.{ℕ, suc, ◌+◌, ◌-◌, ◌*◌, ◌^◌, ◌≤◌, ◌<◌, min}
-use native.Mathlib.Nat.{le_refl, le_trans, le_of_eq, lt_of_lt_of_le, lt_of_le_of_lt, add-zero, add-mul, suc-mul, mul-one, mul_comm, mul_assoc, mul-le-mul_right, eq_of_mul-eq-mul_right, pow-suc}
+use native.Mathlib.Nat.{le_trans, le_of_eq, lt_of_lt_of_le, lt_of_le_of_lt, add-zero, add-mul, suc-mul, mul-one, mul_comm, mul_assoc, mul-le-mul_right, eq_of_mul-eq-mul_right, pow-suc, zero-lt-suc}
 use native.Mathlib.Numerals.{add-one}
 use native.Mathlib.Omega.{arith}
-use lib.ListN.{length, drop, get_or, drop_of_length-le}
-use lib.Seq.{drop-cons}
-use lib.Dec.{T, leb, le→leb, leb→le, lit≤, lit<}
+use lib.ListN.{length, take, drop, get_or, take-append-drop, length-append}
+use lib.Seq.{take_all}
+use lib.Dec.{T, leb, le→leb, leb→le, lit≤}
 use lib.Arith.{lt→nleb}
-use lib.Pow.{pow_pos}
+use lib.Pow.{pow-add, pow_pos}
 use lib.Ieee.Bits.{is_true, is_false}
+use Rattle.std.specs.List.{AllPass}
+use Rattle.std.proofs.lemmas.List.{take_more}
+use Rattle.std.proofs.lemmas.List.Elements.{All-nil, All-cons, All-head, All-tail, All-drop, All-same, All-get_or}
 use Rattle.rules.specs.Analysis.{front, after}
 use Rattle.rules.specs.Numerals.{is_digit, digits_on}
 use Rattle.rules.proofs.Numerals.Order.{tri}
 use Rattle.boost.specs.Row.{value, limit, Scaled}
-use Rattle.boost.specs.Digits.{short_most, taken_most, forty, Reading, Stop, Digit, DigitAt, MoreAt, Along, Taken, Holds, Filled}
+use Rattle.boost.specs.Digits.{short_most, forty, Reading, Holds, Filled}
 use Rattle.boost.proofs.Rows.{B}
 use Rattle.boost.proofs.Tops.{base_power}
 use Rattle.boost.proofs.Tens.{ten_mono}
@@ -28,7 +31,7 @@ use Rattle.boost.proofs.Rooms.{room_digits}
 pub digit_yes : (b : ℕ) → 48 ≤ b → b ≤ 57 → is_digit b ≡ true
 digit_yes b h k = ap (λ (x : Bool). x && leb b 57) (is_true (leb 48 b) (le→leb 48 b h)) ∙ is_true (leb b 57) (le→leb b 57 k)
 
-pub digit_low : (b : ℕ) → b < 48 → is_digit b ≡ false
+digit_low : (b : ℕ) → b < 48 → is_digit b ≡ false
 digit_low b h = ap (λ (x : Bool). x && leb b 57) (is_false (leb 48 b) (lt→nleb 48 b h))
 
 pub digit_high : (b : ℕ) → 57 < b → is_digit b ≡ false
@@ -36,6 +39,30 @@ digit_high b h = ap (λ (x : Bool). x && leb b 57) (is_true (leb 48 b) (le→leb
   where
     go : (b : ℕ) → 57 < b → 48 ≤ b
     go b h = omega arith
+
+digit_not : (b : ℕ) → (48 ≤ b → b ≤ 57 → ⊥) → is_digit b ≡ false
+digit_not b n = elim (tri b 48) [
+  | inl l ↦ digit_low b l
+  | inr (inl e) ↦ digit_high b (above b n (omega arith))
+  | inr (inr l) ↦ digit_high b (above b n (omega arith))
+]
+  where
+    above : (b : ℕ) → (48 ≤ b → b ≤ 57 → ⊥) → 48 ≤ b → 57 < b
+    above b n h = elim (tri 57 b) [ inl l ↦ l | inr (inl e) ↦ absurd (n h (omega arith)) | inr (inr l) ↦ absurd (n h (omega arith)) ]
+
+-- what a digit is, to the code
+pub digit_within : (b : ℕ) → is_digit b ≡ true → (48 ≤ b) × (b ≤ 57)
+digit_within b e = (leb→le 48 b (subst T (sym (first (leb 48 b) (leb b 57) e)) tt), leb→le b 57 (subst T (sym (second (leb 48 b) (leb b 57) e)) tt))
+  where
+    first : (x y : Bool) → (x && y) ≡ true → x ≡ true
+    first true y e = refl
+    first false true e = e
+    first false false e = e
+
+    second : (x y : Bool) → (x && y) ≡ true → y ≡ true
+    second true y e = e
+    second false true e = refl
+    second false false e = e
 
 -- ---- a run that begins with a byte
 front_cons : (b : ℕ) (l : List ℕ) (x : Bool) → is_digit b ≡ x → front is_digit (b ∷ l) ≡ cond x (b ∷ front is_digit l) []
@@ -50,193 +77,172 @@ digits_cons : (w b : ℕ) (l : List ℕ) → digits_on w (b ∷ l) ≡ digits_on
 unfolding digits_on
 digits_cons w b l = refl
 
-digits_none : (w : ℕ) → digits_on w [] ≡ w
+pub digits_none : (w : ℕ) → digits_on w [] ≡ w
 unfolding digits_on
 digits_none w = refl
 
--- ---- nothing is to be read at i
-pub stop_byte : (s : List ℕ) (i : ℕ) → i < length s → is_digit (get_or s i 0) ≡ false → Stop s i
-stop_byte s i h e = record {
-  none = ap (front is_digit) (drop-cons s i 0 h) ∙ front_cons (get_or s i 0) (drop (suc i) s) false e;
-  all = ap (after is_digit) (drop-cons s i 0 h) ∙ after_cons (get_or s i 0) (drop (suc i) s) false e ∙ sym (drop-cons s i 0 h);
-}
+pub digits_append : (w : ℕ) (a b : List ℕ) → digits_on w (a ++ b) ≡ digits_on (digits_on w a) b
+unfolding digits_on
+digits_append w [] b = refl
+digits_append w (c ∷ a) b = digits_append (w * 10 + (c - 48)) a b
 
-pub stop_end : (s : List ℕ) (i : ℕ) → length s ≤ i → Stop s i
+-- what stands before the digits is moved up
+digits_shift : (n v : ℕ) (l : List ℕ) → digits_on (n + v) l ≡ n * 10 ^ length l + digits_on v l
+digits_shift n v [] = digits_none (n + v) ∙ ap (λ (x : ℕ). x + v) (sym (mul-one n)) ∙ ap (λ (x : ℕ). n * 1 + x) (sym (digits_none v))
+digits_shift n v (b ∷ l) =
+    digits_cons (n + v) b l
+    ∙ ap (λ (x : ℕ). digits_on x l) (sum n v (b - 48))
+    ∙ digits_shift (n * 10) (v * 10 + (b - 48)) l
+    ∙ ap (λ (x : ℕ). x + digits_on (v * 10 + (b - 48)) l) (mul_assoc n 10 (10 ^ length l) ∙ ap (λ (x : ℕ). n * x) (mul_comm 10 (10 ^ length l) ∙ sym (pow-suc 10 (length l))))
+    ∙ ap (λ (x : ℕ). n * 10 ^ suc (length l) + x) (sym (digits_cons v b l))
+  where
+    sum : (n v x : ℕ) → (n + v) * 10 + x ≡ n * 10 + (v * 10 + x)
+    sum n v x = omega arith
+
+-- ---- the digits that a text begins with
+pub front_digits : (s : List ℕ) → AllPass is_digit (front is_digit s)
+unfolding front
+front_digits [] = All-nil (λ x. is_digit x ≡ true)
+front_digits (b ∷ s) = by (is_digit b) refl (front_digits s)
+  where
+    by : (x : Bool) → is_digit b ≡ x → AllPass is_digit (front is_digit s) → AllPass is_digit (cond x (b ∷ front is_digit s) [])
+    by true e more = All-cons (λ x. is_digit x ≡ true) b (front is_digit s) e more
+    by false e more = All-nil (λ x. is_digit x ≡ true)
+
+pub front_after : (s : List ℕ) → front is_digit s ++ after is_digit s ≡ s
 unfolding front after
-stop_end s i h = let e : drop i s ≡ [] = drop_of_length-le s h in record { none = ap (front is_digit) e; all = ap (after is_digit) e ∙ sym e }
-
--- ---- on the way
-pub along_first : (s : List ℕ) (at : ℕ) → at ≤ length s → Along s at at
-along_first s at h = record { within = h; rest = refl; count = refl }
-
--- w after the digits from i on
-pub number_next : (s : List ℕ) (i w : ℕ) → i < length s → is_digit (get_or s i 0) ≡ true → digits_on w (front is_digit (drop i s)) ≡ digits_on (w * 10 + (get_or s i 0 - 48)) (front is_digit (drop (i + 1) s))
-number_next s i w h e =
-    ap (λ (l : List ℕ). digits_on w (front is_digit l)) (drop-cons s i 0 h)
-    ∙ ap (digits_on w) (front_cons (get_or s i 0) (drop (suc i) s) true e)
-    ∙ digits_cons w (get_or s i 0) (front is_digit (drop (suc i) s))
-    ∙ ap (λ (j : ℕ). digits_on (w * 10 + (get_or s i 0 - 48)) (front is_digit (drop j s))) (sym (add-one i))
-
-pub along_next : (s : List ℕ) (at i : ℕ) → Along s at i → i < length s → is_digit (get_or s i 0) ≡ true → Along s at (i + 1)
-along_next s at i g h e = record {
-  within = le_trans (le_of_eq (add-one i)) h;
-  rest = g.rest ∙ ap (after is_digit) (drop-cons s i 0 h) ∙ after_cons (get_or s i 0) (drop (suc i) s) true e ∙ ap (λ (j : ℕ). after is_digit (drop j s)) (sym (add-one i));
-  count = g.count
-      ∙ ap (λ (l : List ℕ). i + length l) (ap (front is_digit) (drop-cons s i 0 h) ∙ front_cons (get_or s i 0) (drop (suc i) s) true e)
-      ∙ go i (length (front is_digit (drop (suc i) s)))
-      ∙ ap (λ (j : ℕ). i + 1 + length (front is_digit (drop j s))) (sym (add-one i));
-}
+front_after [] = refl
+front_after (b ∷ s) = by (is_digit b) (front_after s)
   where
-    go : (i n : ℕ) → i + suc n ≡ i + 1 + n
-    go i n = omega arith
+    by : (x : Bool) → front is_digit s ++ after is_digit s ≡ s → cond x (b ∷ front is_digit s) [] ++ cond x (after is_digit s) (b ∷ s) ≡ b ∷ s
+    by true more = ap (λ (l : List ℕ). b ∷ l) more
+    by false more = refl
 
-pub along_stops : (s : List ℕ) (at i : ℕ) → Along s at i → Stop s i → i ≡ at + length (front is_digit (drop at s))
-along_stops s at i g z = sym (g.count ∙ ap (λ (l : List ℕ). i + length l) z.none ∙ add-zero i)
+-- no digit stands first
+pub record Stop (s : List ℕ) : Type 0 where
+  pub none : front is_digit s ≡ []
+  pub all : after is_digit s ≡ s
 
-pub number_stops : (s : List ℕ) (i w : ℕ) → Stop s i → digits_on w (front is_digit (drop i s)) ≡ w
-number_stops s i w z = ap (digits_on w) z.none ∙ digits_none w
+pub stop : (s : List ℕ) → (1 ≤ length s → 48 ≤ get_or s 0 0 → get_or s 0 0 ≤ 57 → ⊥) → Stop s
+unfolding front after
+stop [] n = record { none = refl; all = refl }
+stop (b ∷ s) n = let e = digit_not b (n (zero-lt-suc (length s))) in record { none = front_cons b s false e; all = after_cons b s false e }
 
--- what a digit is, to the code
-pub digit_is : (s : List ℕ) (i : ℕ) → Digit s i → is_digit (get_or s i 0) ≡ true
-digit_is s i d = digit_yes (get_or s i 0) d.low d.high
-
-less_48 : (d b : ℕ) → d + 48 ≡ b → d ≡ b - 48
-less_48 d b e = omega arith
-
--- no digit stops where one stands
-pub stop_no : (s : List ℕ) (i : ℕ) → Digit s i → Stop s i → ⊥
-stop_no s i d z = no (length (front is_digit (drop (suc i) s))) (ap length (sym (ap (front is_digit) (drop-cons s i 0 d.within) ∙ front_cons (get_or s i 0) (drop (suc i) s) true (digit_is s i d)) ∙ z.none))
+-- ---- a bound for the number of a run, after a w of at most k digits
+next_small : (v d i : ℕ) → v < 10 ^ i → d < 10 → v * 10 + d < 10 ^ (i + 1)
+next_small v d i h k = subst (λ (x : ℕ). v * 10 + d < 10 ^ x) (sym (add-one i)) (subst (λ (x : ℕ). v * 10 + d < x) (sym (pow-suc 10 i)) (go v d (10 ^ i) h k))
   where
-    no : (n : ℕ) → suc n ≡ 0 → ⊥
-    no n e = omega arith
+    go : (v d w : ℕ) → v < w → d < 10 → v * 10 + d < w * 10
+    go v d w h k = omega arith
 
--- ---- `is_digit_at`, `more_at`
-pub digit_here : (s : List ℕ) (i : ℕ) → i < length s → 48 ≤ get_or s i 0 → DigitAt s i (leb (get_or s i 0) 57)
-digit_here s i h k = record {
-  yes = λ e. record { within = h; low = k; high = leb→le (get_or s i 0) 57 (subst T (sym e) tt) };
-  no = λ e. stop_byte s i h (ap (λ (x : Bool). x && leb (get_or s i 0) 57) (is_true (leb 48 (get_or s i 0)) (le→leb 48 (get_or s i 0) k)) ∙ e);
-}
+digit_few : (b : ℕ) → is_digit b ≡ true → b - 48 < 10
+digit_few b e = let w = digit_within b e in omega arith
 
-pub digit_not : (s : List ℕ) (i : ℕ) → Stop s i → DigitAt s i false
-digit_not s i z = record { yes = λ e. absurd (true≢false (sym e)); no = λ e. z }
-
-pub more_not : (s : List ℕ) (i p : ℕ) → taken_most < p → MoreAt s i p false
-more_not s i p h = record { yes = λ e. absurd (true≢false (sym e)); no = λ e. inr h }
-
-pub more_here : (s : List ℕ) (i p : ℕ) (b : Bool) → p ≤ taken_most → DigitAt s i b → MoreAt s i p b
-more_here s i p b h d = record { yes = λ e. (d.yes e, h); no = λ e. inl (d.no e) }
+pub run_few : (w k : ℕ) (l : List ℕ) → AllPass is_digit l → w < 10 ^ k → digits_on w l < 10 ^ (k + length l)
+run_few w k [] a h = subst (λ (x : ℕ). x < 10 ^ (k + 0)) (sym (digits_none w)) (subst (λ (x : ℕ). w < 10 ^ x) (sym (add-zero k)) h)
+run_few w k (b ∷ l) a h =
+    subst (λ (x : ℕ). x < 10 ^ (k + suc (length l))) (sym (digits_cons w b l))
+    (subst (λ (x : ℕ). digits_on (w * 10 + (b - 48)) l < 10 ^ x) (one k (length l))
+    (run_few (w * 10 + (b - 48)) (k + 1) l (All-tail (λ x. is_digit x ≡ true) b l a) (next_small w (b - 48) k h (digit_few b (All-head (λ x. is_digit x ≡ true) b l a)))))
+  where
+    one : (k n : ℕ) → k + 1 + n ≡ k + suc n
+    one k n = omega arith
 
 -- ---- `read`
-pub record Counting (s : List ℕ) (at start v i : ℕ) : Type 0 where
-  pub along : Along s at i
-  pub is : (w : ℕ) → start ≡ min w short_most → (u : ℕ) × (digits_on w (front is_digit (drop at s)) ≡ digits_on u (front is_digit (drop i s))) × (min v short_most ≡ min u short_most)
+pub record Counting (s : List ℕ) (start v : ℕ) (rest : List ℕ) : Type 0 where
+  pub after_is : after is_digit s ≡ after is_digit rest
+  pub is : (w : ℕ) → start ≡ min w short_most → (u : ℕ) × (digits_on w (front is_digit s) ≡ digits_on u (front is_digit rest)) × (min v short_most ≡ min u short_most)
 
-pub count_first : (s : List ℕ) (at start : ℕ) → at ≤ length s → Counting s at start start at
-count_first s at start h = record { along = along_first s at h; is = λ w e. (w, refl, go start w e) }
-  where
-    go : (v w : ℕ) → v ≡ min w short_most → min v short_most ≡ min w short_most
-    go v w e = omega arith
+cut : (v w : ℕ) → v ≡ min w short_most → min v short_most ≡ min w short_most
+cut v w e = omega arith
 
-pub count_next : (s : List ℕ) (at start v i d r : ℕ) → Counting s at start v i → Digit s i → d + 48 ≡ get_or s i 0 → (v < short_most → r ≡ v * 10 + d) → (short_most ≤ v → r ≡ v) → Counting s at start r (i + 1)
-count_next s at start v i d r g h e low high = record {
-  along = along_next s at i g.along h.within (digit_is s i h);
-  is = λ w k. ((g.is w k).0 * 10 + (get_or s i 0 - 48), (g.is w k).1 ∙ number_next s i (g.is w k).0 h.within (digit_is s i h), go (g.is w k).0 v d (get_or s i 0) r (g.is w k).2 e low high);
-}
+pub count_first : (s : List ℕ) (start : ℕ) → Counting s start start s
+count_first s start = record { after_is = refl; is = λ w e. (w, refl, cut start w e) }
+
+pub count_next : (s rest : List ℕ) (start v r n : ℕ) → Counting s start v rest → 1 ≤ length rest → 48 ≤ get_or rest 0 0 → get_or rest 0 0 ≤ 57 → (v < short_most → r ≡ v * 10 + (get_or rest 0 0 - 48)) → (short_most ≤ v → r ≡ v) → n ≡ length rest → Counting s start r (take (n - 1) (drop 1 rest))
+count_next s [] start v r n g l h k low high e = let z : ⊥ = omega arith in absurd z
+count_next s (b ∷ t) start v r n g l h k low high e = subst (Counting s start r) (sym (take_all (n - 1) t (le n (length t) e))) (record {
+  after_is = g.after_is ∙ after_cons b t true (digit_yes b h k);
+  is = λ w f. ((g.is w f).0 * 10 + (b - 48), (g.is w f).1 ∙ ap (digits_on (g.is w f).0) (front_cons b t true (digit_yes b h k)) ∙ digits_cons (g.is w f).0 b (front is_digit t), go (g.is w f).0 v (b - 48) r (g.is w f).2 low high);
+})
   where
-    go : (u v d b r : ℕ) → min v short_most ≡ min u short_most → d + 48 ≡ b → (v < short_most → r ≡ v * 10 + d) → (short_most ≤ v → r ≡ v) → min r short_most ≡ min (u * 10 + (b - 48)) short_most
-    go u v d b r e f low high = elim (tri v short_most) [
+    le : (n m : ℕ) → n ≡ suc m → m ≤ n - 1
+    le n m e = omega arith
+
+    go : (u v d r : ℕ) → min v short_most ≡ min u short_most → (v < short_most → r ≡ v * 10 + d) → (short_most ≤ v → r ≡ v) → min r short_most ≡ min (u * 10 + d) short_most
+    go u v d r f low high = elim (tri v short_most) [
       | inl l ↦ let z : r ≡ v * 10 + d = low l in omega arith
       | inr (inl l) ↦ let z : r ≡ v = high (le_of_eq (sym l)) in omega arith
       | inr (inr l) ↦ let z : r ≡ v = high (omega arith) in omega arith
     ]
 
-pub counted : (s : List ℕ) (at start v i r : ℕ) → Counting s at start v i → Stop s i → r ≡ min v short_most → Reading s at start r i
-counted s at start v i r g z f = record {
-  is = λ w e. f ∙ (g.is w e).2 ∙ ap (λ (x : ℕ). min x short_most) (sym ((g.is w e).1 ∙ number_stops s i (g.is w e).0 z));
-  rest = g.along.rest ∙ z.all;
-  stops = along_stops s at i g.along z;
-  within = g.along.within;
-  small = le r v f;
-}
-  where
-    le : (r v : ℕ) → r ≡ min v short_most → r ≤ short_most
-    le r v e = omega arith
+module _ (s rest : List ℕ) (start v : ℕ) (g : Counting s start v rest) (z : Stop rest) where
+  split : front is_digit s ++ rest ≡ s
+  split = ap (λ (l : List ℕ). front is_digit s ++ l) (sym (g.after_is ∙ z.all)) ∙ front_after s
 
--- ---- `take`
-pub record Going (s : List ℕ) (at v p i : ℕ) : Type 0 where
-  pub along : Along s at i
-  pub is : (w : ℕ) → digits_on w (front is_digit (drop at s)) ≡ digits_on (w * p + v) (front is_digit (drop i s))
-  pub small : v < p
-  pub power : 10 ^ at * p ≡ 10 ^ i
-  pub few : p ≤ 10 ^ 14
-  pub later : at ≤ i
-  pub begun : i ≡ at → p ≡ 1
+  lengths : length (front is_digit s) + length rest ≡ length s
+  lengths = sym (length-append (front is_digit s) rest) ∙ ap length split
 
-pub take_first : (s : List ℕ) (at : ℕ) → at ≤ length s → Going s at 0 1 at
-take_first s at h = record { along = along_first s at h; is = λ w. ap (λ (x : ℕ). digits_on x (front is_digit (drop at s))) (tidy w); small = lit< tt; power = mul-one (10 ^ at); few = lit≤ tt; later = le_refl at; begun = λ e. refl }
-  where
-    tidy : (w : ℕ) → w ≡ w * 1 + 0
-    tidy w = omega arith
+  pub counted_within : length rest ≤ length s
+  counted_within = omega (arith, lengths)
 
-pub take_next : (s : List ℕ) (at v p i d : ℕ) → Going s at v p i → Digit s i → p ≤ taken_most → d + 48 ≡ get_or s i 0 → d < 10 → Going s at (v * 10 + d) (p * 10) (i + 1)
-take_next s at v p i d g h k e l = record {
-  along = along_next s at i g.along h.within (digit_is s i h);
-  is = λ w. g.is w ∙ number_next s i (w * p + v) h.within (digit_is s i h) ∙ ap (λ (x : ℕ). digits_on x (front is_digit (drop (i + 1) s))) (sum w p v (get_or s i 0 - 48) d (less_48 d (get_or s i 0) e));
-  small = omega (arith, g.small);
-  power = sym (mul_assoc (10 ^ at) p 10) ∙ ap (λ (x : ℕ). x * 10) g.power ∙ sym (ap (λ (x : ℕ). 10 ^ x) (add-one i) ∙ pow-suc 10 i);
-  few = omega arith;
-  later = le_trans g.later (omega arith);
-  begun = λ z. absurd (no at i g.later z);
-}
-  where
-    sum : (w p v x d : ℕ) → d ≡ x → (w * p + v) * 10 + x ≡ w * (p * 10) + (v * 10 + d)
-    sum w p v x d e = let f : w * (p * 10) ≡ w * p * 10 = sym (mul_assoc w p 10) in omega arith
+  pub counted : (r : ℕ) → r ≡ min v short_most → Reading s start (take (length s - length rest) s) r rest
+  counted r f = record {
+    is = λ w e. f ∙ (g.is w e).2 ∙ ap (λ (x : ℕ). min x short_most) (sym ((g.is w e).1 ∙ ap (digits_on (g.is w e).0) z.none ∙ digits_none (g.is w e).0) ∙ ap (digits_on w) (sym digits_are));
+    digits_are = digits_are;
+    rest_is = sym (g.after_is ∙ z.all);
+  }
+    where
+      digits_are : take (length s - length rest) s ≡ front is_digit s
+      digits_are = ap (λ (n : ℕ). take n s) (less (length (front is_digit s)) (length rest) (length s) lengths) ∙ ap (take (length (front is_digit s))) (sym split) ∙ take_front (front is_digit s) rest
+        where
+          less : (a b n : ℕ) → a + b ≡ n → n - b ≡ a
+          less a b n e = omega arith
 
-    no : (at i : ℕ) → at ≤ i → i + 1 ≡ at → ⊥
-    no at i h e = omega arith
+          take_front : (a b : List ℕ) → take (length a) (a ++ b) ≡ a
+          take_front [] b = refl
+          take_front (c ∷ a) b = ap (λ (l : List ℕ). c ∷ l) (take_front a b)
 
-pub taken : (s : List ℕ) (at v p i : ℕ) → Going s at v p i → Stop s i ⊎ (taken_most < p) → Taken s at v p i
-taken s at v p i g z = record { along = g.along; is = g.is; small = g.small; power = g.power; few = g.few; later = g.later; none = λ e. go z e }
-  where
-    go : Stop s i ⊎ (taken_most < p) → i ≡ at → Stop s at
-    go (inl z) e = subst (Stop s) e z
-    go (inr l) e = absurd (no p l (g.begun e))
-      where
-        no : (p : ℕ) → taken_most < p → p ≡ 1 → ⊥
-        no p l e = omega arith
-
-pub taken_later : (s : List ℕ) (at v p i : ℕ) → Taken s at v p i → Digit s at → at < i
-taken_later s at v p i g d = elim (tri at i) [
-  | inl l ↦ l
-  | inr (inl e) ↦ absurd (stop_no s at d (g.none (sym e)))
-  | inr (inr l) ↦ absurd (no at i g.later l)
-]
-  where
-    no : (a b : ℕ) → a ≤ b → b < a → ⊥
-    no a b h k = omega arith
+-- ---- `number_of`
+pub number_next : (l : List ℕ) (i v : ℕ) → AllPass is_digit l → i < length l → v ≡ digits_on 0 (take i l) → v < 10 ^ i
+    → (v * 10 + (get_or l i 0 - 48) ≡ digits_on 0 (take (i + 1) l)) × (v * 10 + (get_or l i 0 - 48) < 10 ^ (i + 1))
+number_next l i v a h e k = (
+  ap (λ (x : ℕ). x * 10 + (get_or l i 0 - 48)) e
+      ∙ sym (ap (digits_on 0) (take_more l i 0 h) ∙ digits_append 0 (take i l) (get_or l i 0 ∷ []) ∙ digits_cons (digits_on 0 (take i l)) (get_or l i 0) [] ∙ digits_none _),
+  next_small v (get_or l i 0 - 48) i k (digit_few (get_or l i 0) (All-get_or (λ x. is_digit x ≡ true) l i 0 h a)),
+)
 
 -- ---- `fill`
-pub record Filling (s : List ℕ) (at from : ℕ) (xs ys : List ℕ) (i : ℕ) : Type 0 where
-  pub holds : Holds ys from i
-  pub along : Along s at i
-  pub is : (v : ℕ) → value xs ≡ v * B ^ from → digits_on v (front is_digit (drop at s)) ≡ digits_on holds.number (front is_digit (drop i s))
+pub record Filling (digits : List ℕ) (from : ℕ) (xs ys rest : List ℕ) : Type 0 where
+  pub holds : Holds ys from (40 - length rest)
+  pub all_digits : AllPass is_digit rest
+  pub few : length rest ≤ 40
+  pub is : (v : ℕ) → value xs ≡ v * B ^ from → digits_on v digits ≡ digits_on holds.number rest
 
 base_pos : (n : ℕ) → 0 < B ^ n
 base_pos n = subst (λ (x : ℕ). 0 < x) (sym (base_power n)) (pow_pos (16 * n))
 
-pub fill_first : (s : List ℕ) (at from : ℕ) (xs : List ℕ) → Holds xs from at → at ≤ length s → Filling s at from xs xs at
-fill_first s at from xs r h = record {
-  holds = r;
-  along = along_first s at h;
-  is = λ v e. ap (λ (x : ℕ). digits_on x (front is_digit (drop at s))) (eq_of_mul-eq-mul_right (B ^ from) (base_pos from) v r.number (sym e ∙ r.is));
+pub fill_first : (digits : List ℕ) (from : ℕ) (xs : List ℕ) → AllPass is_digit digits → length digits ≤ 40 → Holds xs from (40 - length digits) → Filling digits from xs xs digits
+fill_first digits from xs a h g = record {
+  holds = g;
+  all_digits = a;
+  few = h;
+  is = λ v e. ap (λ (x : ℕ). digits_on x digits) (eq_of_mul-eq-mul_right (B ^ from) (base_pos from) v g.number (sym e ∙ g.is));
 }
 
 in_forty : {n : ℕ} → n < 10 ^ 40 → n < forty
 unfolding forty
 in_forty h = h
 
--- what is taken fits
-module _ (s : List ℕ) (at from : ℕ) (xs ys : List ℕ) (i v p e : ℕ) (g : Filling s at from xs ys i) (t : Taken s i v p e) where
+-- some digits, and what follows them
+pub record Parts (rest : List ℕ) (k : ℕ) (some others : List ℕ) : Type 0 where
+  pub front : some ≡ take k rest
+  pub back : others ≡ drop k rest
+  pub front_len : length some ≡ k
+  pub back_len : length others + k ≡ length rest
+
+module _ (digits : List ℕ) (from : ℕ) (xs ys rest : List ℕ) (g : Filling digits from xs ys rest) (k : ℕ) (some others : List ℕ) (q : Parts rest k some others)
+    (p v : ℕ) (e : p ≡ 10 ^ length some) (f : v ≡ digits_on 0 some) (h : v < 10 ^ length some) where
   abbrev U : ℕ
   U = g.holds.number * p + v
 
@@ -246,66 +252,45 @@ module _ (s : List ℕ) (at from : ℕ) (xs ys : List ℕ) (i v p e : ℕ) (g : 
       sum : (u p v w : ℕ) → u * w * p + v * w ≡ (u * p + v) * w
       sum u p v w = let a : (u * p + v) * w ≡ u * p * w + v * w = add-mul (u * p) v w in let b : u * w * p ≡ u * p * w = mul_assoc u w p ∙ ap (λ (x : ℕ). u * x) (mul_comm w p) ∙ sym (mul_assoc u p w) in omega arith
 
-  taken_few : U < 10 ^ e
-  taken_few = lt_of_lt_of_le (more g.holds.number p v t.small) (le_trans (mul-le-mul_right p g.holds.small) (le_of_eq t.power))
+  taken_few : U < 10 ^ (40 - length others)
+  taken_few = lt_of_lt_of_le (more g.holds.number p v (lt_of_lt_of_le h (le_of_eq (sym e)))) (le_trans (mul-le-mul_right p g.holds.small) (le_of_eq all))
     where
       more : (u p v : ℕ) → v < p → u * p + v < suc u * p
       more u p v h = let a : suc u * p ≡ u * p + p = suc-mul u p in omega arith
 
-  pub fill_room : length s ≤ 40 → from ≤ 9 → value ys * p + v * B ^ from < limit
-  fill_room h k = lt_of_le_of_lt (le_of_eq taken_is) (room_digits U from (few (lt_of_lt_of_le taken_few (ten_mono e 40 (le_trans t.along.within h)))) k)
-    where
-      few : U < 10 ^ 40 → U < forty
-      few l = in_forty l
+      all : 10 ^ (40 - length rest) * p ≡ 10 ^ (40 - length others)
+      all = ap (λ (x : ℕ). 10 ^ (40 - length rest) * x) e ∙ sym (pow-add 10 (40 - length rest) (length some)) ∙ ap (λ (x : ℕ). 10 ^ x) (omega (arith, q.front_len, q.back_len, g.few))
 
-  pub fill_next : (zs : List ℕ) → Scaled ys zs from p v → Filling s at from xs zs e
+  pub fill_room : from ≤ 9 → value ys * p + v * B ^ from < limit
+  fill_room l = lt_of_le_of_lt (le_of_eq taken_is) (room_digits U from (in_forty (lt_of_lt_of_le taken_few (ten_mono (40 - length others) 40 (omega arith)))) l)
+
+  pub fill_next : (zs : List ℕ) → Scaled ys zs from p v → Filling digits from xs zs others
   fill_next zs z = record {
-    holds = record { row = z.row; none = z.none; number = U; is = z.is ∙ taken_is; small = taken_few };
-    along = record { within = t.along.within; rest = g.along.rest ∙ t.along.rest; count = g.along.count ∙ t.along.count };
-    is = λ w f. g.is w f ∙ t.is g.holds.number;
+    holds = record { none = z.none; number = U; is = z.is ∙ taken_is; small = taken_few };
+    all_digits = All-same (λ x. is_digit x ≡ true) others (drop k rest) q.back (All-drop (λ x. is_digit x ≡ true) k rest g.all_digits);
+    few = omega (arith, q.back_len, g.few);
+    is = λ w d. g.is w d ∙ ap (digits_on g.holds.number) (sym (take-append-drop k rest) ∙ ap (λ (l : List ℕ). l ++ drop k rest) (sym q.front) ∙ ap (λ (l : List ℕ). some ++ l) (sym q.back))
+        ∙ digits_append g.holds.number some others ∙ ap (λ (x : ℕ). digits_on x others) number_is;
   }
+    where
+      number_is : digits_on g.holds.number some ≡ U
+      number_is = ap (λ (x : ℕ). digits_on x some) (sym (add-zero g.holds.number)) ∙ digits_shift g.holds.number 0 some ∙ ap (λ (x : ℕ). g.holds.number * x + digits_on 0 some) (sym e) ∙ ap (λ (x : ℕ). g.holds.number * p + x) (sym f)
 
-pub filled : (s : List ℕ) (at from : ℕ) (xs ys : List ℕ) (i : ℕ) → Filling s at from xs ys i → Stop s i → Filled s at from xs ys
-filled s at from xs ys i g z = record {
-  holds = subst (Holds ys from) (along_stops s at i g.along z) g.holds;
-  is = λ v e. g.holds.is ∙ ap (λ (x : ℕ). x * B ^ from) (sym (g.is v e ∙ number_stops s i g.holds.number z));
+pub no_length : (l : List ℕ) → length l ≡ 0 → l ≡ []
+no_length [] h = refl
+no_length (c ∷ l) h = absurd (no (length l) h)
+  where
+    no : (n : ℕ) → suc n ≡ 0 → ⊥
+    no n e = omega arith
+
+pub filled : (digits : List ℕ) (from : ℕ) (xs ys rest : List ℕ) → Filling digits from xs ys rest → length rest ≡ 0 → Filled digits from xs ys
+filled digits from xs ys rest g e = let z = no_length rest e in record {
+  none = g.holds.none;
+  is = λ v e. g.holds.is ∙ ap (λ (x : ℕ). x * B ^ from) (sym (g.is v e ∙ ap (digits_on g.holds.number) z ∙ digits_none g.holds.number));
 }
 
--- ---- a number and one more digit
-next_small : (v d i : ℕ) → v < 10 ^ i → d < 10 → v * 10 + d < 10 ^ (i + 1)
-next_small v d i h k = subst (λ (x : ℕ). v * 10 + d < 10 ^ x) (sym (add-one i)) (subst (λ (x : ℕ). v * 10 + d < x) (sym (pow-suc 10 i)) (go v d (10 ^ i) h k))
-  where
-    go : (v d w : ℕ) → v < w → d < 10 → v * 10 + d < w * 10
-    go v d w h k = omega arith
+pub number_fits : (v i : ℕ) → v < 10 ^ i → i < 14 → v < 10 ^ 14
+number_fits v i h k = lt_of_lt_of_le h (ten_mono i 14 (omega arith))
 
--- ---- a bound for the number of a run, after a w of at most k digits
-digit_few : (b : ℕ) → is_digit b ≡ true → b - 48 < 10
-digit_few b e = ten b (leb→le b 57 (subst T (sym (nine (leb 48 b) (leb b 57) e)) tt))
-  where
-    nine : (x y : Bool) → (x && y) ≡ true → y ≡ true
-    nine true y e = e
-    nine false true e = refl
-    nine false false e = e
-
-    ten : (b : ℕ) → b ≤ 57 → b - 48 < 10
-    ten b h = omega arith
-
-none_few : (w k : ℕ) → w < 10 ^ k → digits_on w [] < 10 ^ (k + length {A = ℕ} [])
-none_few w k h = subst (λ (x : ℕ). x < 10 ^ (k + 0)) (sym (digits_none w)) (subst (λ (x : ℕ). w < 10 ^ x) (sym (add-zero k)) h)
-
-run_cons : (w k b : ℕ) (s : List ℕ) → w < 10 ^ k → ((w k : ℕ) → w < 10 ^ k → digits_on w (front is_digit s) < 10 ^ (k + length (front is_digit s)))
-    → (x : Bool) → is_digit b ≡ x → digits_on w (front is_digit (b ∷ s)) < 10 ^ (k + length (front is_digit (b ∷ s)))
-run_cons w k b s h more true e =
-    subst (λ (l : List ℕ). digits_on w l < 10 ^ (k + length l)) (sym (front_cons b s true e))
-    (subst (λ (x : ℕ). x < 10 ^ (k + suc (length (front is_digit s)))) (sym (digits_cons w b (front is_digit s)))
-    (subst (λ (x : ℕ). digits_on (w * 10 + (b - 48)) (front is_digit s) < 10 ^ x) (one k (length (front is_digit s)))
-    (more (w * 10 + (b - 48)) (k + 1) (next_small w (b - 48) k h (digit_few b e)))))
-  where
-    one : (k n : ℕ) → k + 1 + n ≡ k + suc n
-    one k n = omega arith
-run_cons w k b s h more false e = subst (λ (l : List ℕ). digits_on w l < 10 ^ (k + length l)) (sym (front_cons b s false e)) (none_few w k h)
-
-pub run_few : (w k : ℕ) (s : List ℕ) → w < 10 ^ k → digits_on w (front is_digit s) < 10 ^ (k + length (front is_digit s))
-unfolding front
-run_few w k [] h = none_few w k h
-run_few w k (b ∷ s) h = run_cons w k b s h (λ w k h. run_few w k s h) (is_digit b) refl
+pub fill_small : (k p v : ℕ) → k ≤ 14 → p ≡ 10 ^ k → v < 10 ^ k → (p ≤ 2 ^ 47) × (v < p)
+fill_small k p v h e f = (le_trans (le_of_eq e) (le_trans (ten_mono k 14 h) (lit≤ tt)), lt_of_lt_of_le f (le_of_eq (sym e)))

@@ -2,21 +2,20 @@
 use mathlib.Core.Path.{◌≡◌, sym, ap, ◌∙◌, subst}
 use mathlib.Core.Logic.{inl, inr}
 use mathlib.Core.List.{List}
-use mathlib.Core.Bool.{Bool, false, not, cond}
+use mathlib.Core.Bool.{Bool, false, not}
 use Prim.Native.Nat.{ℕ, ◌+◌, ◌-◌, ◌*◌, ◌/◌, ◌^◌, ◌≤◌, ◌<◌, min}
-use native.Mathlib.Nat.{le_trans, le_of_eq, le_of_lt, lt_of_le_of_lt, lt_of_lt_of_le, eq-zero-or-pos, one-mul, mul-one, mul_assoc, mul-le-mul_right, mul-le-mul_left, mul-lt-mul_of_pos_right, zero-mul, zero-lt-suc, div-one, mod-one, mul-div-mul_right}
+use native.Mathlib.Nat.{le_refl, le_trans, le_of_eq, le_of_lt, lt_of_le_of_lt, lt_of_lt_of_le, eq-zero-or-pos, one-mul, mul-one, mul_assoc, mul-le-mul_right, mul-le-mul_left, mul-lt-mul_of_pos_right, zero-mul, zero-lt-suc, div-one, mod-one, mul-div-mul_right}
 use native.Mathlib.Omega.{arith}
-use lib.Dec.{T, eqb, lit≤, not_T, eqb→eq}
-use lib.ListN.{length, drop}
+use lib.Dec.{eqb, lit≤}
+use lib.ListN.{length}
 use lib.Pow.{pow-add, pow_pos}
 use lib.Ieee.{binary32, to_bits}
-use lib.Ieee.Bits.{is_true, is_false}
 use lib.Ieee.Scale.{round_same}
-use Rattle.rules.specs.Analysis.{front}
 use Rattle.rules.specs.Numerals.{infinity, is_digit, digits_on, nearest}
 use Rattle.rules.proofs.Numerals.Nearest.{nearest_is, bound_infinity, bound_zero}
 use Rattle.boost.specs.Row.{up_to, value, limit, Times, Used, Quotient}
 use Rattle.boost.specs.Top.{left, Rounded}
+use Rattle.std.specs.List.{AllPass}
 use Rattle.boost.specs.Digits.{short_most, quick_most, number_of, Held, forty}
 use Rattle.boost.specs.Decimal.{Up, Down}
 use Rattle.boost.proofs.Divisions.{left_scale}
@@ -25,70 +24,47 @@ use Rattle.boost.proofs.Rooms.{room_tens}
 use Rattle.boost.proofs.Runs.{run_few}
 
 -- ---- the number of the digits
-pub number_whole : (s : List ℕ) (point places : ℕ) → places ≡ 0 → number_of s point places ≡ digits_on 0 (front is_digit s)
-unfolding number_of
-number_whole s point places e =
-    ap (λ (b : Bool). cond b (digits_on 0 (front is_digit s)) (digits_on (digits_on 0 (front is_digit s)) (front is_digit (drop (point + 1) s))))
-    (is_true (eqb places 0) (subst (λ (x : ℕ). T (eqb x 0)) (sym e) tt))
-
-pub number_both : (s : List ℕ) (point places : ℕ) → 0 < places → number_of s point places ≡ digits_on (digits_on 0 (front is_digit s)) (front is_digit (drop (point + 1) s))
-unfolding number_of
-number_both s point places h =
-    ap (λ (b : Bool). cond b (digits_on 0 (front is_digit s)) (digits_on (digits_on 0 (front is_digit s)) (front is_digit (drop (point + 1) s))))
-    (is_false (eqb places 0) (not_T (eqb places 0) (λ (t : T (eqb places 0)). no places h (eqb→eq places 0 t))))
-  where
-    no : (x : ℕ) → 0 < x → x ≡ 0 → ⊥
-    no x h e = omega arith
-
-pub whole_few : (s : List ℕ) → digits_on 0 (front is_digit s) < 10 ^ length (front is_digit s)
-whole_few s = subst (λ (x : ℕ). digits_on 0 (front is_digit s) < 10 ^ x) (go (length (front is_digit s))) (run_few 0 0 s (zero-lt-suc 0))
+pub whole_few : (whole : List ℕ) → AllPass is_digit whole → digits_on 0 whole < 10 ^ length whole
+whole_few whole a = subst (λ (x : ℕ). digits_on 0 whole < 10 ^ x) (go (length whole)) (run_few 0 0 whole a (zero-lt-suc 0))
   where
     go : (n : ℕ) → 0 + n ≡ n
     go n = omega arith
 
-pub held_digits : (s : List ℕ) (point places v : ℕ) → Held s point places v → number_of s point places < 10 ^ (point + places)
-held_digits s point places v g = elim (eq-zero-or-pos places) [
-  | inl z ↦ subst (λ (x : ℕ). x < 10 ^ (point + places)) (sym (number_whole s point places z))
-      (lt_of_lt_of_le (whole_few s) (ten_mono (length (front is_digit s)) (point + places) (le (length (front is_digit s)) point places g.whole)))
-  | inr p ↦ subst (λ (x : ℕ). x < 10 ^ (point + places)) (sym (number_both s point places p))
-      (lt_of_lt_of_le (run_few (digits_on 0 (front is_digit s)) point (drop (point + 1) s) (subst (λ (x : ℕ). digits_on 0 (front is_digit s) < 10 ^ x) (sym g.whole) (whole_few s)))
-      (le_of_eq (ap (λ (x : ℕ). 10 ^ (point + x)) (sym (g.fraction p)))))
-]
-  where
-    le : (n point places : ℕ) → point ≡ n → n ≤ point + places
-    le n point places e = omega arith
+module _ (whole fraction : List ℕ) (v : ℕ) (g : Held whole fraction v) where
+  pub held_few : number_of whole fraction < forty
+  unfolding forty
+  held_few = lt_of_lt_of_le (run_few (digits_on 0 whole) (length whole) fraction g.fraction_digits (whole_few whole g.whole_digits)) (ten_mono (length whole + length fraction) 40 g.few)
 
-pub held_few : (s : List ℕ) (point places v : ℕ) → Held s point places v → length s ≤ 40 → number_of s point places < forty
-unfolding forty
-held_few s point places v g h = lt_of_lt_of_le (held_digits s point places v g) (ten_mono (point + places) 40 (le_trans g.within h))
+  pub places_most : length fraction ≤ 40
+  places_most = omega (arith, g.few)
 
--- what is cut off nowhere is the number itself
-pub held_is : (s : List ℕ) (point places v : ℕ) → Held s point places v → v < short_most → number_of s point places ≡ v
-held_is s point places v g h = go v (number_of s point places) g.is h
-  where
-    go : (v n : ℕ) → v ≡ min n short_most → v < short_most → n ≡ v
-    go v n e h = omega arith
+  pub held_zero : v ≡ 0 → number_of whole fraction ≡ 0
+  held_zero e = go v (number_of whole fraction) g.is e
+    where
+      go : (v n : ℕ) → v ≡ min n short_most → v ≡ 0 → n ≡ 0
+      go v n e h = omega arith
 
-pub held_zero : (s : List ℕ) (point places v : ℕ) → Held s point places v → v ≡ 0 → number_of s point places ≡ 0
-held_zero s point places v g e = go v (number_of s point places) g.is e
-  where
-    go : (v n : ℕ) → v ≡ min n short_most → v ≡ 0 → n ≡ 0
-    go v n e h = omega arith
+  pub held_some : (v ≡ 0 → ⊥) → 0 < number_of whole fraction
+  held_some h = go v (number_of whole fraction) g.is h
+    where
+      go : (v n : ℕ) → v ≡ min n short_most → (v ≡ 0 → ⊥) → 0 < n
+      go v n e h = elim (eq-zero-or-pos n) [ inl z ↦ absurd (h (less v n e z)) | inr p ↦ p ]
+        where
+          less : (v n : ℕ) → v ≡ min n short_most → n ≡ 0 → v ≡ 0
+          less v n e z = omega arith
 
-pub places_most : (s : List ℕ) (point places v : ℕ) → Held s point places v → length s ≤ 40 → places ≤ 40
-places_most s point places v g h = go point places (length s) g.within h
-  where
-    go : (p k n : ℕ) → p + k ≤ n → n ≤ 40 → k ≤ 40
-    go p k n e h = omega arith
+  -- what is not for the short way has 25 places
+  pub much_digits : (n : ℕ) → quick_most ≤ v → 2 ^ 24 ≤ number_of whole fraction * 10 ^ n
+  much_digits n h = le_trans (go v (number_of whole fraction) g.is h) (le_trans (le_of_eq (sym (mul-one (number_of whole fraction)))) (mul-le-mul_left (number_of whole fraction) (ten_pos n)))
+    where
+      go : (v n : ℕ) → v ≡ min n short_most → quick_most ≤ v → 2 ^ 24 ≤ n
+      go v n e h = omega arith
 
-pub held_some : (s : List ℕ) (point places v : ℕ) → Held s point places v → (v ≡ 0 → ⊥) → 0 < number_of s point places
-held_some s point places v g h = go v (number_of s point places) g.is h
-  where
-    go : (v n : ℕ) → v ≡ min n short_most → (v ≡ 0 → ⊥) → 0 < n
-    go v n e h = elim (eq-zero-or-pos n) [ inl z ↦ absurd (h (less v n e z)) | inr p ↦ p ]
-      where
-        less : (v n : ℕ) → v ≡ min n short_most → n ≡ 0 → v ≡ 0
-        less v n e z = omega arith
+  pub much_tens : (n : ℕ) → 0 < v → 8 ≤ n → 2 ^ 24 ≤ number_of whole fraction * 10 ^ n
+  much_tens n h k = le_trans (lit≤ tt) (le_trans (ten_mono 8 n k) (le_trans (le_of_eq (sym (one-mul (10 ^ n)))) (mul-le-mul_right (10 ^ n) (go v (number_of whole fraction) g.is h))))
+    where
+      go : (v n : ℕ) → v ≡ min n short_most → 0 < v → 1 ≤ n
+      go v n e h = omega arith
 
 -- ---- by a row
 -- N over 10 ^ n: in half units, times 2 ^ (150 - n) and over 5 ^ n
@@ -122,25 +98,15 @@ module _ (N n : ℕ) (xs ys : List ℕ) (len : ℕ) (e : value xs ≡ N * 0x1_00
 pub above_room : (N n x : ℕ) → x ≡ N * 0x1_0000 ^ 0 → N < forty → n < 39 → x * 10 ^ n < limit
 above_room N n x e h k = lt_of_le_of_lt (le_of_eq (ap (λ (y : ℕ). y * 10 ^ n) (e ∙ mul-one N))) (room_tens N n h k)
 
--- what is not for the short way has 25 places
-pub much_digits : (s : List ℕ) (point places v n : ℕ) → Held s point places v → quick_most ≤ v → 2 ^ 24 ≤ number_of s point places * 10 ^ n
-much_digits s point places v n g h = le_trans (go v (number_of s point places) g.is h) (le_trans (le_of_eq (sym (mul-one (number_of s point places)))) (mul-le-mul_left (number_of s point places) (ten_pos n)))
-  where
-    go : (v n : ℕ) → v ≡ min n short_most → quick_most ≤ v → 2 ^ 24 ≤ n
-    go v n e h = omega arith
-
-pub much_tens : (s : List ℕ) (point places v n : ℕ) → Held s point places v → 0 < v → 8 ≤ n → 2 ^ 24 ≤ number_of s point places * 10 ^ n
-much_tens s point places v n g h k = le_trans (lit≤ tt) (le_trans (ten_mono 8 n k) (le_trans (le_of_eq (sym (one-mul (10 ^ n)))) (mul-le-mul_right (10 ^ n) (go v (number_of s point places) g.is h))))
-  where
-    go : (v n : ℕ) → v ≡ min n short_most → 0 < v → 1 ≤ n
-    go v n e h = omega arith
-
 pub nearest_within : (num den r : ℕ) → 0 < den → r ≡ nearest num den → r ≤ infinity
 nearest_within num den r D e = subst (λ (x : ℕ). x ≤ infinity) (sym e) (nearest_is num den D).within
 
 nearest_same : (a b c d : ℕ) → 0 < b → 0 < d → a * d ≡ c * b → nearest a b ≡ nearest c d
 unfolding nearest
 nearest_same a b c d B D e = ap (to_bits binary32) (round_same binary32 false a b c d B D e)
+
+zero_within : 0 ≤ infinity
+zero_within = lit≤ tt
 
 -- ---- `scaled_up`
 uncut : (X x c : ℕ) → x ≡ min X short_most → x < c → c ≤ short_most → X ≡ x
@@ -151,6 +117,7 @@ split d a b c e = ap (λ (y : ℕ). d * y) (ap (λ (y : ℕ). 10 ^ y) (sym e) �
 
 pub up_below : (d x f r : ℕ) → x ≤ f → f ≤ 40 → r ≡ nearest d (10 ^ (f - x)) → Up d x f r
 up_below d x f r l k h = record {
+  within = nearest_within d (10 ^ (f - x)) r (ten_pos (f - x)) h;
   is = λ X e. h ∙ nearest_same d (10 ^ (f - x)) (d * 10 ^ x) (10 ^ f) (ten_pos (f - x)) (ten_pos f) (split d x (f - x) f (go x f l))
       ∙ ap (λ (y : ℕ). nearest (d * 10 ^ y) (10 ^ f)) (sym (uncut X x 41 e (few x f l k) (lit≤ tt)));
 }
@@ -163,6 +130,7 @@ up_below d x f r l k h = record {
 
 pub up_above : (d x f r : ℕ) → f ≤ x → f ≤ 40 → x - f < 39 → r ≡ nearest (d * 10 ^ (x - f)) 1 → Up d x f r
 up_above d x f r l k m h = record {
+  within = nearest_within (d * 10 ^ (x - f)) 1 r (zero-lt-suc 0) h;
   is = λ X e. h ∙ nearest_same (d * 10 ^ (x - f)) 1 (d * 10 ^ x) (10 ^ f) (zero-lt-suc 0) (ten_pos f) (sym (split d (x - f) f x (go x f l)) ∙ sym (mul-one (d * 10 ^ x)))
       ∙ ap (λ (y : ℕ). nearest (d * 10 ^ y) (10 ^ f)) (sym (uncut X x 79 e (few x f k m) (lit≤ tt)));
 }
@@ -175,6 +143,7 @@ up_above d x f r l k m h = record {
 
 pub up_zero : (d x f : ℕ) → d ≡ 0 → Up d x f 0
 up_zero d x f e = record {
+  within = zero_within;
   is = λ X g. sym (bound_zero (d * 10 ^ X) (10 ^ f) (ten_pos f)
       (le_trans (le_of_eq (ap (λ (y : ℕ). y * 10 ^ X * 2 ^ 150) e ∙ ap (λ (y : ℕ). y * 2 ^ 150) (zero-mul (10 ^ X)) ∙ zero-mul (2 ^ 150))) (none (10 ^ f))));
 }
@@ -184,6 +153,7 @@ up_zero d x f e = record {
 
 pub up_huge : (d x f : ℕ) → 0 < d → f ≤ x → 39 ≤ x - f → Up d x f infinity
 up_huge d x f D l m = record {
+  within = le_refl infinity;
   is = λ X e. sym (bound_infinity (d * 10 ^ X) (10 ^ f) (ten_pos f)
       (le_trans (mul-le-mul_right (10 ^ f) over) (le_trans (le_of_eq (sym (pow-add 10 39 f))) (le_trans (ten_mono (39 + f) X (go X x f e l m)) (le_trans (le_of_eq (sym (one-mul (10 ^ X)))) (mul-le-mul_right (10 ^ X) D))))));
 }
@@ -200,13 +170,14 @@ unfolding forty
 less_86 d h = le_of_lt (lt_of_lt_of_le (mul-lt-mul_of_pos_right (lt_of_le_of_lt (le_of_eq (mul-one d)) h) (pow_pos 150)) (lit≤ tt))
 
 pub down_tiny : (d x f : ℕ) → d < forty → 85 < f + x → Down d x f 0
-down_tiny d x f h l = record { is = λ X e. sym (bound_zero (d * 10 ^ 0) (10 ^ (f + X)) (ten_pos (f + X)) (le_trans (less_86 d h) (ten_mono 86 (f + X) (go X x f e l)))) }
+down_tiny d x f h l = record { within = zero_within; is = λ X e. sym (bound_zero (d * 10 ^ 0) (10 ^ (f + X)) (ten_pos (f + X)) (le_trans (less_86 d h) (ten_mono 86 (f + X) (go X x f e l)))) }
   where
     go : (X x f : ℕ) → x ≡ min X short_most → 85 < f + x → 86 ≤ f + X
     go X x f e l = omega arith
 
 pub down_below : (d x f r : ℕ) → f + x ≤ 85 → r ≡ nearest d (10 ^ (f + x)) → Down d x f r
 down_below d x f r l h = record {
+  within = nearest_within d (10 ^ (f + x)) r (ten_pos (f + x)) h;
   is = λ X e. h ∙ ap (λ (y : ℕ). nearest y (10 ^ (f + x))) (sym (mul-one d)) ∙ ap (λ (y : ℕ). nearest (d * 10 ^ 0) (10 ^ (f + y))) (sym (uncut X x 86 e (go x f l) (lit≤ tt)));
 }
   where

@@ -3,11 +3,11 @@ use mathlib.Core.Path.{◌≡◌, refl, sym, ap, ◌∙◌, subst}
 use mathlib.Core.List.{List}
 use mathlib.Core.Bool.{Bool, false, not, ◌||◌}
 use Prim.Native.Nat.{ℕ, zero, suc, ◌+◌, ◌-◌, ◌*◌, ◌/◌, ◌%◌, ◌^◌, ◌≤◌, ◌<◌, zero-le}
-use native.Mathlib.Nat.{le_trans, le_of_eq, lt_of_le_of_lt, lt_of_lt_of_le, mul-one, mul_comm, mul_assoc, mul-le-mul_left, pow-suc, pow-le-pow_right, div-one, mod-one, mul-div-mul_right, zero-mul, add-zero, mod-eq_of_lt}
+use native.Mathlib.Nat.{le_trans, le_of_eq, lt_of_le_of_lt, lt_of_lt_of_le, mul-one, mul_comm, mul_assoc, mul-le-mul_left, pow-suc, pow-le-pow_right, div-one, mod-one, mul-div-mul_right, zero-mul, add-zero}
 use native.Mathlib.Omega.{arith}
 use lib.Dec.{eqb, lit<, lit≤}
 use lib.Pow.{pow-add, pow_pos}
-use Rattle.boost.specs.Row.{up_to, value, limit, Row, Scaled, Times, Divided, Topped, Used, Quotient}
+use Rattle.boost.specs.Row.{up_to, value, limit, Scaled, Times, Divided, Topped, Used, Quotient}
 use Rattle.boost.specs.Top.{left}
 use Rattle.boost.proofs.Divisions.{floor_floor, left_left, left_scale}
 
@@ -25,12 +25,6 @@ pub five_pos : (k : ℕ) → 0 < 5 ^ k
 five_pos k = lt_of_lt_of_le (lit< tt) (five_mono 0 k zero-le)
 
 -- a number that no smaller one is
-pub more : (n k : ℕ) → k ≤ n → (n ≡ k → ⊥) → suc k ≤ n
-more n k h e = omega arith
-
-pub least : (n k : ℕ) → n ≤ k → k ≤ n → n ≡ k
-least n k h l = omega arith
-
 -- ten is five times two
 pub ten_five : (n : ℕ) → 10 ^ n ≡ 5 ^ n * 2 ^ n
 ten_five zero = refl
@@ -39,17 +33,12 @@ ten_five (suc n) = pow-suc 10 n ∙ ap (λ (x : ℕ). x * 10) (ten_five n) ∙ s
     sum : (a b : ℕ) → a * b * 10 ≡ a * 5 * (b * 2)
     sum a b = let e : a * 5 * b ≡ a * b * 5 = mul_assoc a 5 b ∙ ap (λ (x : ℕ). a * x) (mul_comm 5 b) ∙ sym (mul_assoc a b 5) in let f : a * 5 * (b * 2) ≡ a * 5 * b * 2 = sym (mul_assoc (a * 5) b 2) in omega arith
 
--- the machine's shift
-pub shifted_five : (n r : ℕ) → n ≤ 14 → r ≡ 5 ^ n → r * 2 ^ n % 2 ^ 64 ≡ 10 ^ n
-shifted_five n r h e = ap (λ (x : ℕ). x % 2 ^ 64) (ap (λ (x : ℕ). x * 2 ^ n) e ∙ sym (ten_five n)) ∙ mod-eq_of_lt (lt_of_le_of_lt (ten_mono n 14 h) (lit< tt))
-
 -- a power of the sum of two
 join : (b i j k : ℕ) → i + j ≡ k → b ^ i * b ^ j ≡ b ^ k
 join b i j k e = sym (pow-add b i j) ∙ ap (λ (x : ℕ). b ^ x) e
 
 -- ---- `tens`
 pub record Tens (xs ys : List ℕ) (n j : ℕ) : Type 0 where
-  pub row : Row ys
   pub is : value ys * 10 ^ j ≡ value xs * 10 ^ n
 
 pub tens_room : (xs ys : List ℕ) (n j c m : ℕ) → Tens xs ys n j → value xs * 10 ^ n < limit → c ≤ j → m ≡ 10 ^ c → value ys * m + 0 * 0x1_0000 ^ 0 < limit
@@ -59,7 +48,6 @@ tens_room xs ys n j c m g h l e =
 
 pub tens_next : (xs ys zs : List ℕ) (n j c m : ℕ) → Tens xs ys n j → c ≤ j → m ≡ 10 ^ c → Scaled ys zs 0 m 0 → Tens xs zs n (j - c)
 tens_next xs ys zs n j c m g h e t = record {
-  row = t.row;
   is = ap (λ (x : ℕ). x * 10 ^ (j - c)) (t.is ∙ ap (λ (x : ℕ). value ys * m + x) (zero-mul (0x1_0000 ^ 0)) ∙ add-zero (value ys * m) ∙ ap (λ (x : ℕ). value ys * x) e)
       ∙ mul_assoc (value ys) (10 ^ c) (10 ^ (j - c)) ∙ ap (λ (x : ℕ). value ys * x) (join 10 c (j - c) j (go c j h)) ∙ g.is;
 }
@@ -68,7 +56,7 @@ tens_next xs ys zs n j c m g h e t = record {
     go c j h = omega arith
 
 pub tens_last : (xs ys : List ℕ) (n j : ℕ) → Tens xs ys n j → j ≤ 0 → Times xs ys (10 ^ n)
-tens_last xs ys n j g h = record { row = g.row; is = sym (mul-one (value ys)) ∙ ap (λ (x : ℕ). value ys * 10 ^ x) (sym (go j h)) ∙ g.is }
+tens_last xs ys n j g h = record { is = sym (mul-one (value ys)) ∙ ap (λ (x : ℕ). value ys * 10 ^ x) (sym (go j h)) ∙ g.is }
   where
     go : (j : ℕ) → j ≤ 0 → j ≡ 0
     go j h = omega arith
@@ -78,32 +66,26 @@ ten_factor c m h e = (le_trans (le_of_eq e) (le_trans (ten_mono c 14 h) (lit≤ 
 
 -- ---- `fives`
 pub record Fives (xs ys : List ℕ) (n j len : ℕ) (b : Bool) : Type 0 where
-  pub row : Row ys
   pub within : len ≤ 18
   pub top : Topped ys len
   pub done : j ≤ n
   pub is : up_to ys len ≡ value xs / 5 ^ (n - j)
   pub rest : b ≡ left (value xs) (5 ^ (n - j))
 
-pub fives_first : (xs : List ℕ) (n len : ℕ) → Row xs → Used xs 18 len → Fives xs xs n n len false
-fives_first xs n len r u = record {
-  row = r;
+pub fives_first : (xs : List ℕ) (n j len : ℕ) → j ≡ n → Used xs 18 len → Fives xs xs n j len false
+fives_first xs n j len e u = record {
   within = u.within;
   top = u.top;
-  done = same n;
-  is = u.is ∙ sym (ap (λ (x : ℕ). value xs / 5 ^ x) (none n) ∙ div-one (value xs));
-  rest = sym (ap (λ (x : ℕ). left (value xs) (5 ^ x)) (none n) ∙ ap (λ (x : ℕ). not (eqb x 0)) (mod-one (value xs)));
+  done = le_of_eq e;
+  is = u.is ∙ sym (ap (λ (x : ℕ). value xs / 5 ^ x) (none n j e) ∙ div-one (value xs));
+  rest = sym (ap (λ (x : ℕ). left (value xs) (5 ^ x)) (none n j e) ∙ ap (λ (x : ℕ). not (eqb x 0)) (mod-one (value xs)));
 }
   where
-    none : (n : ℕ) → n - n ≡ 0
-    none n = omega arith
-
-    same : (n : ℕ) → n ≤ n
-    same n = omega arith
+    none : (n j : ℕ) → j ≡ n → n - j ≡ 0
+    none n j e = omega arith
 
 pub fives_next : (xs ys zs : List ℕ) (n j len c f r l : ℕ) (b more : Bool) → Fives xs ys n j len b → c ≤ j → f ≡ 5 ^ c → Divided ys zs len f r → Used zs len l → more ≡ b || not (eqb r 0) → Fives xs zs n (j - c) l more
 fives_next xs ys zs n j len c f r l b more g h e d u m = record {
-  row = d.row;
   within = le_trans u.within g.within;
   top = u.top;
   done = less n j c g.done;
@@ -124,7 +106,6 @@ fives_next xs ys zs n j len c f r l b more g h e d u m = record {
 
 pub fives_last : (xs ys : List ℕ) (n j len : ℕ) (b : Bool) → Fives xs ys n j len b → j ≡ 0 → Quotient xs ys n len b
 fives_last xs ys n j len b g e = record {
-  row = g.row;
   within = g.within;
   top = g.top;
   is = g.is ∙ ap (λ (x : ℕ). value xs / 5 ^ x) (all n j e);

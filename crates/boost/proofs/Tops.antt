@@ -182,9 +182,6 @@ module _ (w : ℕ) (below : Bool) (c : ℕ) (h : w < 2 ^ 63) (s : (2 ^ 24 ≤ w)
   unit_is : u ≡ 2 ^ (39 - count_leading_zeros 64 w)
   unit_is = ap (λ (x : ℕ). 1 * 2 ^ x % 2 ^ 64) K ∙ shifted_one (39 - count_leading_zeros 64 w) (drops_few w below c h s)
 
-  pub unit_pos : 0 < u
-  unit_pos = subst (λ (x : ℕ). 0 < x) (sym unit_is) (pow_pos (39 - count_leading_zeros 64 w))
-
   pub unit_few : k < 40
   unit_few = subst (λ (x : ℕ). x < 40) (sym K) (drops_few w below c h s)
 

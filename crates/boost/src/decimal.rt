@@ -3,8 +3,7 @@
 // An exponent comes cut off at 2^56: so far out the size alone decides.
 ghost use Rattle.std.specs.Prelude.{◌≡◌, ◌*◌, ◌^◌, ◌<◌, ◌≤◌, length};
 ghost use Rattle.rules.specs.Numerals.{nearest};
-ghost use Rattle.boost.specs.Digits.{short_most, number_of, Held};
-ghost use Rattle.boost.specs.Decimal.{Up, Down};
+ghost use Rattle.boost.specs.Decimal.{number, Up, Down};
 
 use crate::digits::{Digits, SHORT_MOST};
 use crate::quick::QUICK_MOST;
@@ -21,110 +20,80 @@ const ABOVE_ALL: u64 = 39;
 const BELOW_MOST: u64 = 85;
 
 // The pattern nearest to the digits' number over 10^n, by a row. Ten is twice five: over 10^n and in half units is times 2^(150 - n), over 5^n.
-fn below_by_row(s: &[u8], d: Digits, n: u32) -> u32
-    requires held { Held s.now d.point d.places d.value }
-    requires s_len_bound { length s.now ≤ 40 }
-    requires n_bound { n < 86 }
-    ensures { result ≡ nearest (number_of s.now d.point d.places) (10 ^ n) }
+fn below_by_row(d: &Digits, n: u32) -> u32
+    requires { n < 86 }
+    ensures { result ≡ nearest (number d.now) (10 ^ n) }
 {
     let places = HALF_UNIT_PLACES - n;
     let from = (places / WORD_BITS) as usize;
-    let mut row = crate::digits::number(s, d, from);
+    let mut row = crate::digits::number(d, from);
     crate::row::scale(&mut row, from, 1u64 << (places % WORD_BITS), 0);
     let q = crate::row::fives(&mut row, n);
     crate::top::pattern(&row, q.len, q.left, 0)
 }
 
 // The pattern nearest to the digits' number times 10^n, by a row.
-fn above_by_row(s: &[u8], d: Digits, n: u32) -> u32
-    requires held { Held s.now d.point d.places d.value }
-    requires s_len_bound { length s.now ≤ 40 }
+fn above_by_row(d: &Digits, n: u32) -> u32
     requires n_bound { n < 39 }
-    requires bound { 2 ^ 24 ≤ number_of s.now d.point d.places * 10 ^ n }
-    ensures { result ≡ nearest (number_of s.now d.point d.places * 10 ^ n) 1 }
+    requires enough_places { 2 ^ 24 ≤ number d.now * 10 ^ n }
+    ensures { result ≡ nearest (number d.now * 10 ^ n) 1 }
 {
-    let mut row = crate::digits::number(s, d, 0);
+    let mut row = crate::digits::number(d, 0);
     crate::row::tens(&mut row, n);
     let len = crate::row::used(&row, WORDS);
     crate::top::pattern(&row, len, false, HALF_UNIT_PLACES)
 }
 
-// The same as below_by_row, by one division where the digits are few.
-fn below_by_parts(s: &[u8], d: Digits, n: u32) -> u32
-    requires held { Held s.now d.point d.places d.value }
-    requires s_len_bound { length s.now ≤ 40 }
-    requires n_bound { n < 86 }
-    ensures { result ≡ nearest (number_of s.now d.point d.places) (10 ^ n) }
+// The same, by one division where the digits and the power are small.
+fn below(d: &Digits, n: u32) -> u32
+    requires { n < 86 }
+    ensures { result ≡ nearest (number d.now) (10 ^ n) }
 {
-    if n < crate::wide::POWERS {
-        if d.value < SHORT_MOST {
-            return crate::wide::quotient(d.value, n);
-        }
-        return below_by_row(s, d, n);
+    if d.value < QUICK_MOST && n < crate::quick::POWERS {
+        return crate::quick::quotient(d.value as u32, n);
     }
-    below_by_row(s, d, n)
+    if d.value < SHORT_MOST && n < crate::wide::POWERS {
+        return crate::wide::quotient(d.value, n);
+    }
+    below_by_row(d, n)
 }
 
-fn below(s: &[u8], d: Digits, n: u32) -> u32
-    requires held { Held s.now d.point d.places d.value }
-    requires s_len_bound { length s.now ≤ 40 }
-    requires n_bound { n < 86 }
-    ensures { result ≡ nearest (number_of s.now d.point d.places) (10 ^ n) }
-{
-    if n < crate::quick::POWERS {
-        if d.value < QUICK_MOST {
-            return crate::quick::quotient(d.value as u32, n);
-        }
-        return below_by_parts(s, d, n);
-    }
-    below_by_parts(s, d, n)
-}
-
-fn above(s: &[u8], d: Digits, n: u32) -> u32
-    requires held { Held s.now d.point d.places d.value }
-    requires s_len_bound { length s.now ≤ 40 }
+// The pattern nearest to the digits' number times 10^n, by one product where both are small.
+fn above(d: &Digits, n: u32) -> u32
     requires n_bound { n < 39 }
-    requires value_nonzero { 0 < d.value }
-    ensures { result ≡ nearest (number_of s.now d.point d.places * 10 ^ n) 1 }
+    requires value_nonzero { 0 < d.now.value }
+    ensures { result ≡ nearest (number d.now * 10 ^ n) 1 }
 {
-    if n < crate::quick::POWERS {
-        if d.value < QUICK_MOST {
-            return crate::quick::multiple(d.value as u32, n);
-        }
-        return above_by_row(s, d, n);
+    if d.value < QUICK_MOST && n < crate::quick::POWERS {
+        return crate::quick::multiple(d.value as u32, n);
     }
-    above_by_row(s, d, n)
+    above_by_row(d, n)
 }
 
 // The pattern nearest to the digits' number times 10^x, the point counted.
-pub fn scaled_up(s: &[u8], d: Digits, x: u64) -> u32
-    requires held { Held s.now d.point d.places d.value }
-    requires s_len_bound { length s.now ≤ 40 }
-    ensures { Up (number_of s.now d.point d.places) x d.places result }
+pub fn scaled_up(d: &Digits, x: u64) -> u32
+    ensures { Up (number d.now) x (length d.now.fraction.now) result }
 {
-    let f = d.places as u64;
-    if x <= f {
-        return below(s, d, (f - x) as u32);
+    let places = d.fraction.len() as u64;
+    if x <= places {
+        return below(d, (places - x) as u32);
     }
     if d.value == 0 {
         return 0;
     }
-    if x - f < ABOVE_ALL {
-        return above(s, d, (x - f) as u32);
+    if x - places < ABOVE_ALL {
+        return above(d, (x - places) as u32);
     }
     INFINITY
 }
 
 // The pattern nearest to the digits' number over 10^x, the point counted.
-pub fn scaled_down(s: &[u8], d: Digits, x: u64) -> u32
-    requires held { Held s.now d.point d.places d.value }
-    requires s_len_bound { length s.now ≤ 40 }
-    requires x_le_short_most { x ≤ short_most }
-    ensures { Down (number_of s.now d.point d.places) x d.places result }
+pub fn scaled_down(d: &Digits, x: u64) -> u32
+    ensures { Down (number d.now) x (length d.now.fraction.now) result }
 {
-    let n = d.places as u64 + x;
-    if BELOW_MOST < n {
+    let n = x.saturating_add(d.fraction.len() as u64);
+    if n > BELOW_MOST {
         return 0;
     }
-    below(s, d, n as u32)
+    below(d, n as u32)
 }

@@ -1,64 +1,31 @@
-// The digits of a numeral. A first reading gives where they end and their number, cut off at 2^56: that is all a short numeral needs.
+// The digits of a numeral. A first reading gives them and their number, cut off at 2^56: that is all a short numeral needs.
 // A longer one has its digits read again, whole, into a row.
-ghost use Rattle.std.specs.Prelude.{◌≡◌, ◌+◌, ◌*◌, ◌<◌, ◌≤◌, min, length, get_or};
-ghost use Rattle.boost.specs.Digits.{short_most, Reading, DigitAt, MoreAt, Taken, Holds, Filled, Held, NumberRow};
+ghost use Rattle.std.specs.Prelude.{◌≡◌, ◌+◌, ◌-◌, ◌*◌, ◌^◌, ◌<◌, ◌≤◌, min, length};
+ghost use Rattle.std.specs.List.{AllPass};
+ghost use Rattle.rules.specs.Numerals.{is_digit, digits_on};
+ghost use Rattle.boost.specs.Digits.{short_most, Reading, Holds, Filled, Held, number_of, NumberRow};
 
+use crate::powers::TENS_MOST;
 use crate::row::{WORDS, Words};
 
 // From here on the number of a run of digits is cut off.
 pub const SHORT_MOST: u64 = 0x100_0000_0000_0000;
 
-// Digits are taken into a row at once up to ten times this, a factor that a row takes.
-const TAKEN_MOST: u64 = 10000000000000;
-
-// A run of digits: its number cut off at 2^56, and where it ends.
+// The digits that a text begins with: their number, cut off at 2^56, and what follows them.
 #[derive(Drop)]
-pub struct Run {
+pub struct Run<'a> {
+    pub digits: &'a [u8],
     pub value: u64,
-    pub end: usize,
+    pub rest: &'a [u8],
 }
 
-// A numeral's digits: where its point is or would be, how many stand behind the point, their number cut off at 2^56, and where they end.
+// A numeral's digits before its point and behind it, and their number, cut off at 2^56.
 #[derive(Drop)]
-pub struct Digits {
-    pub point: usize,
-    pub places: u32,
+pub struct Digits<'a> {
+    pub whole: &'a [u8],
+    pub fraction: &'a [u8],
     pub value: u64,
-    pub end: usize,
-}
-
-// Digits that are taken at once: their number, the power of ten above it, and where they end.
-#[derive(Drop)]
-struct Taking {
-    value: u64,
-    power: u64,
-    end: usize,
-}
-
-fn is_digit_at(s: &[u8], i: usize) -> bool
-    ensures { DigitAt s.now i result }
-{
-    if i < s.len() {
-        let b = s[i];
-        if b < b'0' {
-            return false;
-        }
-        return b <= b'9';
-    }
-    false
-}
-
-fn digit_at(s: &[u8], i: usize) -> u64
-    requires { (i < length s.now) × (48 ≤ get_or s.now i 0) × (get_or s.now i 0 ≤ 57) }
-    ensures { (result + 48 ≡ get_or s.now i 0) × (result < 10) }
-{
-    (s[i] - b'0') as u64
-}
-
-fn cut_off(x: u64) -> u64
-    ensures { result ≡ min x short_most }
-{
-    if x < SHORT_MOST { x } else { SHORT_MOST }
+    ghost held: { Held whole.now fraction.now value },
 }
 
 // One more digit, where the number before it is short.
@@ -66,86 +33,65 @@ fn one_more(v: u64, d: u64) -> u64
     requires { d < 10 }
     ensures { (v < short_most → result ≡ v * 10 + d) × (short_most ≤ v → result ≡ v) }
 {
-    if v < SHORT_MOST {
-        return v * 10 + d;
+    if v < SHORT_MOST { v * 10 + d } else { v }
+}
+
+// The digits that the text begins with, read after the number `start`.
+pub fn read(s: &[u8], start: u64) -> Run
+    ensures { Reading s.now start result.digits.now result.value result.rest.now }
+{
+    let mut v = start;
+    let mut rest = s;
+    while let [c @ b'0'..=b'9', after @ ..] = rest {
+        v = one_more(v, (*c - b'0') as u64);
+        rest = after;
+    }
+    Run {
+        digits: &s[..s.len() - rest.len()],
+        value: v.min(SHORT_MOST),
+        rest: rest,
+    }
+}
+
+// The number of a few digits.
+fn number_of(digits: &[u8]) -> u64
+    requires few { length digits.now ≤ 14 }
+    requires digits { AllPass is_digit digits.now }
+    ensures number { result ≡ digits_on 0 digits.now }
+    ensures small { result < 10 ^ length digits.now }
+{
+    let mut v = 0u64;
+    for c in digits {
+        v = v * 10 + (*c - b'0') as u64;
     }
     v
 }
 
-// The digits from `at` on, read after the number `start`.
-pub fn read(s: &[u8], at: usize, start: u64) -> Run
-    requires { at ≤ length s.now }
-    ensures { Reading s.now at start result.value result.end }
+// The digits are read into the row, some at once, after the number that is there from the word `from` on.
+fn fill(row: &mut Words, from: usize, digits: &[u8])
+    requires digits { AllPass is_digit digits.now }
+    requires few { length digits.now ≤ 40 }
+    requires holds { Holds row.old from (40 - length digits.now) }
+    requires from_bound { from ≤ 9 }
+    ensures { Filled digits.now from row.old row.new }
 {
-    let mut v = start;
-    let mut i = at;
-    while is_digit_at(s, i) {
-        v = one_more(v, digit_at(s, i));
-        i += 1;
-    }
-    Run {
-        value: cut_off(v),
-        end: i,
-    }
-}
-
-// Is there one more digit to be taken, below the power p?
-fn more_at(s: &[u8], i: usize, p: u64) -> bool
-    ensures { MoreAt s.now i p result }
-{
-    if TAKEN_MOST < p {
-        return false;
-    }
-    is_digit_at(s, i)
-}
-
-// Some of the digits from `at` on, at least one if there are any.
-fn take(s: &[u8], at: usize) -> Taking
-    requires { at ≤ length s.now }
-    ensures { Taken s.now at result.value result.power result.end }
-{
-    let mut v = 0u64;
-    let mut p = 1u64;
-    let mut i = at;
-    while more_at(s, i, p) {
-        v = v * 10 + digit_at(s, i);
-        p = p * 10;
-        i += 1;
-    }
-    Taking {
-        value: v,
-        power: p,
-        end: i,
-    }
-}
-
-// The digits from `at` on are read into the row, after the number that is there from the word `from` on.
-fn fill(row: &mut Words, from: usize, s: &[u8], at: usize)
-    requires holds { (Holds row.old from at) × (from ≤ 9) }
-    requires at_in_bounds { (at ≤ length s.now) × (length s.now ≤ 40) }
-    ensures { Filled s.now at from row.old row.new }
-{
-    let mut i = at;
-    while is_digit_at(s, i) {
-        let t = take(s, i);
-        crate::row::scale(row, from, t.power, t.value);
-        i = t.end;
+    let mut rest = digits;
+    while !rest.is_empty() {
+        let (some, others) = rest.split_at(rest.len().min(TENS_MOST as usize));
+        let power = crate::powers::ten(some.len() as u32);
+        crate::row::scale(row, from, power, number_of(some));
+        rest = others;
     }
 }
 
 // The number of all a numeral's digits, in a row, from the word `from` on.
-pub fn number(s: &[u8], d: Digits, from: usize) -> Words
-    requires held { Held s.now d.point d.places d.value }
-    requires s_len_bound { length s.now ≤ 40 }
-    requires from_bound { from ≤ 9 }
-    ensures { NumberRow s.now d.point d.places from result }
+pub fn number(d: &Digits, from: usize) -> Words
+    requires { from ≤ 9 }
+    ensures { NumberRow (number_of d.now.whole.now d.now.fraction.now) from result }
 {
+    // Stays: all words count, and those that are not used are 0; no heap holds a number of this size.
     let mut row = [0u16; WORDS];
-    fill(&mut row, from, s, 0);
-    if d.places == 0 {
-        return row;
-    }
-    let behind = d.point + 1;
-    fill(&mut row, from, s, behind);
+    fill(&mut row, from, d.whole);
+    fill(&mut row, from, d.fraction);
     row
 }

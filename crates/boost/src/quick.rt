@@ -20,6 +20,7 @@ fn ten(n: u32) -> f32
 }
 
 // The pattern nearest to d / 10^n.
+// Stays: `quotient` and `multiple` differ in their operator and in what it rounds; one function over a closure would be longer than the two lines. `n < 8` is a bound of one number, for which a type would want a constructor with its proof at each call.
 pub fn quotient(d: u32, n: u32) -> u32
     requires d_lt_quick_most { d < quick_most }
     requires n_bound { n < 8 }

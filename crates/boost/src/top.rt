@@ -1,7 +1,7 @@
 // One rounding: the pattern nearest to a number of which the highest places are known, and whether anything lies below them.
 ghost use Rattle.std.specs.Prelude.{◌≡◌, ◌⊎◌, not, ◌||◌, ◌+◌, ◌-◌, ◌^◌, ◌<◌, ◌≤◌, eqb};
 ghost use Rattle.std.specs.Int.Count.{count_leading_zeros};
-ghost use Rattle.boost.specs.Row.{up_to, Row, Highest, Topped};
+ghost use Rattle.boost.specs.Row.{up_to, Highest, Topped};
 ghost use Rattle.boost.specs.Top.{halved, Rounded};
 
 use crate::row::{BASE, Words};
@@ -17,6 +17,7 @@ const KEPT_ZEROS: u32 = 39;
 const TOP_WORDS: usize = 3;
 
 // h half units to whole ones; `more`: something lies below them. A tie goes to the even one.
+// Stays: `more` is what a tie asks, and both answers are numbers; there is no step to pass as a closure.
 fn whole_of(h: u32, more: bool) -> u32
     requires { h < 2 ^ 25 }
     ensures { result ≡ halved h more }
@@ -25,89 +26,53 @@ fn whole_of(h: u32, more: bool) -> u32
     if h % 2 == 0 {
         return q;
     }
-    if more {
-        return q + 1;
-    }
-    q + q % 2
-}
-
-// How many places of w are dropped: all below its 25 highest.
-fn dropped(w: u64) -> u32
-    ensures { result ≡ 39 - count_leading_zeros 64 w }
-{
-    let z = u64::leading_zeros(w);
-    if z < KEPT_ZEROS {
-        return KEPT_ZEROS - z;
-    }
-    0
+    if more { q + 1 } else { q + q % 2 }
 }
 
 // What is left over of two divisions: of those before, and the rest of one more.
 pub fn with_rest(left: bool, rest: u64) -> bool
     ensures { result ≡ left || not (eqb rest 0) }
 {
-    if left {
-        return true;
-    }
-    rest != 0
-}
-
-// The pattern p, as far as there is one.
-fn capped(p: u32) -> u32
-    ensures { (p < 0x7f80_0000 → result ≡ p) × (0x7f80_0000 ≤ p → result ≡ 0x7f80_0000) }
-{
-    if p < INFINITY { p } else { INFINITY }
+    left || rest != 0
 }
 
 // The pattern of w, in units of 2^c halves of the least float; `below`: something lies below them.
 pub fn rounded(w: u64, below: bool, c: u32) -> u32
     requires w_bound { w < 2 ^ 63 }
-    requires fact { (2 ^ 24 ≤ w) ⊎ (c ≡ 0) }
+    requires enough_places { (2 ^ 24 ≤ w) ⊎ (c ≡ 0) }
     requires c_bound { c < 450 }
     ensures { Rounded w below c result }
 {
-    let k = dropped(w);
+    // all places below the 25 highest are dropped
+    let k = KEPT_ZEROS.saturating_sub(w.leading_zeros());
     let u = 1u64 << k;
     let more = with_rest(below, w % u);
     let h = (w / u) as u32;
-    capped((c + k) * EXPONENT_STEP + whole_of(h, more))
+    let p = (c + k) * EXPONENT_STEP + whole_of(h, more);
+    p.min(INFINITY)
 }
 
 // The words from `low` to `len`, of which there are at most three.
 fn highest(row: &Words, low: usize, len: usize) -> u64
-    requires row { Row row.now }
-    requires low_le_len { (low ≤ len) × (len ≤ 18) × (len ≤ low + 3) }
+    requires { (low ≤ len) × (len ≤ 18) × (len ≤ low + 3) }
     ensures { Highest row.now low len result }
 {
     let mut w = 0u64;
-    let mut i = len;
-    while low < i {
-        i -= 1;
-        w = w * BASE + crate::row::wide(row[i]);
+    for i in (low..len).rev() {
+        w = w * BASE + u64::from(row[i]);
     }
     w
 }
 
-// How many words lie below the three highest.
-fn under(len: usize) -> usize
-    ensures { result ≡ len - 3 }
-{
-    if len < TOP_WORDS {
-        return 0;
-    }
-    len - TOP_WORDS
-}
-
 // The pattern of the row's first `len` words, the highest of them not 0; `left`: something lies below the row.
 pub fn pattern(row: &Words, len: usize, left: bool, c: u32) -> u32
-    requires row { Row row.now }
     requires len_bound { len ≤ 18 }
     requires topped { Topped row.now len }
-    requires fact { (2 ^ 24 ≤ up_to row.now len) ⊎ (c ≡ 0) }
+    requires enough_places { (2 ^ 24 ≤ up_to row.now len) ⊎ (c ≡ 0) }
     requires c_bound { c ≤ 150 }
     ensures { Rounded (up_to row.now len) left c result }
 {
-    let low = under(len);
+    let low = len.saturating_sub(TOP_WORDS);
     let w = highest(row, low, len);
     let rest = crate::row::used(row, low) as u64;
     rounded(w, with_rest(left, rest), c + WORD_BITS * (low as u32))

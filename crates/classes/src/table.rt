@@ -7,14 +7,14 @@ use names::{
     UNDERSCORE_CLASS,
 };
 
-// The table is that of the rules, entry by entry. A loop names the constant itself: what is returned here is copied once more.
+// The table is that of the rules, entry by entry. Whoever asks of a byte reads the static itself: what is returned here is a copy.
 pub fn table() -> [u8; 128]
     ensures { result ≡ classes }
 {
     CLASSES
 }
 
-pub const CLASSES: [u8; 128] = [
+pub static CLASSES: [u8; 128] = [
     0,
     0,
     0,

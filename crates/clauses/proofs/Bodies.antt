@@ -3,13 +3,15 @@ use mathlib.Core.Path.{◌≡◌, refl, sym, ap, subst, ◌∙◌}
 use mathlib.Core.Bool.{Bool, true, false}
 use Prim.Native.Nat.{ℕ, ◌+◌, ◌-◌, ◌*◌, ◌≤◌, ◌<◌}
 use mathlib.Core.List.{List}
+use Rattle.std.specs.Prelude.{Result, Ok, Err}
+use native.Mathlib.Decide.{dec_lt}
 use native.Mathlib.Omega.{arith}
 use native.Mathlib.Numerals.{add-one}
 use mathlib.Core.Logic.{◌⊎◌, inl, inr}
 use lib.Dec.{leb, eqb}
 use lib.ListN.{length}
 use borrow.Author.Tests.{eq-eqb, ne_eqb, le-leb, lt-leb, lt-ltb, le-ltb}
-use Rattle.rules.specs.Numbers.{Fault, Refusal, number, moved, faulty, Read, got, refused, need, on_read, and_then, fuzzy_term, sloppy_phrase, open_bracket, bad_numeral, no_numeral, long_numeral, numeral_most, long_field, many_brackets, unexpected_end, unexpected_token, field_most}
+use Rattle.rules.specs.Numbers.{Fault, Refusal, moved, faulty, Read, got, refused, need, on_read, and_then, fuzzy_term, sloppy_phrase, open_bracket, bad_numeral, no_numeral, long_numeral, numeral_most, long_field, many_brackets, unexpected_end, unexpected_token, field_most}
 use Rattle.rules.specs.Query.{Query, boost, Clauses, none}
 use Rattle.rules.specs.Lexing.{Token}
 use Rattle.rules.specs.Analysis.{tokenize}
@@ -23,11 +25,13 @@ use Rattle.clauses.specs.Leaves.{leaf_of, leaf_kind, leaf_fault, leaf_at}
 use Rattle.counted.specs.Kinds.{made_length}
 use Rattle.clauses.specs.Measured.{Says, place_at, Rowed, is_named, note_at, MeansFound, WithinClause, WithinClauses, MeantClause}
 use Rattle.clauses.specs.Starting.{Started, WithinBoost}
-use Rattle.boost.specs.Numeral.{answer_of}
-use Rattle.boost.specs.declared.numeral.Answer.TheVariants as answer
-use Rattle.clauses.specs.declared.kinds.Measured.{Measured}
-use Rattle.clauses.specs.declared.kinds.Measured.TheVariants.{Refused, Clause}
-use Rattle.counted.specs.declared.Counted.TheVariants.{Clauses as Many}
+use Rattle.std.specs.Result.{result_unwrap_or}
+use Rattle.names.specs.Refusals.{coded, coded_fault, answered, checked}
+use Rattle.names.specs.declared.refusal.Fault.{Fault as Met}
+use Rattle.names.specs.declared.refusal.Refusal.{Refusal as code-refusal}
+use Rattle.clauses.specs.Written.{bits_in}
+use Rattle.clauses.specs.declared.kinds.Clause.{Clause}
+use Rattle.counted.specs.declared.Counted.{Counted}
 use Rattle.clauses.proofs.Rows.{text_is, named_in, place_up, place_on, place_text}
 
 -- ---- where a clause begins
@@ -69,20 +73,6 @@ module _ {room : List ℕ} {n : ℕ} (R : Rowed room n) (i from analyzer : ℕ) 
 
 -- ---- a boost
 
-pub answer_refused : (o : Read ℕ) (e : ℕ) → answer.Refused e ≡ answer_of o → (x : Refusal) × (o ≡ refused x) × (e ≡ number x)
-answer_refused (refused x) e h = (x, refl, cc)
-answer_refused (got b) e h = let z : answer.Refused e ≡ answer.Bits b = h in absurd (never e b z)
-  where
-    never : (e b : ℕ) → answer.Refused e ≡ answer.Bits b → ⊥
-    never e b h = let z : ◌≡◌ {A = ℕ} 0 1 = cc in omega arith
-
-pub answer_got : (o : Read ℕ) (b : ℕ) → answer.Bits b ≡ answer_of o → o ≡ got b
-answer_got (refused x) b h = absurd (never b (number x) h)
-  where
-    never : (b e : ℕ) → answer.Bits b ≡ answer.Refused e → ⊥
-    never b e h = let z : ◌≡◌ {A = ℕ} 0 1 = cc in omega arith
-answer_got (got c) b h = cc
-
 -- a numeral is refused for a fault, at its start
 pub numeral_faulty : (s : List ℕ) {r : Refusal} → numeral_bits s ≡ refused r → (f : Fault) × (r ≡ faulty f 0)
 unfolding numeral_bits
@@ -94,6 +84,21 @@ numeral_faulty s {r} e = by (leb (length s) numeral_most) (is_minus s) (unsigned
     by true minus infinite e = no_got (sym e)
     by true minus not_number e = no_got (sym e)
     by true minus (decimal d u n) e = no_got (sym e)
+
+pub numeral_refused : (s : List ℕ) (e : code-refusal) → checked (numeral_bits s) ≡ Err e → (f : Fault) × (numeral_bits s ≡ refused (faulty f 0)) × (e ≡ coded_fault f)
+numeral_refused s e h = by (numeral_bits s) (λ r k. numeral_faulty s k) h
+  where
+    by : (o : Read ℕ) → ((r : Refusal) → o ≡ refused r → (f : Fault) × (r ≡ faulty f 0)) → checked o ≡ Err e → (f : Fault) × (o ≡ refused (faulty f 0)) × (e ≡ coded_fault f)
+    by (refused r) g h = let b = g r refl in let x : coded r ≡ e = cc in (b.0, ap (λ (x : Refusal). refused x) b.1, sym x ∙ ap coded b.1)
+    by (got b) g h = cc
+
+pub numeral_taken : (o : Read ℕ) (u : Unit {0}) → checked o ≡ Ok u → (b : ℕ) × (o ≡ got b)
+numeral_taken (refused r) u h = cc
+numeral_taken (got b) u h = (b, refl)
+
+pub bits_taken : (o : Read ℕ) → result_unwrap_or (answered (λ b. b) o) 0 ≡ bits_in o
+bits_taken (refused r) = refl
+bits_taken (got b) = refl
 
 module _ (st : Setup) (ts : List Token) (i : ℕ) where
   pub boost_none : (m : Made) → is_at 11 ts i ≡ false → boost_at st ts m i ≡ got (found m i)
@@ -157,10 +162,10 @@ leaf_goes false st ts f i e = quoted_goes st ts f i e
 pub leaf_same : (F : ℕ → List ℕ → Made) (len a b : ℕ) (t u : List ℕ) → a ≡ b → t ≡ u → len ≡ made_length (F a t) → len ≡ made_length (F b u)
 leaf_same F len a b t u p q e = e ∙ ap (λ (x : ℕ). made_length (F x t)) p ∙ ap (λ (x : List ℕ). made_length (F b x)) q
 
-pub leaf_within : {room : List ℕ} {n : ℕ} (R : Rowed room n) (i len : ℕ) → i < n → len ≤ 8 + 45 * length (text_at (tokens_of room n) i) → (g : Measured)
+pub leaf_within : {room : List ℕ} {n : ℕ} (R : Rowed room n) (i len : ℕ) → i < n → len ≤ 8 + 45 * length (text_at (tokens_of room n) i) → (g : Result Clause Met)
     → WithinBoost (tokens_of room n) n (i + 1) len g → WithinClause (tokens_of room n) n i g
-leaf_within R i len h b (Refused e t) w = omega arith
-leaf_within R i len h b (Clause len' next) w =
+leaf_within R i len h b (Err e) w = omega arith
+leaf_within R i len h b (Ok c) w =
     let p = place_on R i h in
     let t = place_text R i h in
     (omega arith, w.1, omega (arith, w.2), omega (arith, w.2, w.3))
@@ -179,21 +184,23 @@ module _ (st : Setup) (ts : List Token) (o : Read Kept) where
   unfolding closed_at
   close_goes e f = rw (e, f)
 
-pub bracket_within : {room : List ℕ} {n : ℕ} (R : Rowed room n) (i len count tag bytes next : ℕ) → i < n → next < n
-    → WithinClauses (tokens_of room n) n (i + 1) (Many count tag bytes next) → len ≤ 8 + bytes → (g : Measured)
-    → WithinBoost (tokens_of room n) n (next + 1) len g → WithinClause (tokens_of room n) n i g
-bracket_within R i len count tag bytes next h k W b (Refused e t) w = omega arith
-bracket_within R i len count tag bytes next h k W b (Clause len' next') w =
+pub bracket_within : {room : List ℕ} {n : ℕ} (R : Rowed room n) (i len : ℕ) (g : Counted) → i < n → g.next < n
+    → WithinClauses (tokens_of room n) n (i + 1) (Ok g) → len ≤ 8 + g.sum.bytes → (r : Result Clause Met)
+    → WithinBoost (tokens_of room n) n (g.next + 1) len r → WithinClause (tokens_of room n) n i r
+bracket_within R i len g h k W b (Err e) w = omega arith
+bracket_within R i len g h k W b (Ok c) w =
     let p = place_on R i h in
-    let q = place_on R next k in
+    let q = place_on R g.next k in
     (omega (arith, W.0), w.1, omega (arith, w.2, W.2), omega (arith, w.2, w.3, W.2, W.3))
 
 -- ---- a body, by the kind of its first token
 
--- a term or a quote is the leaf that its kind says
-pub leaf_at_lem : (ts : List Token) (i t : ℕ) → t ≡ (token_of ts i).kind → (t ≡ 1) ⊎ (t ≡ 2) → is_at (leaf_kind (eqb t 1)) ts i ≡ true
-leaf_at_lem ts i t is (inl e) = rw (eq-eqb t 1 e) (eq-eqb _ _ (sym is ∙ e))
-leaf_at_lem ts i t is (inr e) = rw (ne_eqb t 1 (λ z. omega arith)) (eq-eqb _ _ (sym is ∙ e))
+pub leaf_kinds : (t : ℕ) → 0 < t → t < 3 → (t ≡ 1) ⊎ (t ≡ 2)
+leaf_kinds t h l = by (dec_lt t 2)
+  where
+    by : Dec (t < 2) → (t ≡ 1) ⊎ (t ≡ 2)
+    by (yes x) = inl (omega arith)
+    by (no x) = inr (omega arith)
 
 module _ (st : Setup) (ts : List Token) (sub : List ℕ → ℕ → ℕ → Read Found) (f : List ℕ) (d i t : ℕ) (is : t ≡ (token_of ts i).kind) where
   at_kind : (k : ℕ) → t ≡ k → is_at k ts i ≡ true
@@ -228,14 +235,14 @@ module _ (st : Setup) (ts : List Token) (sub : List ℕ → ℕ → ℕ → Read
 -- ---- a clause, from its body
 
 module _ {room : List ℕ} {n i from analyzer from' analyzer' i' : ℕ} (S : Started room n i from analyzer from' analyzer' i') where
-  pub within_start : (g : Measured) → WithinClause (tokens_of room n) n i' g → WithinClause (tokens_of room n) n i g
-  within_start (Refused e t) w = omega arith
-  within_start (Clause len next) w =
+  pub within_start : (g : Result Clause Met) → WithinClause (tokens_of room n) n i' g → WithinClause (tokens_of room n) n i g
+  within_start (Err e) w = omega arith
+  within_start (Ok c) w =
       let a = S.low in
       let b = S.place in
       (omega (arith, w.0), w.1, omega (arith, w.2), omega (arith, w.2, w.3))
 
-  module _ (st : Setup) (default : List ℕ) (d : ℕ) (g : Measured) where
+  module _ (st : Setup) (default : List ℕ) (d : ℕ) (g : Result Clause Met) where
     pub meant_start : (answer : Read Found)
         → Says (λ k. body_at st (tokens_of room n) (λ g e h. on_read query_found (parse_clauses st (tokens_of room n) k g e none h)) (name_from room default from') d i') (n - i') answer
         → MeansFound g answer → MeantClause st (tokens_of room n) n (name_from room default from) d i g

@@ -20,12 +20,13 @@ use Rattle.rules.proofs.Stored.Refusals.{no_got}
 use Rattle.rules.proofs.Stored.Sizes.{length_boolean}
 use Rattle.numbers.specs.Laid.{laid, Put, header}
 use Rattle.numbers.proofs.Laying.{laid_front, laid_all, laid_over, put_then}
-use Rattle.counted.specs.Kinds.{conjunction_of, modifier_of, is_kept, last_tag, bytes_of, is_alone, made_bytes, made_length, with_made}
+use Rattle.clauses.specs.Joining.{Leads}
+use Rattle.counted.specs.Kinds.{is_kept, last_tag, bytes_of, is_alone, made_bytes, made_length, with_made}
 use Rattle.clauses.specs.Measured.{clause_run, clauses_run}
 use Rattle.clauses.specs.Written.{Eventually, bool_front, Touches}
 use Rattle.counted.proofs.Deciding.{length_touched}
 use Rattle.counted.proofs.Keeping.{all_in_order, several_is}
-use Rattle.clauses.proofs.Steps.{Lead, run_is, added_is}
+use Rattle.clauses.proofs.Steps.{run_is, added_is}
 use Rattle.clauses.proofs.Fuel.{clause_fuel}
 use Rattle.clauses.proofs.Fronts.{head_before}
 
@@ -111,27 +112,27 @@ module _ (st : Setup) (ts : List Token) (f : List ℕ) (d : ℕ) (cs : Clauses) 
       stop : (m : ℕ) → clauses_run st ts f d cs i (suc m) ≡ got (kept cs i)
       stop m = rw e
 
-  module _ {c j m k : ℕ} (goes : stops_at ts i ≡ false) (L : Lead ts cs i c j m k) where
-    turn_is : (x : ℕ) → E.0 ≤ x → and_then (clause_run st ts f d k x) (add_clause st.operator (conjunction_of c) (modifier_of m) (λ ds h. parse_clauses st ts x f d ds h) cs) ≡ R
+  module _ {c : Conjunction} {m : Modifier} {k : ℕ} (goes : stops_at ts i ≡ false) (L : Leads ts cs i c m k) where
+    turn_is : (x : ℕ) → E.0 ≤ x → and_then (clause_run st ts f d k x) (add_clause st.operator c m (λ ds h. parse_clauses st ts x f d ds h) cs) ≡ R
     turn_is x h = sym (run_is st ts f d cs i goes L x) ∙ E.1 (suc x) (omega arith)
 
     pub ev_found : {q : Made} {next : ℕ} → Eventually (clause_run st ts f d k) (got (found q next))
-        → Eventually (clauses_run st ts f d (with_made st.operator (conjunction_of c) (modifier_of m) cs q) next) R
+        → Eventually (clauses_run st ts f d (with_made st.operator c m cs q) next) R
     ev_found {q} {next} (n, s) = (
       n + E.0,
       λ x h.
-          sym (added_is st.operator (conjunction_of c) (modifier_of m) (λ ds y. parse_clauses st ts x f d ds y) cs q next)
-          ∙ sym (ap (λ (r : Read Found). and_then r (add_clause st.operator (conjunction_of c) (modifier_of m) (λ ds y. parse_clauses st ts x f d ds y) cs)) (s x (omega arith)))
+          sym (added_is st.operator c m (λ ds y. parse_clauses st ts x f d ds y) cs q next)
+          ∙ sym (ap (λ (r : Read Found). and_then r (add_clause st.operator c m (λ ds y. parse_clauses st ts x f d ds y) cs)) (s x (omega arith)))
           ∙ turn_is x (omega arith),
     )
 
 -- a clause is read, since a refusal would refuse the whole
 pub ev_clause : (st : Setup) (ts : List Token) (f : List ℕ) (d : ℕ) (acc : Clauses) (i : ℕ) {cs : Clauses} {j : ℕ} → Eventually (clauses_run st ts f d acc i) (got (kept cs j))
-    → {c j' m k : ℕ} → stops_at ts i ≡ false → Lead ts acc i c j' m k → (q : Made) × (next : ℕ) × Eventually (clause_run st ts f d k) (got (found q next))
-ev_clause st ts f d acc i {cs} {j} E {c} {j'} {m} {k} goes L = by (clause_run st ts f d k E.0) refl (turn_is st ts f d acc i E goes L E.0 (omega arith))
+    → {c : Conjunction} {m : Modifier} {k : ℕ} → stops_at ts i ≡ false → Leads ts acc i c m k → (q : Made) × (next : ℕ) × Eventually (clause_run st ts f d k) (got (found q next))
+ev_clause st ts f d acc i {cs} {j} E {c} {m} {k} goes L = by (clause_run st ts f d k E.0) refl (turn_is st ts f d acc i E goes L E.0 (omega arith))
   where
     by : (r : Read Found) → clause_run st ts f d k E.0 ≡ r
-        → and_then r (add_clause st.operator (conjunction_of c) (modifier_of m) (λ ds h. parse_clauses st ts E.0 f d ds h) acc) ≡ got (kept cs j)
+        → and_then r (add_clause st.operator c m (λ ds h. parse_clauses st ts E.0 f d ds h) acc) ≡ got (kept cs j)
         → (q : Made) × (next : ℕ) × Eventually (clause_run st ts f d k) (got (found q next))
     by (refused x) e z = no_got z
     by (got (found q next)) e z = (q, next, clause_fuel st ts f d k E.0 e)
@@ -157,15 +158,15 @@ pub first_none : (st : Setup) (ts : List Token) (f : List ℕ) (d i : ℕ) {k : 
 first_none st ts f d i E e = none_kept (ev_stops st ts f d none i E e)
 
 module _ (st : Setup) (ts : List Token) (f : List ℕ) (d i : ℕ) {R : Read Kept} (E : Eventually (clauses_run st ts f d none i) R) (goes : stops_at ts i ≡ false)
-    (c j' m k : ℕ) (L : Lead ts none i c j' m k) where
+    (c : Conjunction) (m : Modifier) (k : ℕ) (L : Leads ts none i c m k) where
   pub first_nothing : {next : ℕ} → Eventually (clause_run st ts f d k) (got (found nothing next)) → Eventually (clauses_run st ts f d none next) R
   first_nothing {next} C =
-      subst (λ (a : Clauses). Eventually (clauses_run st ts f d a next) R) (touched_none st.operator (conjunction_of c)) (ev_found st ts f d none i E goes L C)
+      subst (λ (a : Clauses). Eventually (clauses_run st ts f d a next) R) (touched_none st.operator c) (ev_found st ts f d none i E goes L C)
 
   pub first_made : {next : ℕ} {l : Kind} {p q : Query} {j : ℕ} → R ≡ got (kept (clause l q none) j) → Eventually (clause_run st ts f d k) (got (found (made p) next)) → p ≡ q
   first_made {next} {p = p} r C =
-      root_first st.operator (conjunction_of c)
-      (grows st ts f d _ next (subst (Eventually (clauses_run st ts f d (with_made st.operator (conjunction_of c) (modifier_of m) none (made p)) next)) r (ev_found st ts f d none i E goes L C)))
+      root_first st.operator c
+      (grows st ts f d _ next (subst (Eventually (clauses_run st ts f d (with_made st.operator c m none (made p)) next)) r (ev_found st ts f d none i E goes L C)))
 
 -- ---- what is laid
 
@@ -202,11 +203,11 @@ grown out₀ acc k q tag w end out₁ out₃ e P Q h =
     subst (λ (s : List ℕ). Put out₀ 0 s end out₃) (ap (λ (t : ℕ). D ++ part t (encode q)) e ∙ append_assoc (bool_front (length out₀)) (bytes_of acc) (part (kind_tag k) (encode q))) Z
 
 -- the last kind altered where it stands
-patched : (out₀ : List ℕ) (o c : ℕ) (k : Kind) (q : Query) (acc : Clauses) (w last : ℕ) (out out₁ : List ℕ)
+patched : (out₀ : List ℕ) (o : ℕ) (c : Conjunction) (k : Kind) (q : Query) (acc : Clauses) (w last : ℕ) (out out₁ : List ℕ)
     → Put out₀ 0 (bool_front (length out₀) ++ bytes_of (clause k q acc)) w out → last ≡ 8 + length (bytes_of acc)
-    → ((cs : Clauses) → get_or out last 0 ≡ last_tag cs → out₁ ≡ set out last (last_tag (touched o (conjunction_of c) cs)))
+    → ((cs : Clauses) → get_or out last 0 ≡ last_tag cs → out₁ ≡ set out last (last_tag (touched o c cs)))
     → 8 + (length (bytes_of acc) + (3 + length (encode q))) ≤ length out₀
-    → Put out₀ 0 (bool_front (length out₀) ++ bytes_of (touched o (conjunction_of c) (clause k q acc))) w out₁
+    → Put out₀ 0 (bool_front (length out₀) ++ bytes_of (touched o c (clause k q acc))) w out₁
 unfolding bytes_of touched
 patched out₀ o c k q acc w last out out₁ P L T h =
     let D = bool_front (length out₀) ++ bytes_of acc in
@@ -220,7 +221,7 @@ patched out₀ o c k q acc w last out out₁ P L T h =
     ∙ ap (λ (x : ℕ). D ++ t ∷ (R ++ drop x out₀)) (length-append D (part t b) ∙ sym (length-append D (part (kind_tag k) b))) in
     let there : out ≡ D ++ kind_tag k ∷ (R ++ tail) = P.bytes ∙ shape (kind_tag k) in
     let tag : get_or out last 0 ≡ kind_tag k = ap (λ (x : List ℕ). get_or x last 0) there ∙ get_or_at D (kind_tag k) (R ++ tail) 0 last dl in
-    let new = kind_tag (kind_before o (conjunction_of c) k) in
+    let new = kind_tag (kind_before o c k) in
     record {
       place = P.place ∙ ap (λ (x : ℕ). 0 + x) (length-append (bool_front (length out₀)) (bytes_of acc ++ part (kind_tag k) b) ∙ ap (λ (x : ℕ). length (bool_front (length out₀)) + x) (length-append (bytes_of acc) (part (kind_tag k) b) ∙ sym (length-append (bytes_of acc) (part new b))) ∙ sym (length-append (bool_front (length out₀)) (bytes_of acc ++ part new b)));
       bytes = T (clause k q acc) tag ∙ ap (λ (x : List ℕ). set x last new) there ∙ set_at D (kind_tag k) (R ++ tail) new last dl ∙ sym (shape new);
@@ -296,23 +297,23 @@ filling_start st ts f d cs j entry out i w P l h E = record {
 module _ {st : Setup} {ts : List Token} {f : List ℕ} {d : ℕ} {cs : Clauses} {j : ℕ} {out₀ : List ℕ} {i w last : ℕ} {out : List ℕ}
     (F : Filling st ts f d cs j out₀ i w last out) (fits : 8 + length (bytes_of cs) ≡ length out₀) where
   -- the conjunction alters the last kind
-  touched_put : (o c : ℕ) (out₁ : List ℕ) → Touches (ltb 8 w) last o c out out₁
-      → Put out₀ 0 (bool_front (length out₀) ++ bytes_of (touched o (conjunction_of c) F.acc)) w out₁
+  touched_put : (o : ℕ) (c : Conjunction) (out₁ : List ℕ) → Touches (ltb 8 w) last o c out out₁
+      → Put out₀ 0 (bool_front (length out₀) ++ bytes_of (touched o c F.acc)) w out₁
   touched_put o c out₁ T = by F.acc F.put F.header_at (subst (λ (b : Bool). Touches b last o c out out₁) (sym (filled_kept F)) T) (grows st ts f d F.acc i F.is).size
     where
       by : (acc : Clauses) → Put out₀ 0 (bool_front (length out₀) ++ bytes_of acc) w out → LastAt last acc → Touches (is_kept acc) last o c out out₁
-          → length (bytes_of acc) ≤ length (bytes_of cs) → Put out₀ 0 (bool_front (length out₀) ++ bytes_of (touched o (conjunction_of c) acc)) w out₁
-      by none P L T g = subst (λ (x : List ℕ). Put out₀ 0 (bool_front (length out₀) ++ bytes_of (touched o (conjunction_of c) none)) w x) (sym T)
-          (subst (λ (a : Clauses). Put out₀ 0 (bool_front (length out₀) ++ bytes_of a) w out) (sym (touched_none o (conjunction_of c))) P)
+          → length (bytes_of acc) ≤ length (bytes_of cs) → Put out₀ 0 (bool_front (length out₀) ++ bytes_of (touched o c acc)) w out₁
+      by none P L T g = subst (λ (x : List ℕ). Put out₀ 0 (bool_front (length out₀) ++ bytes_of (touched o c none)) w x) (sym T)
+          (subst (λ (a : Clauses). Put out₀ 0 (bool_front (length out₀) ++ bytes_of a) w out) (sym (touched_none o c)) P)
       by (clause k q acc) P L T g = patched out₀ o c k q acc w last out out₁ P L T (omega (arith, bytes_some k q acc))
 
-  module _ (c j' m k : ℕ) (o : ℕ) (joins : st.operator ≡ o) (goes : stops_at ts i ≡ false) (L : (acc : Clauses) → is_kept acc ≡ ltb 8 w → Lead ts acc i c j' m k) where
-    lead : Lead ts F.acc i c j' m k
+  module _ (c : Conjunction) (m : Modifier) (k : ℕ) (o : ℕ) (joins : st.operator ≡ o) (goes : stops_at ts i ≡ false) (L : (acc : Clauses) → is_kept acc ≡ ltb 8 w → Leads ts acc i c m k) where
+    lead : Leads ts F.acc i c m k
     lead = L F.acc (filled_kept F)
 
     -- one clause more, and room for it
     after : Query → Clauses
-    after q = clause (kind_after st.operator (conjunction_of c) (modifier_of m)) q (touched st.operator (conjunction_of c) F.acc)
+    after q = clause (kind_after st.operator c m) q (touched st.operator c F.acc)
 
     pub filling_clause : (q : Made) × (next : ℕ) × Eventually (clause_run st ts f d k) (got (found q next))
     filling_clause = ev_clause st ts f d F.acc i F.is goes lead
@@ -321,35 +322,35 @@ module _ {st : Setup} {ts : List Token} {f : List ℕ} {d : ℕ} {cs : Clauses} 
     unfolding after
     filling_room {q} {next} C =
         let E = ev_found st ts f d F.acc i F.is goes lead C in
-        omega (arith, filled_wide F, (grows st ts f d (after q) next E).size, bytes_some (kind_after st.operator (conjunction_of c) (modifier_of m)) q (touched st.operator (conjunction_of c) F.acc), length_touched st.operator (conjunction_of c) F.acc)
+        omega (arith, filled_wide F, (grows st ts f d (after q) next E).size, bytes_some (kind_after st.operator c m) q (touched st.operator c F.acc), length_touched st.operator c F.acc)
 
     module _ (out₁ : List ℕ) (T : Touches (ltb 8 w) last o c out out₁) (l₁ : length out₁ ≡ length out) where
-      turned_put : Put out₀ 0 (bool_front (length out₀) ++ bytes_of (touched st.operator (conjunction_of c) F.acc)) w out₁
-      turned_put = subst (λ (p : ℕ). Put out₀ 0 (bool_front (length out₀) ++ bytes_of (touched p (conjunction_of c) F.acc)) w out₁) (sym joins) (touched_put o c out₁ T)
+      turned_put : Put out₀ 0 (bool_front (length out₀) ++ bytes_of (touched st.operator c F.acc)) w out₁
+      turned_put = subst (λ (p : ℕ). Put out₀ 0 (bool_front (length out₀) ++ bytes_of (touched p c F.acc)) w out₁) (sym joins) (touched_put o c out₁ T)
 
       pub filling_nothing : {next : ℕ} → Eventually (clause_run st ts f d k) (got (found nothing next)) → Filling st ts f d cs j out₀ next w last out₁
       filling_nothing C = record {
-        acc = touched st.operator (conjunction_of c) F.acc;
+        acc = touched st.operator c F.acc;
         is = ev_found st ts f d F.acc i F.is goes lead C;
         put = turned_put;
-        header_at = last_touched st.operator (conjunction_of c) last F.acc F.header_at;
+        header_at = last_touched st.operator c last F.acc F.header_at;
         long = l₁ ∙ F.long;
       }
 
       pub filling_made : {q : Query} {next : ℕ} → Eventually (clause_run st ts f d k) (got (found (made q) next)) → (tag len p end : ℕ) (out₂ out₃ : List ℕ)
-          → tag ≡ kind_tag (kind_after o (conjunction_of c) (modifier_of m)) → Put out₁ (w + 3) (encode q) end out₂ → Put out₂ w (header tag len) p out₃
+          → tag ≡ kind_tag (kind_after o c m) → Put out₁ (w + 3) (encode q) end out₂ → Put out₂ w (header tag len) p out₃
           → len ≡ end - (w + 3) → length out₃ ≡ length out₁ → Filling st ts f d cs j out₀ next end w out₃
       unfolding after
       filling_made {q} C tag len p end out₂ out₃ et P Q el l₃ =
-          let acc = touched st.operator (conjunction_of c) F.acc in
-          let lw : w ≡ 8 + length (bytes_of acc) = filled_wide F ∙ omega (arith, length_touched st.operator (conjunction_of c) F.acc) in
+          let acc = touched st.operator c F.acc in
+          let lw : w ≡ 8 + length (bytes_of acc) = filled_wide F ∙ omega (arith, length_touched st.operator c F.acc) in
           let r = filling_room C in
           let B : Put out₁ w (part tag (encode q)) end out₃ = head_before P Q refl (omega (arith, P.place)) (omega (arith, F.long)) in
-          let kd : tag ≡ kind_tag (kind_after st.operator (conjunction_of c) (modifier_of m)) = et ∙ ap (λ (p : ℕ). kind_tag (kind_after p (conjunction_of c) (modifier_of m))) (sym joins) in
+          let kd : tag ≡ kind_tag (kind_after st.operator c m) = et ∙ ap (λ (p : ℕ). kind_tag (kind_after p c m)) (sym joins) in
           record {
             acc = after q;
             is = ev_found st ts f d F.acc i F.is goes lead C;
-            put = grown out₀ acc (kind_after st.operator (conjunction_of c) (modifier_of m)) q tag w end out₁ out₃ kd turned_put B (omega arith);
+            put = grown out₀ acc (kind_after st.operator c m) q tag w end out₁ out₃ kd turned_put B (omega arith);
             header_at = lw;
             long = l₃ ∙ l₁ ∙ F.long;
           }

@@ -12,16 +12,16 @@ use Rattle.rules.specs.Query.{Kind, Query, Clauses, none, clause}
 use Rattle.rules.specs.Stored.{kind_tag, encode}
 use Rattle.rules.specs.Lexing.{Token}
 use Rattle.rules.specs.Setup.{Setup}
-use Rattle.rules.specs.Parsing.{Made, nothing, made, found, kept, stops_at, kind_after, query_of}
+use Rattle.rules.specs.Parsing.{Conjunction, Modifier, Made, nothing, made, found, kept, stops_at, kind_after, query_of}
 use Rattle.rules.proofs.Bools.{clash}
 use Rattle.rules.proofs.Stored.Sizes.{length_encode}
 use Rattle.numbers.specs.Laid.{laid, Put, header}
 use Rattle.numbers.proofs.Laying.{laid_all}
-use Rattle.counted.specs.Kinds.{conjunction_of, modifier_of, is_kept, bytes_of, is_alone, made_bytes, made_length}
+use Rattle.clauses.specs.Joining.{Leads}
+use Rattle.counted.specs.Kinds.{is_kept, bytes_of, is_alone, made_bytes, made_length}
 use Rattle.clauses.specs.Measured.{clause_run, clauses_run}
 use Rattle.clauses.specs.Written.{Eventually, HasRoom, bool_front, PutUnless, body_start, Touches}
 use Rattle.counted.proofs.Keeping.{alone_is}
-use Rattle.clauses.proofs.Steps.{Lead}
 use Rattle.clauses.proofs.Filling.{Filling, grows, ev_clause, filled_wide, filled_last, several_size, several_bytes, filling_start, filling_clause, filling_room, filling_nothing, filling_made, filling_ends, first_none, first_nothing, first_made}
 use Rattle.clauses.proofs.Fronts.{put_nothing}
 
@@ -77,19 +77,19 @@ module _ {st : Setup} {ts : List Token} {f : List ℕ} {d : ℕ} {cs : Clauses} 
 -- ---- a turn
 
 -- what the code found before the clause at k
-pub record Turned (st : Setup) (ts : List Token) (i w last o : ℕ) (out : List ℕ) (c j' m k : ℕ) (out₁ : List ℕ) : Type 0 where
+pub record Turned (st : Setup) (ts : List Token) (i w last o : ℕ) (out : List ℕ) (c : Conjunction) (m : Modifier) (k : ℕ) (out₁ : List ℕ) : Type 0 where
   pub joins : st.operator ≡ o
   pub goes : stops_at ts i ≡ false
-  pub lead : (acc : Clauses) → is_kept acc ≡ ltb 8 w → Lead ts acc i c j' m k
+  pub lead : (acc : Clauses) → is_kept acc ≡ ltb 8 w → Leads ts acc i c m k
   pub touches : Touches (ltb 8 w) last o c out out₁
   pub same : length out₁ ≡ length out
 
-first_lead : {st : Setup} {ts : List Token} {i w last o : ℕ} {out : List ℕ} {c j' m k : ℕ} {out₁ : List ℕ}
-    → Turned st ts i w last o out c j' m k out₁ → w ≡ 0 → Lead ts none i c j' m k
+first_lead : {st : Setup} {ts : List Token} {i w last o : ℕ} {out : List ℕ} {c : Conjunction} {m : Modifier} {k : ℕ} {out₁ : List ℕ}
+    → Turned st ts i w last o out c m k out₁ → w ≡ 0 → Leads ts none i c m k
 first_lead {w = w} T e = T.lead none (sym (le-ltb 8 w (omega arith)))
 
 module _ {st : Setup} {ts : List Token} {f : List ℕ} {d : ℕ} {cs : Clauses} {j : ℕ} {out₀ : List ℕ} {i w last : ℕ} {out : List ℕ}
-    {o c j' m k : ℕ} {out₁ : List ℕ} (T : Turned st ts i w last o out c j' m k out₁) where
+    {o : ℕ} {c : Conjunction} {m : Modifier} {k : ℕ} {out₁ : List ℕ} (T : Turned st ts i w last o out c m k out₁) where
   -- what the clause at k is, and room for it
   pub going_clause : (b : Bool) → Going b st ts f d cs j out₀ i w last out
       → (q : Made) × (next : ℕ) × Eventually (clause_run st ts f d k) (got (found q next)) × HasRoom q (body_start b w) (length out₀)
@@ -98,13 +98,13 @@ module _ {st : Setup} {ts : List Token} {f : List ℕ} {d : ℕ} {cs : Clauses} 
       fits : (q : Made) {next : ℕ} → Eventually (clause_run st ts f d k) (got (found q next)) → HasRoom q w (length out₀)
       fits nothing C h = absurd (omega arith)
       fits (made p) C h =
-          let e = first_made st ts f d i G.state.3 T.goes c j' m k (first_lead T G.state.0) (ap (λ (a : Clauses). got (kept a j)) G.fits.2) C in
+          let e = first_made st ts f d i G.state.3 T.goes c m k (first_lead T G.state.0) (ap (λ (a : Clauses). got (kept a j)) G.fits.2) C in
           omega (arith, G.state.0, G.fits.4, ap (λ (x : Query). length (encode x)) e)
-  going_clause false G = let z = filling_clause G.state G.fits.0 c j' m k o T.joins T.goes T.lead in (z.0, z.1, z.2, fits z.0 z.2)
+  going_clause false G = let z = filling_clause G.state G.fits.0 c m k o T.joins T.goes T.lead in (z.0, z.1, z.2, fits z.0 z.2)
     where
       fits : (q : Made) {next : ℕ} → Eventually (clause_run st ts f d k) (got (found q next)) → HasRoom q (w + 3) (length out₀)
       fits nothing C h = absurd (omega arith)
-      fits (made p) C h = filling_room G.state G.fits.0 c j' m k o T.joins T.goes T.lead C
+      fits (made p) C h = filling_room G.state G.fits.0 c m k o T.joins T.goes T.lead C
 
   module _ {next r : ℕ} (e : r ≡ next) {end : ℕ} {out₂ : List ℕ} where
     -- it is nothing
@@ -113,23 +113,23 @@ module _ {st : Setup} {ts : List Token} {f : List ℕ} {d : ℕ} {cs : Clauses} 
     going_nothing b G s es (made q) C P x = absurd (omega (arith, P.place, length_encode q))
     going_nothing true G s es nothing C P x = rw (e, put_nothing P x) (record {
       fits = G.fits;
-      state = (G.state.0, G.state.1, T.same ∙ G.state.2, first_nothing st ts f d i G.state.3 T.goes c j' m k (first_lead T G.state.0) C);
+      state = (G.state.0, G.state.1, T.same ∙ G.state.2, first_nothing st ts f d i G.state.3 T.goes c m k (first_lead T G.state.0) C);
     })
     going_nothing false G s es nothing C P x = rw (e, put_nothing P x) (record {
       fits = G.fits;
-      state = filling_nothing G.state G.fits.0 c j' m k o T.joins T.goes T.lead out₁ T.touches T.same C;
+      state = filling_nothing G.state G.fits.0 c m k o T.joins T.goes T.lead out₁ T.touches T.same C;
     })
 
     -- it is the next of the Boolean's clauses
     pub going_made : (b : Bool) → Going b st ts f d cs j out₀ i w last out → b ≡ false → (s : ℕ) → s ≡ body_start b w → (q : Made) → Eventually (clause_run st ts f d k) (got (found q next))
         → Put out₁ s (made_bytes q) end out₂ → (end ≡ s → ⊥) → (tag len p : ℕ) (out₃ : List ℕ)
-        → tag ≡ kind_tag (kind_after o (conjunction_of c) (modifier_of m)) → Put out₂ w (header tag len) p out₃ → len ≡ end - s → length out₃ ≡ length out₁
+        → tag ≡ kind_tag (kind_after o c m) → Put out₂ w (header tag len) p out₃ → len ≡ end - s → length out₃ ≡ length out₁
         → Going b st ts f d cs j out₀ r end w out₃
     going_made true G a s es q C P x tag len p out₃ et Q el l = clash refl a
     going_made false G a s es nothing C P x tag len p out₃ et Q el l = absurd (x (P.place ∙ omega arith))
     going_made false G a s es (made q) C P x tag len p out₃ et Q el l = rw e (record {
       fits = G.fits;
-      state = filling_made G.state G.fits.0 c j' m k o T.joins T.goes T.lead out₁ T.touches T.same C tag len p end out₂ out₃ et
+      state = filling_made G.state G.fits.0 c m k o T.joins T.goes T.lead out₁ T.touches T.same C tag len p end out₂ out₃ et
           (subst (λ (y : ℕ). Put out₁ y (encode q) end out₂) es P) Q (el ∙ ap (λ (y : ℕ). end - y) es) l;
     })
 
@@ -140,7 +140,7 @@ module _ {st : Setup} {ts : List Token} {f : List ℕ} {d : ℕ} {cs : Clauses} 
     going_alone true G a s es nothing C P x = absurd (x (P.place ∙ omega arith))
     going_alone true G a s es (made p) C P x =
         let q = G.fits.1 in
-        let same = first_made st ts f d i G.state.3 T.goes c j' m k (first_lead T G.state.0) (ap (λ (a : Clauses). got (kept a j)) G.fits.2) C in
+        let same = first_made st ts f d i G.state.3 T.goes c m k (first_lead T G.state.0) (ap (λ (a : Clauses). got (kept a j)) G.fits.2) C in
         P.bytes ∙ ap (λ (y : Query). laid out₁ s (encode y)) same ∙ ap (λ (y : ℕ). laid out₁ y (encode q)) (es ∙ G.state.0)
         ∙ laid_all out₁ (encode q) (sym (T.same ∙ G.state.2 ∙ G.fits.4)) ∙ sym (ap made_bytes G.fits.3)
 

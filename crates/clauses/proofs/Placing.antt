@@ -5,6 +5,7 @@ use mathlib.Core.Logic.{◌⊎◌, inl, inr, ⊎_elim}
 use mathlib.Core.Bool.{Bool, true, false, cond}
 use Prim.Native.Nat.{ℕ, suc, ◌+◌, ◌-◌, ◌≤◌, ◌<◌}
 use mathlib.Core.List.{List, ◌++◌}
+use Rattle.std.specs.Prelude.{Result, Ok, Err}
 use native.Mathlib.Decide.{dec_lt}
 use native.Mathlib.Omega.{arith}
 use native.Mathlib.Numerals.{add-one}
@@ -29,7 +30,7 @@ use Rattle.clauses.specs.Measured.{clauses_run, MeansKept, MeantClauses}
 use Rattle.clauses.specs.Starting.{Started}
 use Rattle.clauses.specs.Written.{Eventually, LeafToWrite, BracketToWrite, ClauseToWrite, QueryToWrite}
 use Rattle.counted.specs.declared.Counted.{Counted}
-use Rattle.counted.specs.declared.Counted.TheVariants.{Fault, Clauses as Many}
+use Rattle.names.specs.declared.refusal.Fault.{Fault}
 use Rattle.clauses.proofs.Rows.{kind_in_lem}
 use Rattle.clauses.proofs.Bodies.{leaf_faulty, leaf_goes, close_fault, close_missing, close_goes}
 
@@ -135,40 +136,40 @@ module _ {room : List ℕ} {n i from analyzer from' analyzer' i' : ℕ} (S : Sta
 
 module _ {room : List ℕ} {n : ℕ} {default : List ℕ} {operator from analyzer depth i at size : ℕ} {st : Setup} {m : Made} {j : ℕ}
     (W : BracketToWrite room n default operator from analyzer depth i at size st m j)
-    {c : Counted} (M : MeantClauses st (tokens_of room n) n (name_from room default from) depth i c) where
+    {c : Result Counted Fault} (M : MeantClauses st (tokens_of room n) n (name_from room default from) depth i c) where
   answer_is : and_then (on_read query_found M.answer) (closed_at st (tokens_of room n)) ≡ got (found m j)
   answer_is =
       let k = suc (n - i) + W.is.0 in
       ap (λ (o : Read Kept). and_then (on_read query_found o) (closed_at st (tokens_of room n))) (sym (M.says k (omega arith))) ∙ W.is.1 k (omega arith)
 
-  means_as : {c' : Counted} → c ≡ c' → MeansKept c' M.answer
-  means_as e = subst (λ (x : Counted). MeansKept x M.answer) e M.means
+  means_as : {c' : Result Counted Fault} → c ≡ c' → MeansKept c' M.answer
+  means_as e = subst (λ (x : Result Counted Fault). MeansKept x M.answer) e M.means
 
-  pub bracket_fault : {A : Type 0} {e t : ℕ} → c ≡ Fault e t → A
+  pub bracket_fault : {A : Type 0} {x : Fault} → c ≡ Err x → A
   bracket_fault e = let z = means_as e in no_got (sym (close_fault st (tokens_of room n) M.answer z.1) ∙ answer_is)
 
-  module _ {count tag bytes next : ℕ} (e : c ≡ Many count tag bytes next) where
+  module _ {g : Counted} (e : c ≡ Ok g) where
     pub bracket_kept : Clauses
     bracket_kept = (means_as e).0
 
-    pub bracket_says : Eventually (clauses_run st (tokens_of room n) (name_from room default from) depth none i) (got (kept bracket_kept next))
+    pub bracket_says : Eventually (clauses_run st (tokens_of room n) (name_from room default from) depth none i) (got (kept bracket_kept g.next))
     unfolding bracket_kept
     bracket_says = (suc (n - i), λ k h. M.says k h ∙ (means_as e).1)
 
-    pub bracket_sums : Sums bracket_kept count tag bytes
+    pub bracket_sums : Sums bracket_kept g.sum.count g.sum.tag g.sum.bytes
     unfolding bracket_kept
     bracket_sums = (means_as e).2
 
-    pub bracket_closed : is_at 10 (tokens_of room n) next ≡ true
-    bracket_closed = ⊎_elim (λ t. t) (λ t. no_got (sym (close_missing st (tokens_of room n) M.answer (means_as e).1 t) ∙ answer_is)) (split (is_at 10 (tokens_of room n) next))
+    pub bracket_closed : is_at 10 (tokens_of room n) g.next ≡ true
+    bracket_closed = ⊎_elim (λ t. t) (λ t. no_got (sym (close_missing st (tokens_of room n) M.answer (means_as e).1 t) ∙ answer_is)) (split (is_at 10 (tokens_of room n) g.next))
 
-    pub bracket_boost : boost_at st (tokens_of room n) (query_of bracket_kept) (next + 1) ≡ got (found m j)
+    pub bracket_boost : boost_at st (tokens_of room n) (query_of bracket_kept) (g.next + 1) ≡ got (found m j)
     unfolding bracket_kept
     bracket_boost = sym (close_goes st (tokens_of room n) M.answer (means_as e).1 bracket_closed) ∙ answer_is
 
     -- the query fills its stretch
     pub bracket_query : (alone : Bool) (len : ℕ) → alone ≡ is_alone bracket_kept → len ≡ made_length (query_of bracket_kept)
-        → QueryToWrite room n default operator from analyzer depth i alone len st bracket_kept next
+        → QueryToWrite room n default operator from analyzer depth i alone len st bracket_kept g.next
     bracket_query alone len a l = record { tuned = W.tuned; is = bracket_says; alone_is = a; fills = l }
 
 -- ---- the middle of an output

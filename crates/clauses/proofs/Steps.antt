@@ -3,6 +3,8 @@ use mathlib.Core.Path.{◌≡◌, refl, sym, subst, ◌∙◌}
 use mathlib.Core.Bool.{true, false}
 use Prim.Native.Nat.{ℕ, zero, suc, ◌+◌, ◌-◌, ◌*◌, ◌≤◌, ◌<◌}
 use mathlib.Core.List.{List}
+use Rattle.std.specs.Prelude.{Result, Ok, Err}
+use native.Mathlib.Decide.{dec_lt}
 use native.Mathlib.Omega.{arith}
 use lib.Dec.{ltb}
 use borrow.Author.Tests.{lt-ltb}
@@ -10,49 +12,23 @@ use Rattle.rules.specs.Numbers.{Refusal, faulty, Read, got, refused, and_then}
 use Rattle.rules.specs.Query.{Clauses, none, clause}
 use Rattle.rules.specs.Lexing.{Token}
 use Rattle.rules.specs.Setup.{Setup}
-use Rattle.rules.specs.Parsing.{Made, nothing, made, found, Kept, kept, stops_at, Conjunction, unjoined, joined_by_and, joined_by_or, Modifier, unmodified, required, prohibited, conjunction_at, after_conjunction, modifier_at, after_modifier, add_clause, parse_clauses}
-use Rattle.counted.specs.Kinds.{conjunction_of, modifier_of, is_kept, count_of, bytes_of, made_length, with_made, Sums}
+use Rattle.rules.specs.Parsing.{Made, nothing, made, found, Kept, kept, stops_at, Conjunction, Modifier, add_clause, parse_clauses}
+use Rattle.clauses.specs.Joining.{Leads}
+use Rattle.counted.specs.Kinds.{is_kept, count_of, bytes_of, made_length, with_made, Sums}
 use Rattle.row.specs.Row.{tokens_of}
 use Rattle.clauses.specs.Measured.{Says, place_at, Rowed, clause_run, clauses_run, MeansFound, WithinClause, MeantClause, MeantClauses}
-use Rattle.clauses.specs.declared.kinds.Measured.{Measured}
-use Rattle.clauses.specs.declared.kinds.Measured.TheVariants.{Refused, Clause}
-use Rattle.counted.specs.declared.Counted.TheVariants.{Fault, Clauses as Many}
-use Rattle.clauses.proofs.Rows.{place_near, place_most_lem}
+use Rattle.names.specs.declared.refusal.Fault.{Fault}
+use Rattle.clauses.specs.declared.kinds.Clause.{Clause}
+use Rattle.clauses.proofs.Rows.{place_near, place_step_two, place_most_lem}
 
 -- ---- what was read before a clause
 
-pub record Lead (ts : List Token) (cs : Clauses) (i c j m k : ℕ) : Type 0 where
-  pub joins : conjunction_at cs ts i ≡ conjunction_of c
-  pub first : j ≡ after_conjunction (conjunction_of c) i
-  pub modifies : modifier_at ts j ≡ modifier_of m
-  pub second : k ≡ after_modifier (modifier_of m) j
-
-past_conjunction : (c : Conjunction) (i : ℕ) → (i ≤ after_conjunction c i) × (after_conjunction c i ≤ i + 1)
-past_conjunction unjoined i = omega arith
-past_conjunction joined_by_and i = omega arith
-past_conjunction joined_by_or i = omega arith
-
-past_modifier : (m : Modifier) (i : ℕ) → (i ≤ after_modifier m i) × (after_modifier m i ≤ i + 1)
-past_modifier unmodified i = omega arith
-past_modifier required i = omega arith
-past_modifier prohibited i = omega arith
-
-pub past_one : (c i j : ℕ) → j ≡ after_conjunction (conjunction_of c) i → j ≤ i + 1
-past_one c i j e = rw e (past_conjunction (conjunction_of c) i).1
-
--- the same as far as numbers go
-pub record Led (i j k : ℕ) : Type 0 where
-  pub one : (i ≤ j) × (j ≤ i + 1)
-  pub two : (j ≤ k) × (k ≤ j + 1)
-
-pub led : (c m i j k : ℕ) → j ≡ after_conjunction (conjunction_of c) i → k ≡ after_modifier (modifier_of m) j → Led i j k
-led c m i j k e f = record {
-  one = rw e (past_conjunction (conjunction_of c) i);
-  two = rw f (past_modifier (modifier_of m) j);
-}
-
-pub led_place : {room : List ℕ} {n : ℕ} (R : Rowed room n) {i j k : ℕ} → Led i j k → place_at (tokens_of room n) i ≤ place_at (tokens_of room n) k
-led_place R {i} {j} {k} L = omega (arith, place_near R i j L.one.0 L.one.1, place_near R j k L.two.0 L.two.1)
+pub lead_place : {room : List ℕ} {n : ℕ} (R : Rowed room n) {i k : ℕ} → (i ≤ k) × (k ≤ i + 2) → place_at (tokens_of room n) i ≤ place_at (tokens_of room n) k
+lead_place {room} {n} R {i} {k} h = by (dec_lt (i + 1) k)
+  where
+    by : Dec (i + 1 < k) → place_at (tokens_of room n) i ≤ place_at (tokens_of room n) k
+    by (yes l) = let e : k ≡ i + 2 = omega arith in rw e (place_step_two R i)
+    by (no l) = place_near R i k h.0 (omega arith)
 
 pub added_is : (o : ℕ) (c : Conjunction) (m : Modifier) (more : Clauses → ℕ → Read Kept) (cs : Clauses) (q : Made) (next : ℕ)
     → add_clause o c m more cs (found q next) ≡ more (with_made o c m cs q) next
@@ -66,11 +42,11 @@ module _ (st : Setup) (ts : List Token) (f : List ℕ) (d : ℕ) (cs : Clauses) 
   step_end n e zero h = absurd (omega arith)
   step_end n e (suc k) h = rw e
 
-  module _ {c j m k : ℕ} (goes : stops_at ts i ≡ false) (L : Lead ts cs i c j m k) where
+  module _ {c : Conjunction} {m : Modifier} {k : ℕ} (goes : stops_at ts i ≡ false) (L : Leads ts cs i c m k) where
     pub run_is : (x : ℕ) → clauses_run st ts f d cs i (suc x)
-        ≡ and_then (clause_run st ts f d k x) (add_clause st.operator (conjunction_of c) (modifier_of m) (λ ds h. parse_clauses st ts x f d ds h) cs)
+        ≡ and_then (clause_run st ts f d k x) (add_clause st.operator c m (λ ds h. parse_clauses st ts x f d ds h) cs)
     unfolding parse_clauses
-    run_is x = rw (goes, L.joins, ← L.first, L.modifies, ← L.second)
+    run_is x = rw (goes, L.joins, L.modifies, ← L.next)
 
     module _ (n : ℕ) (l : i < n) (low : i ≤ k) where
       pub step_refused : {x : Refusal} → Says (clause_run st ts f d k) (n - k) (refused x) → Says (clauses_run st ts f d cs i) (suc (n - i)) (refused x)
@@ -78,7 +54,7 @@ module _ (st : Setup) (ts : List Token) (f : List ℕ) (d : ℕ) (cs : Clauses) 
       step_refused s (suc y) h = run_is y ∙ rw (s y (omega arith))
 
       pub step_found : {q : Made} {next : ℕ} → Says (clause_run st ts f d k) (n - k) (got (found q next)) → k < next → {R : Read Kept}
-          → Says (clauses_run st ts f d (with_made st.operator (conjunction_of c) (modifier_of m) cs q) next) (suc (n - next)) R
+          → Says (clauses_run st ts f d (with_made st.operator c m cs q) next) (suc (n - next)) R
           → Says (clauses_run st ts f d cs i) (suc (n - i)) R
       step_found s g r zero h = absurd (omega arith)
       step_found {q} {next} s g r (suc y) h = run_is y ∙ rw (s y (omega arith)) (added_is _ _ _ _ cs q next ∙ r y (omega arith))
@@ -95,12 +71,12 @@ pub record Bounds (ts : List Token) (n at i count bytes : ℕ) : Type 0 where
 pub bounds_start : (ts : List Token) (n at : ℕ) → at ≤ n → Bounds ts n at at 0 0
 bounds_start ts n at h = record { from = omega arith; upto = h; place = omega arith; size = omega arith; least = omega arith }
 
-pub bounds_on : {room : List ℕ} {n : ℕ} (R : Rowed room n) (at i j k count bytes count' bytes' len next : ℕ) → Bounds (tokens_of room n) n at i count bytes → Led i j k
-    → WithinClause (tokens_of room n) n k (Clause len next) → (bytes' ≤ bytes + len + 3) × (3 * count ≤ bytes → 3 * count' ≤ bytes') → Bounds (tokens_of room n) n at next count' bytes'
-bounds_on R at i j k count bytes count' bytes' len next B L W h =
-    let p = led_place R L in
+pub bounds_on : {room : List ℕ} {n : ℕ} (R : Rowed room n) (at i k count bytes count' bytes' : ℕ) (g : Clause) → Bounds (tokens_of room n) n at i count bytes → (i ≤ k) × (k ≤ i + 2)
+    → WithinClause (tokens_of room n) n k (Ok g) → (bytes' ≤ bytes + g.len + 3) × (3 * count ≤ bytes → 3 * count' ≤ bytes') → Bounds (tokens_of room n) n at g.next count' bytes'
+bounds_on R at i k count bytes count' bytes' g B L W h =
+    let p = lead_place R L in
     record {
-      from = omega (arith, B.from, L.one, L.two, W.0);
+      from = omega (arith, B.from, L.0, W.0);
       upto = W.1;
       place = omega (arith, B.place, W.2);
       size = omega (arith, B.place, B.size, W.2, W.3, h.0);
@@ -110,8 +86,8 @@ bounds_on R at i j k count bytes count' bytes' len next B L W h =
 pub bounds_small : {room : List ℕ} {n : ℕ} (R : Rowed room n) {at i count bytes : ℕ} → Bounds (tokens_of room n) n at i count bytes → (bytes ≤ 64512) × (count ≤ 64512)
 bounds_small R {i = i} B = (omega (arith, B.size, place_most_lem R i), omega (arith, B.size, place_most_lem R i, B.least))
 
-pub clause_small : {room : List ℕ} {n : ℕ} (R : Rowed room n) {k len next : ℕ} → WithinClause (tokens_of room n) n k (Clause len next) → len ≤ 64512
-clause_small R {next = next} W = omega (arith, W.3, place_most_lem R next)
+pub clause_small : {room : List ℕ} {n : ℕ} (R : Rowed room n) {k : ℕ} {g : Clause} → WithinClause (tokens_of room n) n k (Ok g) → g.len ≤ 64512
+clause_small R {g = g} W = omega (arith, W.3, place_most_lem R g.next)
 
 -- acc is kept so far, and what follows from here on is what follows from the start
 pub record Turn (st : Setup) (ts : List Token) (n : ℕ) (f : List ℕ) (d at i count tag bytes : ℕ) : Type 0 where
@@ -129,35 +105,35 @@ kept_counted none s = rw s.counted
 kept_counted (clause k q cs) {count} s = sym (lt-ltb 0 count (omega (arith, s.counted)))
 
 module _ {st : Setup} {ts : List Token} {n : ℕ} {f : List ℕ} {d at i count tag bytes : ℕ} (T : Turn st ts n f d at i count tag bytes) where
-  pub turn_end : stops_at ts i ≡ true → MeantClauses st ts n f d at (Many count tag bytes i)
+  pub turn_end : stops_at ts i ≡ true → MeantClauses st ts n f d at (Ok (record { sum = record { count = count; tag = tag; bytes = bytes }; next = i }))
   turn_end e = record {
     answer = got (kept T.acc i);
     says = T.says (got (kept T.acc i)) (step_end st ts f d T.acc i (n - i) e);
     means = (T.acc, refl, T.sums);
   }
 
-  module _ (goes : stops_at ts i ≡ false) (l : i < n) (c j m k : ℕ) (low : i ≤ k) (L : (cs : Clauses) → is_kept cs ≡ ltb 0 count → Lead ts cs i c j m k) where
-    lead : Lead ts T.acc i c j m k
+  module _ (goes : stops_at ts i ≡ false) (l : i < n) (c : Conjunction) (m : Modifier) (k : ℕ) (low : i ≤ k) (L : (cs : Clauses) → is_kept cs ≡ ltb 0 count → Leads ts cs i c m k) where
+    lead : Leads ts T.acc i c m k
     lead = L T.acc (kept_counted T.acc T.sums)
 
-    pub turn_refused : {e t : ℕ} {g : Measured} → g ≡ Refused e t → MeantClause st ts n f d k g → MeantClauses st ts n f d at (Fault e t)
-    turn_refused {e} {t} {g} E M = by (subst (λ (g : Measured). MeansFound g M.answer) E M.means)
+    pub turn_refused : {e : Fault} {g : Result Clause Fault} → g ≡ Err e → MeantClause st ts n f d k g → MeantClauses st ts n f d at (Err e)
+    turn_refused {e} {g} E M = by (subst (λ (g : Result Clause Fault). MeansFound g M.answer) E M.means)
       where
-        by : MeansFound (Refused e t) M.answer → MeantClauses st ts n f d at (Fault e t)
+        by : MeansFound (Err e) M.answer → MeantClauses st ts n f d at (Err e)
         by (x, a, b) = record {
-          answer = refused (faulty x t);
-          says = T.says (refused (faulty x t)) (step_refused st ts f d T.acc i goes lead n l low (λ y h. M.says y h ∙ a));
+          answer = refused (faulty x e.place);
+          says = T.says (refused (faulty x e.place)) (step_refused st ts f d T.acc i goes lead n l low (λ y h. M.says y h ∙ a));
           means = (x, refl, b);
         }
 
-    pub turn_found : {len next count' tag' bytes' : ℕ} {g : Measured} → g ≡ Clause len next → MeantClause st ts n f d k g → k < next
-        → ((cs : Clauses) (q : Made) → Sums cs count tag bytes → len ≡ made_length q → Sums (with_made st.operator (conjunction_of c) (modifier_of m) cs q) count' tag' bytes')
-        → Turn st ts n f d at next count' tag' bytes'
-    turn_found {len} {next} {count'} {tag'} {bytes'} E M h S = by (subst (λ (g : Measured). MeansFound g M.answer) E M.means)
+    pub turn_found : {a : Clause} {count' tag' bytes' : ℕ} {g : Result Clause Fault} → g ≡ Ok a → MeantClause st ts n f d k g → k < a.next
+        → ((cs : Clauses) (q : Made) → Sums cs count tag bytes → a.len ≡ made_length q → Sums (with_made st.operator c m cs q) count' tag' bytes')
+        → Turn st ts n f d at a.next count' tag' bytes'
+    turn_found {a} {count'} {tag'} {bytes'} E M h S = by (subst (λ (g : Result Clause Fault). MeansFound g M.answer) E M.means)
       where
-        by : MeansFound (Clause len next) M.answer → Turn st ts n f d at next count' tag' bytes'
-        by (q, a, b) = record {
-          acc = with_made st.operator (conjunction_of c) (modifier_of m) T.acc q;
+        by : MeansFound (Ok a) M.answer → Turn st ts n f d at a.next count' tag' bytes'
+        by (q, x, b) = record {
+          acc = with_made st.operator c m T.acc q;
           sums = S T.acc q T.sums b;
-          says = λ R s. T.says R (step_found st ts f d T.acc i goes lead n l low (λ y z. M.says y z ∙ a) h s);
+          says = λ R s. T.says R (step_found st ts f d T.acc i goes lead n l low (λ y z. M.says y z ∙ x) h s);
         }

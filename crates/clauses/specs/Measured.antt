@@ -1,16 +1,17 @@
 -- What the measuring routines answer of what is read: a refusal's number and the token that it is met at, or lengths and the number of the next token.
-use Rattle.std.specs.Prelude.{◌≡◌, ℕ, suc, ◌+◌, ◌*◌, ◌-◌, ◌≤◌, ◌<◌, List, [], Bool, true, ◌&&◌, length, get_or}
-use Rattle.rules.specs.Numbers.{Fault, fault_number, faulty, Read, got, refused, on_read, text_most, field_most}
+use Rattle.std.specs.Prelude.{◌≡◌, Result, Ok, Err, ℕ, suc, ◌+◌, ◌*◌, ◌-◌, ◌≤◌, ◌<◌, List, [], Bool, true, ◌&&◌, length, get_or}
+use Rattle.rules.specs.Numbers.{faulty, Read, got, refused, on_read, text_most, field_most}
+use Rattle.rules.specs.Numbers as rules
 use Rattle.rules.specs.Query.{Clauses, none}
 use Rattle.rules.specs.Lexing.{Token, end_kind, term_kind, colon_kind}
 use Rattle.rules.specs.Setup.{Setup, analyzer_of}
 use Rattle.rules.specs.Parsing.{Made, Found, found, Kept, kept, is_at, text_at, query_found, clause_at, parse_clauses}
 use Rattle.row.specs.Row.{room_least, note_in, tokens_of, Laid, Worded, name_from}
 use Rattle.counted.specs.Kinds.{Sums, made_length}
-use Rattle.clauses.specs.declared.kinds.Measured.{Measured}
-use Rattle.clauses.specs.declared.kinds.Measured.TheVariants.{Refused, Clause}
+use Rattle.names.specs.Refusals.{coded_fault}
+use Rattle.names.specs.declared.refusal.Fault.{Fault}
+use Rattle.clauses.specs.declared.kinds.Clause.{Clause}
 use Rattle.counted.specs.declared.Counted.{Counted}
-use Rattle.counted.specs.declared.Counted.TheVariants.{Fault as Failed, Clauses as Many}
 
 -- every fuel from m on gives r
 abbrev pub Says : {A : Type 0} → (ℕ → Read A) → ℕ → Read A → Type 0
@@ -65,30 +66,30 @@ clauses_run st ts f d cs i k = parse_clauses st ts k f d cs i
 
 -- ---- the answers
 
-abbrev pub MeansFound : Measured → Read Found → Type 0
-MeansFound (Refused e t) r = (f : Fault) × (r ≡ refused (faulty f t)) × (e ≡ fault_number f)
-MeansFound (Clause len next) r = (m : Made) × (r ≡ got (found m next)) × (len ≡ made_length m)
+abbrev pub MeansFound : Result Clause Fault → Read Found → Type 0
+MeansFound (Err e) r = (f : rules.Fault) × (r ≡ refused (faulty f e.place)) × (e.refusal ≡ coded_fault f)
+MeansFound (Ok c) r = (m : Made) × (r ≡ got (found m c.next)) × (c.len ≡ made_length m)
 
-abbrev pub MeansKept : Counted → Read Kept → Type 0
-MeansKept (Failed e t) r = (f : Fault) × (r ≡ refused (faulty f t)) × (e ≡ fault_number f)
-MeansKept (Many count tag bytes next) r = (cs : Clauses) × (r ≡ got (kept cs next)) × Sums cs count tag bytes
+abbrev pub MeansKept : Result Counted Fault → Read Kept → Type 0
+MeansKept (Err e) r = (f : rules.Fault) × (r ≡ refused (faulty f e.place)) × (e.refusal ≡ coded_fault f)
+MeansKept (Ok g) r = (cs : Clauses) × (r ≡ got (kept cs g.next)) × Sums cs g.sum.count g.sum.tag g.sum.bytes
 
 -- a clause from i on ends at next, and takes at most 63 bytes for each byte of the text, with its header
-abbrev pub WithinClause : List Token → ℕ → ℕ → Measured → Type 0
-WithinClause ts n i (Refused e t) = 0 ≤ e
-WithinClause ts n i (Clause len next) = (i < next) × (next ≤ n) × (place_at ts i + 1 ≤ place_at ts next) × (len + 3 ≤ 63 * (place_at ts next - place_at ts i))
+abbrev pub WithinClause : List Token → ℕ → ℕ → Result Clause Fault → Type 0
+WithinClause ts n i (Err e) = 0 ≤ e.place
+WithinClause ts n i (Ok c) = (i < c.next) × (c.next ≤ n) × (place_at ts i + 1 ≤ place_at ts c.next) × (c.len + 3 ≤ 63 * (place_at ts c.next - place_at ts i))
 
-abbrev pub WithinClauses : List Token → ℕ → ℕ → Counted → Type 0
-WithinClauses ts n i (Failed e t) = 0 ≤ e
-WithinClauses ts n i (Many count tag bytes next) =
-    (i ≤ next) × (next ≤ n) × (place_at ts i ≤ place_at ts next) × (bytes ≤ 63 * (place_at ts next - place_at ts i)) × (3 * count ≤ bytes)
+abbrev pub WithinClauses : List Token → ℕ → ℕ → Result Counted Fault → Type 0
+WithinClauses ts n i (Err e) = 0 ≤ e.place
+WithinClauses ts n i (Ok g) =
+    (i ≤ g.next) × (g.next ≤ n) × (place_at ts i ≤ place_at ts g.next) × (g.sum.bytes ≤ 63 * (place_at ts g.next - place_at ts i)) × (3 * g.sum.count ≤ g.sum.bytes)
 
-pub record MeantClause (st : Setup) (ts : List Token) (n : ℕ) (f : List ℕ) (d i : ℕ) (g : Measured) : Type 0 where
+pub record MeantClause (st : Setup) (ts : List Token) (n : ℕ) (f : List ℕ) (d i : ℕ) (g : Result Clause Fault) : Type 0 where
   pub answer : Read Found
   pub says : Says (clause_run st ts f d i) (n - i) answer
   pub means : MeansFound g answer
 
-pub record MeantClauses (st : Setup) (ts : List Token) (n : ℕ) (f : List ℕ) (d i : ℕ) (g : Counted) : Type 0 where
+pub record MeantClauses (st : Setup) (ts : List Token) (n : ℕ) (f : List ℕ) (d i : ℕ) (g : Result Counted Fault) : Type 0 where
   pub answer : Read Kept
   pub says : Says (clauses_run st ts f d none i) (suc (n - i)) answer
   pub means : MeansKept g answer

@@ -1,15 +1,15 @@
 -- Where a clause begins behind a field name, and how a boost behind it is bounded.
-use Rattle.std.specs.Prelude.{◌≡◌, ℕ, ◌+◌, ◌≤◌, List}
+use Rattle.std.specs.Prelude.{◌≡◌, Result, Ok, Err, ℕ, ◌+◌, ◌≤◌, List}
 use Rattle.rules.specs.Numbers.{Read, refused, faulty, long_field}
 use Rattle.rules.specs.Lexing.{Token}
 use Rattle.rules.specs.Setup.{Setup}
 use Rattle.rules.specs.Parsing.{Found, clause_at, body_at}
 use Rattle.row.specs.Row.{tokens_of, name_from}
 use Rattle.clauses.specs.Measured.{place_at, Fielded, Tuned}
-use Rattle.clauses.specs.declared.kinds.Measured.{Measured}
-use Rattle.clauses.specs.declared.kinds.Measured.TheVariants.{Refused, Clause}
+use Rattle.names.specs.Refusals.{located}
+use Rattle.names.specs.declared.refusal.Fault.{Fault}
+use Rattle.clauses.specs.declared.kinds.Clause.{Clause}
 use Rattle.clauses.specs.declared.start.Start.{Start}
-use Rattle.clauses.specs.declared.start.Start.TheVariants.{Long, At}
 
 -- the clause at i, in the field `from`, is the body at i', in the field `from'`
 pub record Started (room : List ℕ) (n i from analyzer from' analyzer' i' : ℕ) : Type 0 where
@@ -21,12 +21,12 @@ pub record Started (room : List ℕ) (n i from analyzer from' analyzer' i' : ℕ
   pub goes : (st : Setup) (sub : List ℕ → ℕ → ℕ → Read Found) (default : List ℕ) (d : ℕ)
       → clause_at st (tokens_of room n) sub (name_from room default from) d i ≡ body_at st (tokens_of room n) sub (name_from room default from') d i'
 
-abbrev pub Starts : List ℕ → ℕ → ℕ → ℕ → ℕ → Start → Type 0
-Starts room n i from analyzer Long =
-    (st : Setup) (sub : List ℕ → ℕ → ℕ → Read Found) (f : List ℕ) (d : ℕ) → clause_at st (tokens_of room n) sub f d i ≡ refused (faulty long_field i)
-Starts room n i from analyzer (At from' analyzer' i') = Started room n i from analyzer from' analyzer' i'
+abbrev pub Starts : List ℕ → ℕ → ℕ → ℕ → ℕ → Result Start Fault → Type 0
+Starts room n i from analyzer (Err e) =
+    ((st : Setup) (sub : List ℕ → ℕ → ℕ → Read Found) (f : List ℕ) (d : ℕ) → clause_at st (tokens_of room n) sub f d i ≡ refused (faulty long_field i)) × (e ≡ located (faulty long_field i))
+Starts room n i from analyzer (Ok s) = Started room n i from analyzer s.from s.analyzer s.i
 
 -- a boost adds seven bytes at most, and the clause ends at i or behind the boost
-abbrev pub WithinBoost : List Token → ℕ → ℕ → ℕ → Measured → Type 0
-WithinBoost ts n i len (Refused e t) = 0 ≤ e
-WithinBoost ts n i len (Clause len' next) = (i ≤ next) × (next ≤ n) × (place_at ts i ≤ place_at ts next) × (len' ≤ len + 7)
+abbrev pub WithinBoost : List Token → ℕ → ℕ → ℕ → Result Clause Fault → Type 0
+WithinBoost ts n i len (Err e) = 0 ≤ e.place
+WithinBoost ts n i len (Ok c) = (i ≤ c.next) × (c.next ≤ n) × (place_at ts i ≤ place_at ts c.next) × (c.len ≤ len + 7)

@@ -5,10 +5,10 @@ use Rattle.rules.specs.Bytes.{big, part}
 use Rattle.rules.specs.Query.{Clauses, none}
 use Rattle.rules.specs.Lexing.{Token, term_kind, caret_kind}
 use Rattle.rules.specs.Setup.{Setup}
-use Rattle.rules.specs.Parsing.{Made, Found, found, kept, is_at, closed_at, query_found, query_of, touched, parse_clauses}
+use Rattle.rules.specs.Parsing.{Conjunction, Made, Found, found, kept, is_at, closed_at, query_found, query_of, touched, parse_clauses}
 use Rattle.numbers.specs.Laid.{Put, header}
 use Rattle.row.specs.Row.{tokens_of, name_from}
-use Rattle.counted.specs.Kinds.{conjunction_of, last_tag, is_alone, made_length}
+use Rattle.counted.specs.Kinds.{last_tag, is_alone, made_length}
 use Rattle.clauses.specs.Leaves.{leaf_at}
 use Rattle.clauses.specs.Measured.{Says, Tuned, clause_run, clauses_run}
 
@@ -82,7 +82,7 @@ body_start alone at = cond alone at (at + 3)
 -- ---- the last clause's kind
 
 -- its tag stands at a place, and a conjunction alters it there
-abbrev pub Touches : Bool → ℕ → ℕ → ℕ → List ℕ → List ℕ → Type 0
+abbrev pub Touches : Bool → ℕ → ℕ → Conjunction → List ℕ → List ℕ → Type 0
 Touches false last o c out out' = out' ≡ out
 Touches true last o c out out' =
-    (cs : Clauses) → get_or out last 0 ≡ last_tag cs → out' ≡ set out last (last_tag (touched o (conjunction_of c) cs))
+    (cs : Clauses) → get_or out last 0 ≡ last_tag cs → out' ≡ set out last (last_tag (touched o c cs))

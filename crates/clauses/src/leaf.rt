@@ -43,6 +43,8 @@ pub struct Tally {
 }
 
 // The tokens of a text: how many there are, and their bytes, with `each` more for every token.
+// Stays: no index is counted, since the place goes on by what `next_token` found; and this loop, put_clauses and put_words are no one function that is handed a closure: of a closure that writes to what it captures
+// the proof knows nothing (CONTRACTS.md, "Chains of iterators").
 fn count_tokens(text: &[u8], analyzer: u8, each: usize) -> Tally
     requires { (each ≤ 44) × (length text.now ≤ text_most) }
     ensures { Tallied (tokenize analyzer text.now) each result.count result.bytes }
@@ -54,10 +56,7 @@ fn count_tokens(text: &[u8], analyzer: u8, each: usize) -> Tally
     loop {
         let t = tokens::next_token(text, analyzer, at, position);
         if t.len == 0 {
-            return Tally {
-                count: count,
-                bytes: bytes,
-            };
+            return Tally { count, bytes };
         }
         count += 1;
         bytes = bytes + each + t.len;
@@ -103,10 +102,7 @@ fn is_one_word(known: bool, analyzer: u8, text: &[u8]) -> bool
     requires { known ≡ true → OneWord text.now }
     ensures { result ≡ true → tokenize analyzer text.now ≡ word 0 (spelled analyzer text.now) ∷ [] }
 {
-    if known {
-        return !tokens::is_left_out(analyzer, text);
-    }
-    false
+    known && !tokens::is_left_out(analyzer, text)
 }
 
 // The text is one token: all of it to a keyword, and to the others where it is known to be a word; English may leave it out.
@@ -114,17 +110,15 @@ pub fn is_one(known: bool, analyzer: u8, text: &[u8]) -> bool
     requires { known ≡ true → OneWord text.now }
     ensures { result ≡ true → tokenize analyzer text.now ≡ word 0 (spelled analyzer text.now) ∷ [] }
 {
-    if analyzer == WHITESPACE_ANALYZER {
-        return known;
+    match analyzer {
+        WHITESPACE_ANALYZER | SIMPLE_ANALYZER => known,
+        _ if tokens::is_words(analyzer) => is_one_word(known, analyzer, text),
+        _ => !text.is_empty(),
     }
-    if analyzer == SIMPLE_ANALYZER {
-        return known;
-    }
-    if tokens::is_words(analyzer) {
-        return is_one_word(known, analyzer, text);
-    }
-    0 < text.len()
 }
+
+// Stays: `plain` and `one` are in the clauses of `leaf_len` and `write_text`, by which the cycle of both passes is proved (`leaf_of plain`); the limits on text,
+// field and output in the contracts of this file are bounds of one length each, for which a type would be made anew at every token.
 
 // How long the query of a term's text is, or of a quoted text. Where the text is known to be one token, nothing is counted.
 pub fn leaf_len(plain: bool, one: bool, text: &[u8], analyzer: u8, field: usize) -> usize
@@ -146,10 +140,8 @@ fn put_spelled(out: &mut [u8], at: usize, analyzer: u8, s: &[u8]) -> usize
     requires { at + length s.now ≤ length out.old }
     ensures { Put out.old at (spelled analyzer s.now) result out.new }
 {
-    let mut k = 0;
-    while k < s.len() {
-        out[at + k] = tokens::written(analyzer, s[k]);
-        k += 1;
+    for (k, &c) in s.iter().enumerate() {
+        out[at + k] = tokens::written(analyzer, c);
     }
     at + s.len()
 }

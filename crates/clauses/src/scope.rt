@@ -1,10 +1,20 @@
 // What both passes hand down through the grammar.
+ghost use Rattle.clauses.specs.Measured.{Rowed};
 
-// How many tokens there are, the field in force by number, how many brackets are open, the operator of the setup, the analyzer of the field.
-// The wide ones stand first: so it is four words on the stack, for each bracket.
+// The row of tokens that the lexer left in the room, and the default field.
+#[derive(Clone, Copy)]
+pub struct Row<'a> {
+    pub room: &'a [u8],
+    pub n: usize,
+    pub default: &'a [u8],
+    ghost rowed: { Rowed room.now n },
+}
+
+// The field in force by number, how many brackets are open, the operator of the setup, the analyzer of the field.
+// The wide ones stand first: so it is three words on the stack, for each bracket.
+// Stays: operator and analyzer are the numbers that `gorbihesh_parse` is handed from C, and that the definitions of `rules` take.
 #[derive(Clone, Copy)]
 pub struct Scope {
-    pub n: usize,
     pub from: usize,
     pub depth: usize,
     pub operator: u8,

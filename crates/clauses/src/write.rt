@@ -11,17 +11,17 @@ ghost use Rattle.rules.specs.Parsing.{Made, found, is_at, text_at, boost_at, que
 ghost use Rattle.numbers.specs.Laid.{Put};
 ghost use Rattle.row.specs.Row.{room_least, tokens_of};
 ghost use Rattle.counted.specs.Kinds.{made_bytes};
+ghost use Rattle.clauses.specs.Joining.{conjunction_of};
 ghost use Rattle.clauses.specs.Measured.{Rowed, Fielded};
 ghost use Rattle.clauses.specs.Written.{bits_in, boost_size, body_start, bool_front, PutUnless, Touches, LeafToWrite, BracketToWrite, ClauseToWrite, QueryToWrite};
 
 use crate::kinds;
-use crate::kinds::is_at;
+use crate::kinds::{Conjunction, is_at};
 use crate::leaf::write_text;
 use crate::measure::measure_query;
-use crate::scope::Scope;
-use crate::start::{Start, clause_start, one_at};
-use boost::numeral::{Answer, numeral};
-use counted::{Counted, is_alone, query_len};
+use crate::scope::{Row, Scope};
+use crate::start::{clause_start, one_at};
+use boost::numeral::numeral;
 use names::{
     BOOLEAN_FRONT, BOOLEAN_TAG, BOOST_FRONT, BOOST_TAG, CARET_KIND, HEADER, OPEN_KIND, TERM_KIND,
 };
@@ -30,14 +30,11 @@ use parts::write::{put_header, put_minimum};
 use row::{field_part, text_at};
 
 // The bits of the numeral at the token i.
-fn bits_at(room: &[u8], n: usize, i: usize) -> u32
-    requires { (Rowed room.now n) × (i < n) }
-    ensures { result ≡ bits_in (numeral_bits (text_at (tokens_of room.now n) i)) }
+fn bits_at(row: &Row, i: usize) -> u32
+    requires { i < row.now.n }
+    ensures { result ≡ bits_in (numeral_bits (text_at (tokens_of row.now.room.now row.now.n) i)) }
 {
-    match numeral(text_at(room, i)) {
-        Answer::Refused(_) => 0,
-        Answer::Bits(b) => b,
-    }
+    numeral(text_at(row.room, i)).unwrap_or(0)
 }
 
 // Where the bytes of what was written end, and the number of the next token.
@@ -48,34 +45,24 @@ struct Wrote {
 }
 
 // How many bytes the front of a boost takes, where one stands at i.
-fn boost_size(room: &[u8], n: usize, i: usize) -> usize
-    requires { (n ≤ text_most) × (room_least ≤ length room.now) × (i ≤ 4000) }
-    ensures { result ≡ boost_size (tokens_of room.now n) i }
+fn boost_size(row: &Row, i: usize) -> usize
+    requires { i ≤ 4000 }
+    ensures { result ≡ boost_size (tokens_of row.now.room.now row.now.n) i }
 {
-    if is_at(room, n, CARET_KIND, i) {
-        if is_at(room, n, TERM_KIND, i + 1) {
-            return BOOST_FRONT;
-        }
+    if is_at(row, CARET_KIND, i) && is_at(row, TERM_KIND, i + 1) {
+        return BOOST_FRONT;
     }
     0
 }
 
 // What is boosted was laid from `start` to `end`: the front goes before it, to `at`, if a boost stands at i. A boost of nothing is nothing.
-fn put_boost(
-    room: &[u8],
-    n: usize,
-    i: usize,
-    out: &mut [u8],
-    at: usize,
-    start: usize,
-    end: usize,
-) -> Wrote
-    requires { (Rowed room.now n) × (i ≤ n) × (start ≡ at + boost_size (tokens_of room.now n) i) × (start ≤ end) × (start < end → end ≤ length out.old) × (length out.old ≤ 65000) }
-    ensures wrote { (st : Setup) (m w : Made) (j : ℕ) (before : List ℕ) → boost_at st (tokens_of room.now n) m i ≡ got (found w j) → Put before start (made_bytes m) end out.old → length before ≡ length out.old → (result.next ≡ j) × Put before at (made_bytes w) result.end out.new }
-    ensures within { (i ≤ result.next) × (result.next ≤ n) }
+fn put_boost(row: &Row, i: usize, out: &mut [u8], at: usize, start: usize, end: usize) -> Wrote
+    requires { (i ≤ row.now.n) × (start ≡ at + boost_size (tokens_of row.now.room.now row.now.n) i) × (start ≤ end) × (start < end → end ≤ length out.old) × (length out.old ≤ 65000) }
+    ensures wrote { (st : Setup) (m w : Made) (j : ℕ) (before : List ℕ) → boost_at st (tokens_of row.now.room.now row.now.n) m i ≡ got (found w j) → Put before start (made_bytes m) end out.old → length before ≡ length out.old → (result.next ≡ j) × Put before at (made_bytes w) result.end out.new }
+    ensures within { (i ≤ result.next) × (result.next ≤ row.now.n) }
 {
     if start == at {
-        return Wrote { end: end, next: i };
+        return Wrote { end, next: i };
     }
     if end == start {
         return Wrote {
@@ -84,42 +71,30 @@ fn put_boost(
         };
     }
     let b = put_header(out, at, BOOST_TAG, end - at - HEADER);
-    put_big4(out, b, bits_at(room, n, i + 1));
-    Wrote {
-        end: end,
-        next: i + 2,
-    }
+    put_big4(out, b, bits_at(row, i + 1));
+    Wrote { end, next: i + 2 }
 }
 
 // The term or the quote at i.
-fn write_leaf<'a>(
-    room: &'a [u8],
-    default: &'a [u8],
-    p: Scope,
-    plain: bool,
-    i: usize,
-    out: &mut [u8],
-    at: usize,
-) -> Wrote
-    requires { (Rowed room.now p.n) × (Fielded room.now p.n default.now p.from) × (i < p.n) × (at ≤ 65536) × (length out.old ≤ 65000) × (plain ≡ is_at term_kind (tokens_of room.now p.n) i) × ((st : Setup) × (m : Made) × (j : ℕ) × LeafToWrite room.now p.n default.now p.operator p.from p.analyzer i at (length out.old) st m j) }
-    ensures wrote { (st : Setup) (m : Made) (j : ℕ) → LeafToWrite room.now p.n default.now p.operator p.from p.analyzer i at (length out.old) st m j → (result.next ≡ j) × Put out.old at (made_bytes m) result.end out.new }
-    ensures within { (i < result.next) × (result.next ≤ p.n) }
+fn write_leaf(row: &Row, p: Scope, plain: bool, i: usize, out: &mut [u8], at: usize) -> Wrote
+    requires { (Fielded row.now.room.now row.now.n row.now.default.now p.from) × (i < row.now.n) × (at ≤ 65536) × (length out.old ≤ 65000) × (plain ≡ is_at term_kind (tokens_of row.now.room.now row.now.n) i) × ((st : Setup) × (m : Made) × (j : ℕ) × LeafToWrite row.now.room.now row.now.n row.now.default.now p.operator p.from p.analyzer i at (length out.old) st m j) }
+    ensures wrote { (st : Setup) (m : Made) (j : ℕ) → LeafToWrite row.now.room.now row.now.n row.now.default.now p.operator p.from p.analyzer i at (length out.old) st m j → (result.next ≡ j) × Put out.old at (made_bytes m) result.end out.new }
+    ensures within { (i < result.next) × (result.next ≤ row.now.n) }
 {
-    let field = field_part(room, default, p.from);
-    let text = text_at(room, i);
-    let one = one_at(room, p.n, i, p.analyzer);
-    let size = boost_size(room, p.n, i + 1);
+    let field = field_part(row.room, row.default, p.from);
+    let text = text_at(row.room, i);
+    let one = one_at(row, i, p.analyzer);
+    let size = boost_size(row, i + 1);
     if size == 0 {
         let end = write_text(plain, one, p.operator, field, p.analyzer, text, out, at);
-        return Wrote {
-            end: end,
-            next: i + 1,
-        };
+        return Wrote { end, next: i + 1 };
     }
     let start = at + size;
     let end = write_text(plain, one, p.operator, field, p.analyzer, text, out, start);
-    put_boost(room, p.n, i + 1, out, at, start, end)
+    put_boost(row, i + 1, out, at, start, end)
 }
+
+// Stays: `alone` is in the clauses of the public `write_query` (`QueryToWrite`), and what it leaves out is a front, not another step; likewise `kept` of a header.
 
 // The front of a Boolean that fills the stretch; none where a query is its one clause.
 fn put_query_front(out: &mut [u8], alone: bool) -> usize
@@ -146,115 +121,75 @@ fn body_start(alone: bool, at: usize) -> usize
 }
 
 // The conjunction c alters the kind of the clause that was kept last, whose header stands at `last`.
-fn touch_last(out: &mut [u8], kept: bool, last: usize, operator: u8, c: u8)
+fn touch_last(out: &mut [u8], kept: bool, last: usize, operator: u8, c: Option<Conjunction>)
     requires { last < length out.old }
-    ensures { Touches kept last operator c out.old out.new }
+    ensures { Touches kept last operator (conjunction_of c) out.old out.new }
 {
     if kept {
-        let tag = out[last];
-        out[last] = kinds::tag_before(operator, c, tag);
+        out[last] = kinds::tag_before(operator, c, out[last]);
     }
 }
 
 // The query in brackets from i on, and a boost behind it.
 #[cycle(write_bracket_write_clause_write_query)]
-fn write_bracket<'a>(
-    room: &'a [u8],
-    default: &'a [u8],
-    p: Scope,
-    i: usize,
-    out: &mut [u8],
-    at: usize,
-) -> Wrote
-    requires { (Rowed room.now p.n) × (Fielded room.now p.n default.now p.from) × (i ≤ p.n) × (p.depth ≤ 24) × (at ≤ 65536) × (length out.old ≤ 65000) × ((st : Setup) × (m : Made) × (j : ℕ) × BracketToWrite room.now p.n default.now p.operator p.from p.analyzer p.depth i at (length out.old) st m j) }
-    ensures wrote { (st : Setup) (m : Made) (j : ℕ) → BracketToWrite room.now p.n default.now p.operator p.from p.analyzer p.depth i at (length out.old) st m j → (result.next ≡ j) × Put out.old at (made_bytes m) result.end out.new }
-    ensures within { (i < result.next) × (result.next ≤ p.n) }
+fn write_bracket(row: &Row, p: Scope, i: usize, out: &mut [u8], at: usize) -> Wrote
+    requires { (Fielded row.now.room.now row.now.n row.now.default.now p.from) × (i ≤ row.now.n) × (p.depth ≤ 24) × (at ≤ 65536) × (length out.old ≤ 65000) × ((st : Setup) × (m : Made) × (j : ℕ) × BracketToWrite row.now.room.now row.now.n row.now.default.now p.operator p.from p.analyzer p.depth i at (length out.old) st m j) }
+    ensures wrote { (st : Setup) (m : Made) (j : ℕ) → BracketToWrite row.now.room.now row.now.n row.now.default.now p.operator p.from p.analyzer p.depth i at (length out.old) st m j → (result.next ≡ j) × Put out.old at (made_bytes m) result.end out.new }
+    ensures within { (i < result.next) × (result.next ≤ row.now.n) }
 {
-    match measure_query(room, default, p, i) {
-        Counted::Fault(_, _) => Wrote { end: at, next: i },
-        Counted::Clauses {
-            count,
-            tag,
-            bytes,
-            next,
-        } => {
-            let len = query_len(count, tag, bytes);
-            let start = at + boost_size(room, p.n, next + 1);
-            let end = start + len;
-            if len == 0 {
-                return put_boost(room, p.n, next + 1, out, at, start, start);
-            }
-            write_query(
-                room,
-                default,
-                p,
-                i,
-                is_alone(count, tag),
-                &mut out[start..end],
-            );
-            put_boost(room, p.n, next + 1, out, at, start, end)
-        }
+    let Ok(g) = measure_query(row, p, i) else {
+        unreachable!();
+    };
+    let len = g.sum.query_len();
+    let boost = g.next + 1;
+    let start = at + boost_size(row, boost);
+    let end = start + len;
+    if len == 0 {
+        return put_boost(row, boost, out, at, start, start);
     }
+    let alone = g.sum.is_alone();
+    write_query(row, p, i, alone, &mut out[start..end]);
+    put_boost(row, boost, out, at, start, end)
 }
 
 // One clause at i: where its bytes end, and the next token. Nothing is written where it analyzes to nothing.
 #[cycle(write_bracket_write_clause_write_query)]
-fn write_clause<'a>(
-    room: &'a [u8],
-    default: &'a [u8],
-    p: Scope,
-    i: usize,
-    out: &mut [u8],
-    at: usize,
-) -> Wrote
-    requires { (Rowed room.now p.n) × (Fielded room.now p.n default.now p.from) × (i ≤ 2000) × (p.depth ≤ 24) × (at ≤ 65536) × (length out.old ≤ 65000) × ((st : Setup) × (m : Made) × (j : ℕ) × ClauseToWrite room.now p.n default.now p.operator p.from p.analyzer p.depth i at (length out.old) st m j) }
-    ensures wrote { (st : Setup) (m : Made) (j : ℕ) → ClauseToWrite room.now p.n default.now p.operator p.from p.analyzer p.depth i at (length out.old) st m j → (result.next ≡ j) × Put out.old at (made_bytes m) result.end out.new }
-    ensures within { (i < result.next) × (result.next ≤ p.n) }
+fn write_clause(row: &Row, p: Scope, i: usize, out: &mut [u8], at: usize) -> Wrote
+    requires { (Fielded row.now.room.now row.now.n row.now.default.now p.from) × (i ≤ 2000) × (p.depth ≤ 24) × (at ≤ 65536) × (length out.old ≤ 65000) × ((st : Setup) × (m : Made) × (j : ℕ) × ClauseToWrite row.now.room.now row.now.n row.now.default.now p.operator p.from p.analyzer p.depth i at (length out.old) st m j) }
+    ensures wrote { (st : Setup) (m : Made) (j : ℕ) → ClauseToWrite row.now.room.now row.now.n row.now.default.now p.operator p.from p.analyzer p.depth i at (length out.old) st m j → (result.next ≡ j) × Put out.old at (made_bytes m) result.end out.new }
+    ensures within { (i < result.next) × (result.next ≤ row.now.n) }
 {
-    match clause_start(room, p.n, p.from, p.analyzer, i) {
-        Start::Long => Wrote { end: at, next: i },
-        Start::At { from, analyzer, i } => {
-            // also for a leaf, which asks for no depth
-            let inner = Scope {
-                n: p.n,
-                from: from,
-                depth: p.depth + 1,
-                operator: p.operator,
-                analyzer: analyzer,
-            };
-            if !is_at(room, p.n, OPEN_KIND, i) {
-                let plain = is_at(room, p.n, TERM_KIND, i);
-                return write_leaf(room, default, inner, plain, i, out, at);
-            }
-            write_bracket(room, default, inner, i + 1, out, at)
-        }
+    let Ok(start) = clause_start(row, p, i) else {
+        unreachable!();
+    };
+    // also for a leaf, which asks for no depth
+    let inner = Scope {
+        from: start.from,
+        depth: p.depth + 1,
+        analyzer: start.analyzer,
+        ..p
+    };
+    if !is_at(row, OPEN_KIND, start.i) {
+        let plain = is_at(row, TERM_KIND, start.i);
+        return write_leaf(row, inner, plain, start.i, out, at);
     }
+    write_bracket(row, inner, start.i + 1, out, at)
 }
 
 // The clauses from `at` on: one that stands for itself, or a Boolean of all that are kept.
 #[cycle(write_bracket_write_clause_write_query)]
-pub fn write_query<'a>(
-    room: &'a [u8],
-    default: &'a [u8],
-    p: Scope,
-    at: usize,
-    alone: bool,
-    out: &mut [u8],
-)
-    requires { (Rowed room.now p.n) × (Fielded room.now p.n default.now p.from) × (at ≤ p.n) × (p.depth ≤ 24) × (0 < length out.old) × (length out.old ≤ 65000) × ((st : Setup) × (cs : Clauses) × (j : ℕ) × QueryToWrite room.now p.n default.now p.operator p.from p.analyzer p.depth at alone (length out.old) st cs j) }
-    ensures { (st : Setup) (cs : Clauses) (j : ℕ) → QueryToWrite room.now p.n default.now p.operator p.from p.analyzer p.depth at alone (length out.old) st cs j → out.new ≡ made_bytes (query_of cs) }
+pub fn write_query(row: &Row, p: Scope, at: usize, alone: bool, out: &mut [u8])
+    requires { (Fielded row.now.room.now row.now.n row.now.default.now p.from) × (at ≤ row.now.n) × (p.depth ≤ 24) × (0 < length out.old) × (length out.old ≤ 65000) × ((st : Setup) × (cs : Clauses) × (j : ℕ) × QueryToWrite row.now.room.now row.now.n row.now.default.now p.operator p.from p.analyzer p.depth at alone (length out.old) st cs j) }
+    ensures { (st : Setup) (cs : Clauses) (j : ℕ) → QueryToWrite row.now.room.now row.now.n row.now.default.now p.operator p.from p.analyzer p.depth at alone (length out.old) st cs j → out.new ≡ made_bytes (query_of cs) }
 {
     let mut w = put_query_front(out, alone);
     let mut last = 0;
     let mut i = at;
-    while kinds::more_at(room, p.n, i) {
-        let c = kinds::conjunction_at(room, p.n, BOOLEAN_FRONT < w, i);
-        let j = kinds::after(c, i);
-        let m = kinds::modifier_at(room, p.n, j);
-        let k = kinds::after(m, j);
-        touch_last(out, BOOLEAN_FRONT < w, last, p.operator, c);
+    while kinds::more_at(row, i) {
+        let lead = kinds::lead_at(row, BOOLEAN_FRONT < w, i);
+        touch_last(out, BOOLEAN_FRONT < w, last, p.operator, lead.conjunction);
         let start = body_start(alone, w);
-        let r = write_clause(room, default, p, k, out, start);
+        let r = write_clause(row, p, lead.next, out, start);
         i = r.next;
         if r.end == start {
             continue;
@@ -262,7 +197,8 @@ pub fn write_query<'a>(
         if alone {
             return;
         }
-        put_header(out, w, kinds::tag_after(p.operator, c, m), r.end - start);
+        let tag = kinds::tag_after(p.operator, lead.conjunction, lead.modifier);
+        put_header(out, w, tag, r.end - start);
         last = w;
         w = r.end;
     }

@@ -1,15 +1,9 @@
--- Conjunctions, modifiers and kept clauses as the code holds them: by numbers, a tag, and lengths.
-use Rattle.std.specs.Prelude.{◌≡◌, ℕ, suc, ◌+◌, List, [], ◌++◌, Bool, true, false, cond, length, eqb}
+-- Kept clauses as the code holds them: by their number, a tag, and lengths.
+use Rattle.std.specs.Prelude.{◌≡◌, ℕ, suc, List, [], ◌++◌, Bool, true, false, length}
 use Rattle.rules.specs.Bytes.{part}
 use Rattle.rules.specs.Query.{must, should, must_not, filter, Clauses, none, clause}
 use Rattle.rules.specs.Stored.{kind_tag, encode}
-use Rattle.rules.specs.Parsing.{Made, nothing, made, Conjunction, unjoined, joined_by_and, joined_by_or, Modifier, unmodified, required, prohibited, touched, kind_after}
-
-abbrev pub conjunction_of : ℕ → Conjunction
-conjunction_of c = cond (eqb c 0) unjoined (cond (eqb c 1) joined_by_and joined_by_or)
-
-abbrev pub modifier_of : ℕ → Modifier
-modifier_of m = cond (eqb m 0) unmodified (cond (eqb m 1) required prohibited)
+use Rattle.rules.specs.Parsing.{Made, nothing, made, Conjunction, Modifier, touched, kind_after}
 
 -- ---- kept clauses, the last one first
 

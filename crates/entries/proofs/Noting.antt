@@ -1,22 +1,22 @@
 -- Slots as they are noted, an entry at a time, and what they say when they are looked at.
 use mathlib.Core.Path.{◌≡◌, refl, sym, ap, ◌∙◌}
 use mathlib.Core.Logic.{◌⊎◌, inl, inr, ⊎_elim}
-use Prim.Native.Nat.{ℕ, ◌+◌, ◌-◌, ◌*◌, ◌/◌, ◌%◌, ◌≤◌, ◌<◌}
+use Prim.Native.Nat.{ℕ, ◌+◌, ◌-◌, ◌*◌, ◌/◌, ◌≤◌, ◌<◌}
 use mathlib.Core.List.{List, [], ◌∷◌}
-use mathlib.Core.Bool.{Bool, true, false, ◌||◌}
+use mathlib.Core.Bool.{Bool, true, false}
 use native.Mathlib.Omega.{arith}
 use lib.ListN.{length, get_or, take, drop, set, length-set, length-drop}
 use lib.Seq.{drop-drop, take_all, get_or-set_same, get_or-set_other}
 use lib.Dec.{eqb}
 use borrow.Author.Tests.{eqb-true, eqb-false, le-leb, lt-leb}
-use Rattle.rules.specs.Bytes.{of_big, is_empty, size_of, rest_of, whole_of, every, each, some, same}
+use Rattle.rules.specs.Bytes.{of_big, is_empty, size_of, rest_of, every, each, some, same}
 use Rattle.rules.specs.Lists.{Entry, place, value, is_entry, entry_of}
 use Rattle.rules.specs.Matching.{is_here, has_term}
 use Rattle.rules.proofs.Bools.{clash, split, fails, alike, and_l, and_r, or_r, either}
 use Rattle.rules.proofs.Stored.Equal.{same_eq}
 use Rattle.rules.proofs.Stored.Parts.{more_empty, less_empty, length_rest, whole_le, rest_shorter, cut_from}
-use Rattle.rules.proofs.Stored.Rows.{first, others, each_next, some_done, some_yes, some_no}
-use Rattle.entries.specs.Slots.{tail_of, slots_many, slot_of, Before, Stands, Crowded, Standing, Found, Lands, alone, again, crowd, NotedBy, Noted}
+use Rattle.rules.proofs.Stored.Rows.{first, others, each_next, some_done, some_yes}
+use Rattle.entries.specs.Slots.{tail_of, slot_of, Before, Stands, Crowded, Standing, Found, Lands, alone, again, crowd, NotedBy, Noted}
 use Rattle.entries.specs.Entry.{is_place, field_of, text_of}
 use Rattle.entries.proofs.Entries.{entry_whole}
 

@@ -7,6 +7,8 @@ use names::{FLOAT_TAG, PLACE_TAG, POSITION_BYTES, WHOLE_TAG};
 use numbers::{big4, big8};
 use parts::part::{body, rest, tag_of};
 
+// Stays: docs/ANSWERS.md names these functions, so that none may ask for more than a slice; hence `is_entry` in each contract, and `float` as a flag.
+
 // Whether it has a position and a text.
 pub fn is_place(e: &[u8]) -> bool
     requires { is_entry e.now ≡ true }

@@ -36,10 +36,7 @@ fn tail(t: &[u8]) -> u64
 fn first(f: &[u8]) -> usize
     ensures { (result ≡ get_or f.now 0 0) × (result < 256) }
 {
-    if f.len() == 0 {
-        return 0;
-    }
-    wide(f[0])
+    f.first().map_or(0, |b| wide(*b))
 }
 
 // How long both are, and the field's first byte.
@@ -60,6 +57,8 @@ fn slot(f: &[u8], t: &[u8]) -> usize
 {
     hash(f, t) % SLOTS
 }
+
+// Stays: the record, where it stands and the slots are three parameters, since `note`, `is_missing` and `find_term` are named by docs/ANSWERS.md.
 
 // ---- noting
 
@@ -101,10 +100,9 @@ pub fn note(rec: &[u8], from: usize, slots: &mut [u16])
     ensures { Noted slots.new from rec.now × Before slots.new (from + length rec.now) }
 {
     let mut e = rec;
-    while e.len() > 0 {
+    while !e.is_empty() {
         note_entry(e, from + (rec.len() - e.len()), rec, from, slots);
-        let u = rest(e);
-        e = u;
+        e = rest(e);
     }
 }
 
@@ -115,7 +113,7 @@ pub fn is_missing(f: &[u8], t: &[u8], rec: &[u8], from: usize, slots: &[u16]) ->
     requires { Told slots.now from rec.now }
     ensures { result ≡ true → has_term (each entry_of rec.now) f.now t.now ≡ false }
 {
-    if slots.len() == 0 {
+    if slots.is_empty() {
         return false;
     }
     let i = slot(f, t);
@@ -127,7 +125,7 @@ pub fn find_term(f: &[u8], t: &[u8], rec: &[u8], from: usize, slots: &[u16]) -> 
     requires { Told slots.now from rec.now × (every is_entry rec.now ≡ true) }
     ensures { result ≡ has_term (each entry_of rec.now) f.now t.now }
 {
-    if slots.len() == 0 {
+    if slots.is_empty() {
         return has_term(f, t, rec);
     }
     let i = slot(f, t);

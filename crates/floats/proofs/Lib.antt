@@ -1,5 +1,2 @@
 pub mod Model
-pub mod Widen
-pub mod Shift
-pub mod Narrow
-pub mod Nans
+pub mod Rounding

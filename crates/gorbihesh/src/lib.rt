@@ -9,11 +9,12 @@ ghost use Rattle.rules.specs.Answers.{parse_left, rewrite_left, select_left};
 ghost use Rattle.gorbihesh.specs.Edge.{left, Told, version};
 
 use names::{PARSE_ROOM, REWRITE_ROOM, SELECT_ROOM};
-use parser::parse::{Parsed, parse};
+use parser::parse::parse;
 use rewriter::rounds::{ORIGINAL, STRICT, rewrite};
-use selection::select::{Selected, select_bytes};
+use selection::select::select_bytes;
 
 // The refusal's number or 0, the bytes written, the records chosen, the rounds made, the place of a text's fault or 0.
+// Stays: the C interface has the refusal as a number (include/gorbihesh.h), and a rewriting and a strict one as two calls.
 #[repr(C)]
 #[derive(Drop)]
 pub struct Answer {
@@ -52,8 +53,8 @@ pub extern "C" fn gorbihesh_parse(
     ensures { left result.refusal result.length result.count result.rounds result.place out.new room.new ≡ parse_left operator analyzer field.now fields.now text.now out.old room.old }
 {
     match parse(operator, analyzer, field, fields, text, out, room) {
-        Parsed::Refused(number, place) => told(number as u32, 0, 0, 0, place as u32),
-        Parsed::Bytes(len) => told(0, len as u32, 0, 0, 0),
+        Err(e) => told(u32::from(u8::from(e.refusal)), 0, 0, 0, e.place as u32),
+        Ok(len) => told(0, len as u32, 0, 0, 0),
     }
 }
 
@@ -61,8 +62,10 @@ pub extern "C" fn gorbihesh_parse(
 fn rewrite_by(strict: bool, query: &[u8], out: &mut [u8], room: &mut [u8]) -> Answer
     ensures { left result.refusal result.length result.count result.rounds result.place out.new room.new ≡ rewrite_left strict query.now out.old room.old }
 {
-    let a = rewrite(strict, query, out, room);
-    told(a.refusal as u32, a.len as u32, 0, a.rounds as u32, 0)
+    match rewrite(strict, query, out, room) {
+        Err(e) => told(u32::from(u8::from(e)), 0, 0, 0, 0),
+        Ok(a) => told(0, a.len as u32, 0, a.rounds as u32, 0),
+    }
 }
 
 #[unsafe(no_mangle)]
@@ -89,8 +92,8 @@ pub extern "C" fn gorbihesh_select(
     ensures { left result.refusal result.length result.count result.rounds result.place rows.new room.new ≡ select_left query.now list.now rows.old room.old }
 {
     match select_bytes(query, list, rows, room) {
-        Selected::Refused(number) => told(number as u32, 0, 0, 0, 0),
-        Selected::Chosen(count) => told(0, ROW_BYTES * count as u32, count as u32, 0, 0),
+        Err(r) => told(u32::from(u8::from(r)), 0, 0, 0, 0),
+        Ok(count) => told(0, ROW_BYTES * count as u32, count as u32, 0, 0),
     }
 }
 

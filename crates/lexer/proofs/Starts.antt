@@ -1,6 +1,6 @@
 -- One token, by the byte that it begins with: the definition's cases, in the order in which code tests them.
 use mathlib.Core.Path.{◌≡◌, refl, sym, subst, ◌∙◌}
-use Prim.Native.Nat.{ℕ, ◌+◌, ◌-◌, ◌≤◌, ◌<◌}
+use Prim.Native.Nat.{ℕ, zero, suc, ◌+◌, ◌-◌, ◌≤◌, ◌<◌}
 use mathlib.Core.List.{List, [], ◌∷◌}
 use mathlib.Core.Bool.{Bool, true, false, ◌&&◌, cond}
 use native.Mathlib.Omega.{arith}
@@ -11,20 +11,34 @@ use lib.ListN.{length, get_or, take, drop, length-drop, get_or-eq_default}
 use lib.Seq.{drop-cons, drop-drop, get_or-drop}
 use lib.Dec.{leb, eqb}
 use borrow.Author.Tests.{eq-eqb, ne_eqb, leb-true}
-use Rattle.rules.specs.Numbers.{Fault, fault_number, faulty, range_bracket, wildcard, chunk_most, Read, got, refused}
+use Rattle.std.specs.Prelude.{Some, None, Result, Ok, Err}
+use Rattle.rules.specs.Numbers.{faulty, range_bracket, wildcard, chunk_most, Read, got, refused}
+use Rattle.rules.specs.Numbers as rules
+use Rattle.names.specs.Refusals.{coded_fault}
+use Rattle.names.specs.declared.refusal.Refusal.{Refusal}
+use Rattle.names.specs.declared.refusal.Refusal.TheVariants as code
+use Rattle.names.specs.declared.refusal.Fault.{Fault}
 use Rattle.rules.specs.Bytes.{ascii, some}
 use Rattle.rules.specs.Analysis.{is_letter}
-use Rattle.rules.specs.Lexing.{Piece, piece, start_in, Lexed, lexed, end_kind, term_kind, and_kind, or_kind, is_quote, is_bracket, is_wildcard, term_text, quoted_text, word_kind, word_lexed, term_end, term_from, quoted_from, sign_kind, doubled, token_at}
+use Rattle.rules.specs.Lexing.{Piece, piece, start_in, Lexed, lexed, term_kind, and_kind, or_kind, is_quote, is_bracket, is_wildcard, term_text, quoted_text, word_kind, word_lexed, term_end, term_from, quoted_from, sign_kind, doubled, token_at}
 use Rattle.rules.proofs.Bools.{clash, and_l, and_r, and_no_r}
 use Rattle.row.specs.Row.{word_note}
 use Rattle.texts.specs.Texts.{Spelled, Reads}
 use Rattle.texts.specs.declared.Ended.{Ended}
-use Rattle.texts.specs.declared.Ended.TheVariants.{At}
-use Rattle.texts.specs.declared.Ended.TheVariants as ended
-use Rattle.lexer.specs.Tokens.{Noted, Makes, note_of, double_kind, bad_start}
+use Rattle.lexer.specs.Tokens.{Noted, Makes, note_of, double_kind, kind_some, bad_start}
 use Rattle.lexer.specs.declared.tokens.Step.{Step}
-use Rattle.lexer.specs.declared.tokens.Step.TheVariants.{Refused, Token}
+use Rattle.std.proofs.lemmas.Option.{none-some}
 use Rattle.texts.proofs.Flags.{letter_other}
+
+-- ---- a kind, or none
+
+pub kind_told : (x : ℕ) {k : ℕ} → kind_some x ≡ Some k → (k ≡ x) × (x ≡ 0 → ⊥)
+kind_told zero e = absurd (none-some _ e)
+kind_told (suc x) e = (cc, λ z. omega arith)
+
+pub no_kind_told : (x : ℕ) → kind_some x ≡ None → x ≡ 0
+no_kind_told zero e = refl
+no_kind_told (suc x) e = absurd (none-some _ (sym e))
 
 -- ---- which token begins with c
 
@@ -34,17 +48,17 @@ module _ (n c : ℕ) (s : List ℕ) where
   starts_sign some = rw (ne_eqb (sign_kind c) 0 some)
 
   module _ (sign : sign_kind c ≡ 0) where
-    pub starts_double : (double_kind c (get_or s 0 0) ≡ 0 → ⊥) → token_at n c s ≡ got (lexed (double_kind c (get_or s 0 0)) [] (drop 1 s))
+    pub starts_double : {k : ℕ} → double_kind c (get_or s 0 0) ≡ Some k → token_at n c s ≡ got (lexed k [] (drop 1 s))
     unfolding token_at double_kind
-    starts_double some = rw (eq-eqb (sign_kind c) 0 sign) (pick (doubled 0x26 c s) (doubled 0x7c c s) _ some)
+    starts_double {k} some = rw (eq-eqb (sign_kind c) 0 sign) (pick (doubled 0x26 c s) (doubled 0x7c c s) _ some)
       where
-        pick : (x y : Bool) (o : Read Lexed) → (cond x and_kind (cond y or_kind end_kind) ≡ 0 → ⊥)
-            → cond x (got (lexed and_kind [] (drop 1 s))) (cond y (got (lexed or_kind [] (drop 1 s))) o) ≡ got (lexed (cond x and_kind (cond y or_kind end_kind)) [] (drop 1 s))
-        pick true y o n = refl
-        pick false true o n = refl
-        pick false false o n = absurd (n refl)
+        pick : (x y : Bool) (o : Read Lexed) → cond x (Some and_kind) (cond y (Some or_kind) None) ≡ Some k
+            → cond x (got (lexed and_kind [] (drop 1 s))) (cond y (got (lexed or_kind [] (drop 1 s))) o) ≡ got (lexed k [] (drop 1 s))
+        pick true y o e = cc
+        pick false true o e = cc
+        pick false false o e = absurd (none-some k e)
 
-    module _ (double : double_kind c (get_or s 0 0) ≡ 0) where
+    module _ (double : double_kind c (get_or s 0 0) ≡ None) where
       abbrev here : ℕ
       here = start_in n (c ∷ s)
 
@@ -53,34 +67,34 @@ module _ (n c : ℕ) (s : List ℕ) where
       unfolding token_at double_kind
       after_double = rw (eq-eqb (sign_kind c) 0 sign) (pick (doubled 0x26 c s) (doubled 0x7c c s) _ _ _ double)
         where
-          pick : (x y : Bool) (o p q : Read Lexed) → cond x and_kind (cond y or_kind end_kind) ≡ 0 → cond x o (cond y p q) ≡ q
-          pick true y o p q e = absurd (omega arith)
-          pick false true o p q e = absurd (omega arith)
+          pick : (x y : Bool) (o p q : Read Lexed) → cond x (Some and_kind) (cond y (Some or_kind) None) ≡ None → cond x o (cond y p q) ≡ q
+          pick true y o p q e = absurd (none-some _ (sym e))
+          pick false true o p q e = absurd (none-some _ (sym e))
           pick false false o p q e = refl
 
       pub starts_quote : is_quote c ≡ true → token_at n c s ≡ quoted_from n here s
       starts_quote h = after_double ∙ rw h
 
       module _ (quote : is_quote c ≡ false) where
-        pub starts_bad : (bad_start c ≡ 0 → ⊥) → (f : Fault) × (token_at n c s ≡ refused (faulty f here)) × (bad_start c ≡ fault_number f)
+        pub starts_bad : {r : Refusal} → bad_start c ≡ Some r → (f : rules.Fault) × (token_at n c s ≡ refused (faulty f here)) × (r ≡ coded_fault f)
         unfolding bad_start
-        starts_bad some = rw (after_double, quote) (pick (is_bracket c) (is_wildcard c) _ some)
+        starts_bad {r} some = rw (after_double, quote) (pick (is_bracket c) (is_wildcard c) _ some)
           where
-            pick : (x y : Bool) (o : Read Lexed) → (cond x (fault_number range_bracket) (cond y (fault_number wildcard) 0) ≡ 0 → ⊥)
-                → (f : Fault) × (cond x (refused (faulty range_bracket here)) (cond y (refused (faulty wildcard here)) o) ≡ refused (faulty f here))
-                × (cond x (fault_number range_bracket) (cond y (fault_number wildcard) 0) ≡ fault_number f)
-            pick true y o n = (range_bracket, refl, refl)
-            pick false true o n = (wildcard, refl, refl)
-            pick false false o n = absurd (n refl)
+            pick : (x y : Bool) (o : Read Lexed) → cond x (Some (coded_fault range_bracket)) (cond y (Some (coded_fault wildcard)) None) ≡ Some r
+                → (f : rules.Fault) × (cond x (refused (faulty range_bracket here)) (cond y (refused (faulty wildcard here)) o) ≡ refused (faulty f here))
+                × (r ≡ coded_fault f)
+            pick true y o e = (range_bracket, refl, cc)
+            pick false true o e = (wildcard, refl, cc)
+            pick false false o e = absurd (none-some r e)
 
-        pub starts_term : bad_start c ≡ 0 → token_at n c s ≡ term_from n (c ∷ s)
+        pub starts_term : bad_start c ≡ None → token_at n c s ≡ term_from n (c ∷ s)
         unfolding bad_start
         starts_term e = after_double ∙ rw quote (pick (is_bracket c) (is_wildcard c) _ e)
           where
-            pick : (x y : Bool) (o : Read Lexed) → cond x (fault_number range_bracket) (cond y (fault_number wildcard) 0) ≡ 0
+            pick : (x y : Bool) (o : Read Lexed) → cond x (Some (coded_fault range_bracket)) (cond y (Some (coded_fault wildcard)) None) ≡ None
                 → cond x (refused (faulty range_bracket here)) (cond y (refused (faulty wildcard here)) o) ≡ o
-            pick true y o e = absurd (omega arith)
-            pick false true o e = absurd (omega arith)
+            pick true y o e = absurd (none-some _ (sym e))
+            pick false true o e = absurd (none-some _ (sym e))
             pick false false o e = refl
 
 -- a letter begins a term
@@ -91,18 +105,18 @@ module _ (n c : ℕ) (s : List ℕ) (h : is_letter c ≡ true) where
       let o = letter_other c h in
       rw (o 0x2b refl, o 0x2d refl, o 0x21 refl, o 0x28 refl, o 0x29 refl, o 0x3a refl, o 0x5e refl, o 0x7e refl)
 
-  letter_double : double_kind c (get_or s 0 0) ≡ 0
+  letter_double : double_kind c (get_or s 0 0) ≡ None
   unfolding double_kind
   letter_double = let o = letter_other c h in rw (o 0x26 refl, o 0x7c refl)
 
-  letter_bad : bad_start c ≡ 0
+  letter_bad : bad_start c ≡ None
   unfolding bad_start ascii some
   letter_bad = let o = letter_other c h in rw (o 0x5b refl, o 0x5d refl, o 0x7b refl, o 0x7d refl, o 0x2a refl, o 0x3f refl)
 
   pub starts_letter : token_at n c s ≡ term_from n (c ∷ s)
   starts_letter = starts_term n c s letter_sign letter_double (letter_other c h 0x22 refl) letter_bad
 
-double_zero : (c : ℕ) → double_kind c 0 ≡ 0
+double_zero : (c : ℕ) → double_kind c 0 ≡ None
 unfolding double_kind
 double_zero c = rw (and_no_r (eqb c 0x26) refl, and_no_r (eqb c 0x7c) refl)
 
@@ -163,70 +177,62 @@ module _ (at next : ℕ) (room : List ℕ) (k a len m : ℕ) (word : Bool) (o : 
 
 module _ (text : List ℕ) (at : ℕ) (room : List ℕ) where
   -- the whole token is read from what the token's text was read as
-  made_no : {o : Read Piece} {p : Read Lexed} (r : Ended) (k w : ℕ) → ((f : Fault) → o ≡ refused (faulty f w) → p ≡ refused (faulty f w)) → r ≡ ended.Refused k w
-      → Reads r o text at room → Makes (Refused k w) p text at room
-  made_no {o} r k w g e h =
-      let i : Reads (ended.Refused k w) o text at room = subst (λ (x : Ended). Reads x o text at room) e h in
-      (i.0, g i.0 i.1, i.2, i.3)
+  made_no : {o : Read Piece} {p : Read Lexed} (e : Fault) → ((f : rules.Fault) → o ≡ refused (faulty f e.place) → p ≡ refused (faulty f e.place))
+      → Reads (Err e) o text at room → Makes (Err e) p text at room
+  made_no e g h = (h.0, g h.0 h.1, h.2, h.3)
 
   -- ---- a quote
 
-  module _ (s : List ℕ) (r : Ended) (h : Reads r (quoted_text (length text) at s) text at room) where
-    pub quoted_no : (k w : ℕ) → r ≡ ended.Refused k w → Makes (Refused k w) (quoted_from (length text) at s) text at room
+  module _ (s : List ℕ) where
+    pub quoted_no : (e : Fault) → Reads (Err e) (quoted_text (length text) at s) text at room → Makes (Err e) (quoted_from (length text) at s) text at room
     unfolding quoted_from
-    quoted_no k w e = made_no r k w (λ f l. rw l) e h
+    quoted_no e h = made_no e (λ f l. rw l) h
 
-    pub quoted_yes : (next len : ℕ) (word : Bool) → r ≡ At next len word → Makes (Token 2 0 len next) (quoted_from (length text) at s) text at room
+    pub quoted_yes : (t : Ended) → Reads (Ok t) (quoted_text (length text) at s) text at room
+        → Makes (Ok (record { kind = 2; note = 0; len = t.len; next = t.next })) (quoted_from (length text) at s) text at room
     unfolding quoted_from
-    quoted_yes next len word e =
-        let i : Reads (At next len word) (quoted_text (length text) at s) text at room = subst (λ (x : Ended). Reads x (quoted_text (length text) at s) text at room) e h in
-        (rw i.0, i.1, i.2, noted_none at next len room)
+    quoted_yes t h = (rw h.0, h.1, h.2, noted_none at t.next t.len room)
 
   -- ---- a term
 
-  module _ (s : List ℕ) (r : Ended) (h : Reads r (term_text (length text) s) text at room) where
-    pub term_no : (k w : ℕ) → r ≡ ended.Refused k w → Makes (Refused k w) (term_from (length text) s) text at room
+  module _ (s : List ℕ) where
+    pub term_no : (e : Fault) → Reads (Err e) (term_text (length text) s) text at room → Makes (Err e) (term_from (length text) s) text at room
     unfolding term_from
-    term_no k w e = made_no r k w (λ f l. rw l) e h
+    term_no e h = made_no e (λ f l. rw l) h
 
-    module _ (next len : ℕ) (word : Bool) (e : r ≡ At next len word) where
-      term_at : Reads (At next len word) (term_text (length text) s) text at room
-      term_at = subst (λ (x : Ended). Reads x (term_text (length text) s) text at room) e h
-
-      pub term_fits : (next ≤ length text) × (at + len ≤ next)
-      term_fits = (term_at.1, term_at.2)
-
-      pub term_wild : is_wildcard (get_or text next 0) ≡ true → Makes (Refused 7 next) (term_from (length text) s) text at room
+    module _ (t : Ended) (h : Reads (Ok t) (term_text (length text) s) text at room) where
+      pub term_wild : is_wildcard (get_or text t.next 0) ≡ true
+          → Makes (Err (record { refusal = code.Wildcard; place = t.next })) (term_from (length text) s) text at room
       unfolding term_from ascii some
       term_wild w =
-          let b = wild_within (dec_lt next (length text)) w in
-          let p : start_in (length text) (drop next text) ≡ next = omega (arith, length-drop next text) in
-          (wildcard, rw term_at.0 (rw p at (end_wild (length text) (take len (drop at room)) (drop next text) (rw (get_or-drop, add-zero) w))), refl, b)
+          let b = wild_within (dec_lt t.next (length text)) w in
+          let p : start_in (length text) (drop t.next text) ≡ t.next = omega (arith, length-drop t.next text) in
+          (wildcard, rw h.0 (rw p at (end_wild (length text) (take t.len (drop at room)) (drop t.next text) (rw (get_or-drop, add-zero) w))), refl, b)
         where
           -- no wildcard stands past the last byte
-          wild_within : Dec (next < length text) → is_wildcard (get_or text next 0) ≡ true → next < length text
+          wild_within : Dec (t.next < length text) → is_wildcard (get_or text t.next 0) ≡ true → t.next < length text
           wild_within (yes l) w = l
-          wild_within (no l) w = let z : get_or text next 0 ≡ 0 = get_or-eq_default text 0 (omega arith) in clash (rw z at w) refl
+          wild_within (no l) w = let z : get_or text t.next 0 ≡ 0 = get_or-eq_default text 0 (omega arith) in clash (rw z at w) refl
 
-      pub term_yes : (k a m : ℕ) → is_wildcard (get_or text next 0) ≡ false → k ≡ word_kind (take (at + len - at) (drop at room)) → a ≡ note_of k word len
-          → m ≡ cond (eqb k term_kind) len 0 → Makes (Token k a m next) (term_from (length text) s) text at room
+      pub term_yes : (k a m : ℕ) → is_wildcard (get_or text t.next 0) ≡ false → k ≡ word_kind (take (at + t.len - at) (drop at room)) → a ≡ note_of k t.word t.len
+          → m ≡ cond (eqb k term_kind) t.len 0 → Makes (Ok (record { kind = k; note = a; len = m; next = t.next })) (term_from (length text) s) text at room
       unfolding term_from
       term_yes k a m w f o g =
-          let u = take len (drop at room) in
-          let l : m ≤ len = rw g (less (eqb k term_kind)) in
-          let i = term_at.2 in
+          let u = take t.len (drop at room) in
+          let l : m ≤ t.len = rw g (less (eqb k term_kind)) in
+          let i = h.2 in
           let n : k ≡ word_kind u = rw add-sub_cancel_left at f in (
-            rw term_at.0 (end_word (length text) u (drop next text) (rw (get_or-drop, add-zero) w) ∙ rw (← n, kept (eqb k term_kind) g)),
-            term_at.1,
+            rw h.0 (end_word (length text) u (drop t.next text) (rw (get_or-drop, add-zero) w) ∙ rw (← n, kept (eqb k term_kind) g)),
+            h.1,
             omega arith,
-            noted_term at next room k a len m word o g term_at.3,
+            noted_term at t.next room k a t.len m t.word o g h.3,
           )
         where
-          kept : (b : Bool) → m ≡ cond b len 0 → cond b (take len (drop at room)) [] ≡ take m (drop at room)
+          kept : (b : Bool) → m ≡ cond b t.len 0 → cond b (take t.len (drop at room)) [] ≡ take m (drop at room)
           kept true g = rw g
           kept false g = rw g
 
-          less : (b : Bool) → cond b len 0 ≤ len
+          less : (b : Bool) → cond b t.len 0 ≤ t.len
           less true = omega arith
           less false = omega arith
 
@@ -236,21 +242,27 @@ module _ (text : List ℕ) (at : ℕ) (room : List ℕ) where
     here_at : start_in (length text) (get_or text at 0 ∷ drop (at + 1) text) ≡ at
     here_at = omega (arith, length-drop (at + 1) text)
 
-    pub made_sign : (k : ℕ) → k ≡ sign_kind (get_or text at 0) → (k ≡ 0 → ⊥) → Makes (Token k 0 0 (at + 1)) (token_at (length text) (get_or text at 0) (drop (at + 1) text)) text at room
-    made_sign k e n = (starts_sign (length text) (get_or text at 0) (drop (at + 1) text) (rw e at n) ∙ rw (← e), omega arith, omega arith, noted_none at (at + 1) 0 room)
+    pub made_sign : (k : ℕ) → kind_some (sign_kind (get_or text at 0)) ≡ Some k
+        → Makes (Ok (record { kind = k; note = 0; len = 0; next = at + 1 })) (token_at (length text) (get_or text at 0) (drop (at + 1) text)) text at room
+    made_sign k e =
+        let z = kind_told _ e in
+        (starts_sign (length text) (get_or text at 0) (drop (at + 1) text) z.1 ∙ rw (← z.0), omega arith, omega arith, noted_none at (at + 1) 0 room)
 
-    pub made_letter : is_letter (get_or text at 0) ≡ true → (r : Step) → Makes r (term_from (length text) (drop at text)) text at room
+    pub made_letter : is_letter (get_or text at 0) ≡ true → (r : Result Step Fault) → Makes r (term_from (length text) (drop at text)) text at room
         → Makes r (token_at (length text) (get_or text at 0) (drop (at + 1) text)) text at room
     made_letter l r m = rw (starts_letter (length text) (get_or text at 0) (drop (at + 1) text) l, add-one, ← drop-cons text at 0 h) m
 
-    module _ (sign : sign_kind (get_or text at 0) ≡ 0) where
-      pub made_double : (k : ℕ) → k ≡ double_kind (get_or text at 0) (get_or text (at + 1) 0) → (k ≡ 0 → ⊥)
-          → Makes (Token k 0 0 (at + 2)) (token_at (length text) (get_or text at 0) (drop (at + 1) text)) text at room
-      made_double k e n =
+    module _ (no_sign : kind_some (sign_kind (get_or text at 0)) ≡ None) where
+      sign : sign_kind (get_or text at 0) ≡ 0
+      sign = no_kind_told _ no_sign
+
+      pub made_double : (k : ℕ) → double_kind (get_or text at 0) (get_or text (at + 1) 0) ≡ Some k
+          → Makes (Ok (record { kind = k; note = 0; len = 0; next = at + 2 })) (token_at (length text) (get_or text at 0) (drop (at + 1) text)) text at room
+      made_double k e =
           let d : get_or (drop (at + 1) text) 0 0 ≡ get_or text (at + 1) 0 = get_or-drop (at + 1) text 0 0 ∙ rw add-zero in
           let j : at + 1 < length text = more (dec_lt (at + 1) (length text)) in
           let two : at + 1 + 1 ≡ at + 2 = omega arith in (
-            starts_double (length text) (get_or text at 0) (drop (at + 1) text) sign (λ z. n (e ∙ rw d at z)) ∙ rw (d, ← e, drop-drop, two),
+            starts_double (length text) (get_or text at 0) (drop (at + 1) text) sign {k = k} (rw d e) ∙ rw (drop-drop, two),
             omega arith,
             omega arith,
             noted_none at (at + 2) 0 room,
@@ -260,23 +272,24 @@ module _ (text : List ℕ) (at : ℕ) (room : List ℕ) where
           more (yes l) = l
           more (no l) =
               let z : get_or text (at + 1) 0 ≡ 0 = get_or-eq_default text 0 (omega arith) in
-              absurd (n (e ∙ rw z (double_zero (get_or text at 0))))
+              absurd (none-some k (sym (double_zero (get_or text at 0)) ∙ rw z at e))
 
-      module _ (double : double_kind (get_or text at 0) (get_or text (at + 1) 0) ≡ 0) where
-        none : double_kind (get_or text at 0) (get_or (drop (at + 1) text) 0 0) ≡ 0
+      module _ (double : double_kind (get_or text at 0) (get_or text (at + 1) 0) ≡ None) where
+        none : double_kind (get_or text at 0) (get_or (drop (at + 1) text) 0 0) ≡ None
         none = rw (get_or-drop, add-zero) double
 
-        pub made_quoted : is_quote (get_or text at 0) ≡ true → (r : Step) → Makes r (quoted_from (length text) at (drop (at + 1) text)) text at room
+        pub made_quoted : is_quote (get_or text at 0) ≡ true → (r : Result Step Fault) → Makes r (quoted_from (length text) at (drop (at + 1) text)) text at room
             → Makes r (token_at (length text) (get_or text at 0) (drop (at + 1) text)) text at room
         made_quoted q r m = rw (starts_quote (length text) (get_or text at 0) (drop (at + 1) text) sign none q, here_at) m
 
         module _ (quote : is_quote (get_or text at 0) ≡ false) where
-          pub made_bad : (k : ℕ) → k ≡ bad_start (get_or text at 0) → (k ≡ 0 → ⊥) → Makes (Refused k at) (token_at (length text) (get_or text at 0) (drop (at + 1) text)) text at room
-          made_bad k e n =
-              let b = starts_bad (length text) (get_or text at 0) (drop (at + 1) text) sign none quote (rw e at n) in
-              (b.0, rw here_at at b.1, e ∙ b.2, h)
+          pub made_bad : (r : Refusal) → bad_start (get_or text at 0) ≡ Some r
+              → Makes (Err (record { refusal = r; place = at })) (token_at (length text) (get_or text at 0) (drop (at + 1) text)) text at room
+          made_bad r e =
+              let b = starts_bad (length text) (get_or text at 0) (drop (at + 1) text) sign none quote e in
+              (b.0, rw here_at at b.1, b.2, h)
 
-          pub made_term : bad_start (get_or text at 0) ≡ 0 → (r : Step) → Makes r (term_from (length text) (drop at text)) text at room
+          pub made_term : bad_start (get_or text at 0) ≡ None → (r : Result Step Fault) → Makes r (term_from (length text) (drop at text)) text at room
               → Makes r (token_at (length text) (get_or text at 0) (drop (at + 1) text)) text at room
           made_term b r m =
               rw (starts_term (length text) (get_or text at 0) (drop (at + 1) text) sign none quote b, add-one, ← drop-cons text at 0 h) m

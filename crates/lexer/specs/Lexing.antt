@@ -1,14 +1,8 @@
--- The lexer's answer for each case of the definition, and the row that it leaves.
+-- The row that the lexer leaves.
 use Rattle.std.specs.Prelude.{◌≡◌, ℕ, ◌<◌, List, length}
-use Rattle.rules.specs.Numbers.{text_most, number, place_of, Read, got, refused}
+use Rattle.rules.specs.Numbers.{text_most, place_of, Read, got, refused}
 use Rattle.rules.specs.Lexing.{Token}
-use Rattle.lexer.specs.declared.Lexed.{Lexed}
-use Rattle.lexer.specs.declared.Lexed.TheVariants.{Refused, Tokens}
 use Rattle.row.specs.Row.{tokens_of, Laid, Worded}
-
-abbrev pub answer_of : Read (List Token) → Lexed
-answer_of (refused f) = Refused (number f) (place_of f)
-answer_of (got ts) = Tokens (length ts)
 
 -- the room holds the tokens, each one's text stands among its first 1,024 bytes, and what is noted as a word is one; a fault is within those of the text
 abbrev pub Row : Read (List Token) → List ℕ → Type 0

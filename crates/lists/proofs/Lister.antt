@@ -1,27 +1,30 @@
 -- What stands behind the field of an entry is a whole part; what the quick test of a short entry finds is sound; and where entries end.
 use mathlib.Core.Path.{◌≡◌, refl, sym, ap, ◌∙◌}
 use mathlib.Core.Logic.{◌⊎◌, inl, inr, ⊎_elim}
-use Prim.Native.Nat.{ℕ, suc, ◌+◌, ◌-◌, ◌≤◌}
+use Prim.Native.Nat.{ℕ, suc, ◌+◌, ◌-◌, ◌≤◌, ◌<◌}
 use native.Mathlib.Omega.{arith}
 use mathlib.Core.List.{List, [], ◌∷◌}
 use mathlib.Core.Bool.{Bool, true, false, ◌&&◌, ◌||◌, cond}
 use lib.ListN.{length, take, drop, length-drop}
-use lib.Seq.{drop-drop}
+use lib.Seq.{drop-drop, length-take-le}
 use lib.Dec.{eqb}
-use borrow.Author.Tests.{le-leb, eq-eqb, ne_eqb, eqb-true}
-use Rattle.rules.specs.Numbers.{field_tag, field_most, place_tag, whole_tag, float_tag, word_tag, value_tag}
-use Rattle.rules.specs.Bytes.{is_text, tag_of, size_of, body_of, rest_of, whole_of, is_part}
+use borrow.Author.Tests.{le-leb, lt-leb, eq-eqb, eqb-true, eqb-false}
+use Rattle.std.specs.Prelude.{Ok, Err, Some, None}
+use Rattle.names.specs.Refusals.{checked}
+use Rattle.names.specs.declared.refusal.Refusal.TheVariants.{LongList, MalformedList}
+use Rattle.rules.specs.Numbers.{field_tag, field_most, list_most, place_tag, whole_tag, float_tag, word_tag, value_tag}
+use Rattle.rules.specs.Bytes.{is_text, tag_of, size_of, body_of, rest_of, whole_of, is_part, every}
 use Rattle.rules.specs.Query.{whole, float}
 use Rattle.rules.specs.Reading.{is_word}
-use Rattle.rules.specs.Lists.{is_value, is_field_with, is_entry}
-use Rattle.rules.proofs.Bools.{split, clash, and_l, both, or_l, or_r, either}
+use Rattle.rules.specs.Lists.{is_value, is_field_with, is_entry, is_record, read_list}
+use Rattle.rules.proofs.Bools.{split, and_l, both, or_l, or_r, either}
 use Rattle.rules.proofs.Stored.Parts.{less_empty, part_is, length_body, length_whole, whole_le, cut_from, cut_rest}
 use Rattle.rules.proofs.Stored.Leaves.{word_is}
 use Rattle.rules.proofs.Choosing.Entries.{entry_whole, place_entry, value_entry}
 use Rattle.parts.specs.Part.{Plain}
 use Rattle.parts.proofs.Plainly.{plain}
 use Rattle.stretches.proofs.Joining.{text_split, text_later, no_text, drop_take}
-use Rattle.lists.specs.List.{is_held, Holds, Short, end_of}
+use Rattle.lists.specs.List.{is_held, Holds, IsFirst, end_of}
 
 pub value_whole : (s : List ℕ) → is_value s ≡ true → whole_of s ≡ true
 value_whole s h = (part_is value_tag s (and_l (is_part value_tag s) (eqb (length (body_of s)) 8) h)).0
@@ -35,6 +38,15 @@ held_whole t s h = go (eqb t place_tag) h
     go : (b : Bool) → cond b (is_word s) (is_value s) ≡ true → whole_of s ≡ true
     go true h = word_whole s h
     go false h = value_whole s h
+
+-- ---- what is left of a row of parts
+
+module _ (s : List ℕ) {r : Bool} (e : r ≡ eqb (length s) 0) where
+  pub some_left : r ≡ false → 0 < length s
+  some_left h = omega (arith, eqb-false (length s) 0 (sym e ∙ h))
+
+  pub none_left : r ≡ true → length s ≤ 0
+  none_left h = omega (arith, eqb-true (length s) 0 (sym e ∙ h))
 
 -- ---- short entries
 
@@ -98,8 +110,11 @@ text_word : (n : ℕ) (s : List ℕ) → is_text (drop n s) ≡ (word_at n s && 
 text_word n s = text_split 8 (drop n s) ∙ ap (λ (l : List ℕ). word_at n s && is_text l) (drop-drop 8 n s)
 
 -- the word that code reads there
+pub word_told : (n : ℕ) (s : List ℕ) (r : ℕ) → eqb r 0 ≡ is_text (take 8 (take (length s - n) (drop n s))) → eqb r 0 ≡ true → word_at n s ≡ true
+word_told n s r e z = ap (λ (l : List ℕ). is_text (take 8 l)) (sym (cut_from n s)) ∙ sym e ∙ z
+
 pub word_clear : (n : ℕ) (s : List ℕ) {r : ℕ} → eqb r 0 ≡ is_text (take 8 (take (length s - n) (drop n s))) → r ≡ 0 → word_at n s ≡ true
-word_clear n s {r} e z = ap (λ (l : List ℕ). is_text (take 8 l)) (sym (cut_from n s)) ∙ sym e ∙ eq-eqb r 0 z
+word_clear n s {r} e z = word_told n s r e (eq-eqb r 0 z)
 
 module _ (s : List ℕ) (low : 16 ≤ length s) where
   -- the last two words
@@ -126,8 +141,11 @@ module _ {t : ℕ} {b : List ℕ} where
   pub holds_place : t ≡ place_tag → is_field_with (is_held place_tag) b ≡ true → Holds t b
   holds_place e h = record { tag = or_l (eqb t whole_tag || eqb t float_tag) (eq-eqb t place_tag e); body = rw e h }
 
-  pub holds_number : (t ≡ place_tag → ⊥) → (eqb t whole_tag || eqb t float_tag) ≡ true → is_field_with is_value b ≡ true → Holds t b
-  holds_number n k h = record { tag = or_r (eqb t place_tag) k; body = rw (ne_eqb t place_tag n) h }
+  pub holds_whole : t ≡ whole_tag → is_field_with is_value b ≡ true → Holds t b
+  holds_whole e h = record { tag = or_r (eqb t place_tag) (or_l (eqb t float_tag) (eq-eqb t whole_tag e)); body = rw e h }
+
+  pub holds_float : t ≡ float_tag → is_field_with is_value b ≡ true → Holds t b
+  holds_float e h = record { tag = or_r (eqb t place_tag) (or_r (eqb t whole_tag) (eq-eqb t float_tag e)); body = rw e h }
 
 holds_entry : (s : List ℕ) → whole_of s ≡ true → Holds (tag_of s) (body_of s) → is_entry s ≡ true
 holds_entry s w H = ⊎_elim (λ z. at_place (eqb-true _ _ z)) (λ k. ⊎_elim (λ z. at_whole (eqb-true _ _ z)) (λ z. at_float (eqb-true _ _ z)) (either _ _ k)) (either _ _ H.tag)
@@ -145,46 +163,66 @@ tag_take : (n : ℕ) (s : List ℕ) → tag_of (take (suc n) s) ≡ tag_of s
 tag_take n [] = refl
 tag_take n (x ∷ s) = refl
 
-pub short_entry : (s : List ℕ) {e d : ℕ} → d ≡ e → Short s e → Holds (tag_of (take d s)) (drop 3 (take d s)) → e ≡ end_of s
-unfolding whole_of body_of
-short_entry s {e} ed S H =
-    let k : e - 3 ≡ size_of s = let x = S.ends in omega arith in
-    let m : e ≡ suc (e - 1) = let x = S.least in omega arith in
-    let t : tag_of (take e s) ≡ tag_of s = ap (λ (n : ℕ). tag_of (take n s)) m ∙ tag_take (e - 1) s in
-    let b : drop 3 (take e s) ≡ body_of s = drop_take 3 e s ∙ ap (λ (n : ℕ). take n (drop 3 s)) k in
-    let w : whole_of s ≡ true = le-leb (3 + size_of s) (length s) (let x = S.ends in let y = S.fits in omega arith) in
-    rw (holds_entry s w (rw (ed, t, b) at H)) S.ends
-
 -- ---- where entries end
 
 module _ (s : List ℕ) where
-  pub ends_nowhere : is_entry s ≡ false → 0 ≡ end_of s
+  pub ends_nowhere : is_entry s ≡ false → None ≡ end_of s
   ends_nowhere h = rw h
 
-  pub ends_there : is_entry s ≡ true → end_of s ≡ 3 + size_of s
+  pub ends_there : is_entry s ≡ true → Some (3 + size_of s) ≡ end_of s
   ends_there h = rw h
 
-  module _ {r : ℕ} (e : r ≡ end_of s) where
-    pub no_end : r ≡ 0 → is_entry s ≡ false
-    no_end z = go (split (is_entry s))
+  pub no_end : None ≡ end_of s → is_entry s ≡ false
+  no_end e = go (split (is_entry s))
+    where
+      go : (is_entry s ≡ true) ⊎ (is_entry s ≡ false) → is_entry s ≡ false
+      go (inl h) = let k = e ∙ sym (ends_there h) in cc
+      go (inr h) = h
+
+  module _ {r : ℕ} (e : Some r ≡ end_of s) where
+    pub some_end : is_entry s ≡ true
+    some_end = go (split (is_entry s))
       where
-        go : (is_entry s ≡ true) ⊎ (is_entry s ≡ false) → is_entry s ≡ false
-        go (inl h) = absurd (let k : 0 ≡ 3 + size_of s = sym z ∙ e ∙ ends_there h in omega arith)
-        go (inr h) = h
+        go : (is_entry s ≡ true) ⊎ (is_entry s ≡ false) → is_entry s ≡ true
+        go (inl h) = h
+        go (inr h) = let k = e ∙ sym (ends_nowhere h) in cc
 
-    module _ (n : r ≡ 0 → ⊥) where
-      pub some_end : is_entry s ≡ true
-      some_end = go (split (is_entry s))
-        where
-          go : (is_entry s ≡ true) ⊎ (is_entry s ≡ false) → is_entry s ≡ true
-          go (inl h) = h
-          go (inr h) = absurd (n (e ∙ sym (ends_nowhere h)))
+    end_is : r ≡ 3 + size_of s
+    end_is = let k = e ∙ sym (ends_there some_end) in cc
 
-      end_is : r ≡ 3 + size_of s
-      end_is = e ∙ ends_there some_end
+    pub end_fits : r ≤ length s
+    end_fits = let k = end_is in omega (arith, whole_le s (entry_whole s some_end))
 
-      pub end_fits : r ≤ length s
-      end_fits = let k = end_is in omega (arith, whole_le s (entry_whole s some_end))
+    pub end_rest : take (length s - r) (drop r s) ≡ rest_of s
+    end_rest = ap (λ (k : ℕ). take (length s - k) (drop k s)) end_is ∙ cut_rest s (size_of s) refl
 
-      pub end_rest : take (length s - r) (drop r s) ≡ rest_of s
-      end_rest = ap (λ (k : ℕ). take (length s - k) (drop k s)) end_is ∙ cut_rest s (size_of s) refl
+-- the first bytes that code takes, by a length in one byte
+pub first : (s : List ℕ) {d : ℕ} → d ≡ 3 + size_of s → 3 + size_of s ≤ length s → IsFirst s (take d s)
+unfolding whole_of
+first s {d} e h = record { whole = le-leb (3 + size_of s) (length s) h; is = ap (λ (n : ℕ). take n s) e }
+
+pub short_entry : (s : List ℕ) {b : List ℕ} → IsFirst s b → Holds (tag_of b) (drop 3 b) → Some (length b) ≡ end_of s
+unfolding body_of
+short_entry s {b} F H =
+    let z = size_of s in
+    let k : length b ≡ 3 + z = ap length F.is ∙ length-take-le (3 + z) s (whole_le s F.whole) in
+    let m : 3 + z ≡ suc (z + 2) = omega arith in
+    let t : tag_of b ≡ tag_of s = ap tag_of F.is ∙ ap (λ (n : ℕ). tag_of (take n s)) m ∙ tag_take (z + 2) s in
+    let j : 3 + z - 3 ≡ z = omega arith in
+    let d : drop 3 b ≡ body_of s = ap (drop 3) F.is ∙ drop_take 3 (3 + z) s ∙ ap (λ (n : ℕ). take n (drop 3 s)) j in
+    ap Some k ∙ ends_there s (holds_entry s F.whole (rw (t, d) at H))
+
+-- ---- a list
+
+module _ (l : List ℕ) where
+  pub list_long : list_most < length l → Err LongList ≡ checked (read_list l)
+  unfolding read_list
+  list_long h = rw (read_list, lt-leb (length l) list_most h)
+
+  pub list_bad : length l ≤ list_most → every is_record l ≡ false → Err MalformedList ≡ checked (read_list l)
+  unfolding read_list
+  list_bad h e = rw (read_list, le-leb (length l) list_most h, e)
+
+  pub list_good : length l ≤ list_most → every is_record l ≡ true → Ok tt ≡ checked (read_list l)
+  unfolding read_list
+  list_good h e = rw (read_list, le-leb (length l) list_most h, e)

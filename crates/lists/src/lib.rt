@@ -1,16 +1,17 @@
-// The reader of catalogue lists, by the same parts: 0 where every record and every entry in it is sound, else 22 or 23.
+// The reader of catalogue lists, by the same parts: that every record and every entry in it is sound, or else what is wrong.
 #![tactic(auto)]
 
-ghost use Rattle.std.specs.Prelude.{◌≡◌, ◌≤◌, ◌<◌, true, ◌||◌, length, drop, eqb};
-ghost use Rattle.rules.specs.Numbers.{place_tag, whole_tag, float_tag};
+ghost use Rattle.std.specs.Prelude.{◌≡◌, ◌≤◌, true, length, drop, IfSome};
+ghost use Rattle.names.specs.Refusals.{checked};
+ghost use Rattle.rules.specs.Numbers.{place_tag};
 ghost use Rattle.rules.specs.Bytes.{is_text, tag_of, every};
-ghost use Rattle.rules.specs.Reading.{number_of};
 ghost use Rattle.rules.specs.Lists.{is_value, is_field_with, is_entry, is_record, read_list};
-ghost use Rattle.lists.specs.List.{is_held, end_of, Short, Holds};
+ghost use Rattle.lists.specs.List.{is_held, end_of, IsFirst, Holds};
 
+use names::refusal::Refusal;
 use names::{
-    FIELD_TAG, FLOAT_TAG, HEADER, LIST_MOST, LONG_LIST, MALFORMED_LIST, NUMBER_BYTES, PLACE_TAG,
-    POSITION_BYTES, RECORD_TAG, VALUE_TAG, WHOLE_TAG, WORD_TAG,
+    FIELD_TAG, FLOAT_TAG, HEADER, LIST_MOST, NUMBER_BYTES, PLACE_TAG, POSITION_BYTES, RECORD_TAG,
+    VALUE_TAG, WHOLE_TAG, WORD_TAG,
 };
 use numbers::wide;
 use parts::part::{body, is_field_part, is_part, is_part_of, rest, size_of, tag_of, whole};
@@ -41,10 +42,7 @@ fn is_fielded(tag: u8, b: &[u8]) -> bool
         return false;
     }
     let w = rest(b);
-    if !is_held(tag, w) {
-        return false;
-    }
-    rest(w).len() == 0
+    is_held(tag, w) && rest(w).is_empty()
 }
 
 fn is_any_entry(s: &[u8]) -> bool
@@ -79,173 +77,131 @@ const NUMBER_AROUND: usize = HEADER + HEADER + NUMBER_BYTES;
 
 const TWO_HEADERS: usize = HEADER + HEADER;
 
-// Where the part at the front ends, if it is a short one; else 0.
-fn short_end(s: &[u8]) -> usize
-    ensures { 0 < result → Short s.now result }
-{
-    if s.len() < SHORT_LEAST {
-        return 0;
-    }
-    if s[1] != 0 {
-        return 0;
-    }
-    let e = HEADER + wide(s[2]);
-    if e < SHORT_LEAST {
-        return 0;
-    }
-    if e > SHORT_MOST {
-        return 0;
-    }
-    if e > s.len() {
-        return 0;
-    }
-    e
+// A short part, with its header.
+#[derive(Clone, Copy)]
+struct Short<'a> {
+    bytes: &'a [u8],
+    ghost least: { 16 ≤ length bytes.now },
+    ghost most: { length bytes.now ≤ 35 },
 }
 
-// Whether a short entry is ASCII from its field on: its last two words, and the first one or two.
-fn is_ascii(s: &[u8]) -> bool
-    requires { (16 ≤ length s.now) × (length s.now ≤ 35) }
-    ensures { result ≡ true → is_text (drop 6 s.now) ≡ true }
-{
-    let e = s.len() - 8;
-    if tops8(&s[e..]) != 0 {
-        return false;
+impl<'a> Short<'a> {
+    // The part at the front, if it is a short one.
+    fn first(s: &'a [u8]) -> Option<Short<'a>>
+        ensures { IfSome result (λ p. IsFirst s.now p.bytes.now) }
+    {
+        if s.len() < SHORT_LEAST || s[1] != 0 {
+            return None;
+        }
+        let e = HEADER + wide(s[2]);
+        if e < SHORT_LEAST || e > SHORT_MOST || e > s.len() {
+            return None;
+        }
+        Some(Short { bytes: &s[0..e] })
     }
-    let d = s.len() - 16;
-    if tops8(&s[d..]) != 0 {
-        return false;
+
+    // Whether it is ASCII from the field in it on: its last two words, and the first one or two.
+    fn is_ascii(self) -> bool
+        ensures { result ≡ true → is_text (drop 6 self.entry.bytes.now) ≡ true }
+    {
+        let s = self.bytes;
+        let e = s.len() - 8;
+        let d = s.len() - 16;
+        tops8(&s[e..]) == 0
+            && tops8(&s[d..]) == 0
+            && tops8(&s[TWO_HEADERS..]) == 0
+            && (s.len() <= THREE_WORDS || tops8(&s[14..]) == 0)
     }
-    if tops8(&s[TWO_HEADERS..]) != 0 {
-        return false;
+
+    // A field, and a position with a text.
+    fn is_place(self) -> bool
+        ensures { result ≡ true → is_field_with (is_held place_tag) (drop 3 self.entry.bytes.now) ≡ true }
+    {
+        let b = &self.bytes[HEADER..];
+        let n = b.len();
+        let f = size_of(b);
+        if f > n - TEXT_AROUND {
+            return false;
+        }
+        let at = HEADER + f;
+        let t = &b[at..];
+        size_of(t) == n - TWO_HEADERS - f
+            && tag_of(b) == FIELD_TAG
+            && tag_of(t) == WORD_TAG
+            && self.is_ascii()
     }
-    if s.len() <= THREE_WORDS {
-        return true;
+
+    // A field of two to eight bytes, and a number: the word that ends where the field does tells it.
+    fn is_number(self) -> bool
+        ensures { result ≡ true → is_field_with is_value (drop 3 self.entry.bytes.now) ≡ true }
+    {
+        let s = self.bytes;
+        let b = &s[HEADER..];
+        let f = size_of(b);
+        if f < 2 || f > 8 || b.len() != NUMBER_AROUND + f {
+            return false;
+        }
+        let at = HEADER + f;
+        let t = &b[at..];
+        let w = f - 2;
+        size_of(t) == NUMBER_BYTES
+            && tag_of(b) == FIELD_TAG
+            && tag_of(t) == VALUE_TAG
+            && tops8(&s[w..]) == 0
     }
-    tops8(&s[14..]) == 0
+
+    // An entry, and nothing more.
+    fn is_entry(self) -> bool
+        ensures { result ≡ true → Holds (tag_of self.entry.bytes.now) (drop 3 self.entry.bytes.now) }
+    {
+        match self.bytes[0] {
+            PLACE_TAG => self.is_place(),
+            WHOLE_TAG => self.is_number(),
+            FLOAT_TAG => self.is_number(),
+            _ => false,
+        }
+    }
 }
 
-// A field, and a position with a text.
-fn is_short_place(s: &[u8]) -> bool
-    requires { (16 ≤ length s.now) × (length s.now ≤ 35) }
-    ensures { result ≡ true → is_field_with (is_held place_tag) (drop 3 s.now) ≡ true }
+// Where the entry at the front ends, if the test passes.
+fn quick_end(s: &[u8]) -> Option<usize>
+    ensures { IfSome result (λ e. Some e ≡ end_of s.now) }
 {
-    let b = &s[HEADER..];
-    let n = b.len();
-    let f = size_of(b);
-    if f > n - TEXT_AROUND {
-        return false;
+    let p = Short::first(s)?;
+    if p.is_entry() {
+        Some(p.bytes.len())
+    } else {
+        None
     }
-    let at = HEADER + f;
-    let t = &b[at..];
-    if size_of(t) != n - TWO_HEADERS - f {
-        return false;
-    }
-    if tag_of(b) != FIELD_TAG {
-        return false;
-    }
-    if tag_of(t) != WORD_TAG {
-        return false;
-    }
-    is_ascii(s)
-}
-
-// A field of two to eight bytes, and a number: the word that ends where the field does tells it.
-fn is_short_number(s: &[u8]) -> bool
-    requires { (16 ≤ length s.now) × (length s.now ≤ 35) }
-    ensures { result ≡ true → is_field_with is_value (drop 3 s.now) ≡ true }
-{
-    let b = &s[HEADER..];
-    let f = size_of(b);
-    if f < 2 {
-        return false;
-    }
-    if f > 8 {
-        return false;
-    }
-    if b.len() != NUMBER_AROUND + f {
-        return false;
-    }
-    let at = HEADER + f;
-    let t = &b[at..];
-    if size_of(t) != NUMBER_BYTES {
-        return false;
-    }
-    if tag_of(b) != FIELD_TAG {
-        return false;
-    }
-    if tag_of(t) != VALUE_TAG {
-        return false;
-    }
-    let w = f - 2;
-    tops8(&s[w..]) == 0
-}
-
-fn is_numeric(tag: u8) -> bool
-    ensures { result ≡ (eqb tag whole_tag || eqb tag float_tag) }
-{
-    if tag == WHOLE_TAG {
-        return true;
-    }
-    tag == FLOAT_TAG
-}
-
-// A short entry, and nothing more.
-fn is_short(s: &[u8]) -> bool
-    requires { (16 ≤ length s.now) × (length s.now ≤ 35) }
-    ensures { result ≡ true → Holds (tag_of s.now) (drop 3 s.now) }
-{
-    let tag = tag_of(s);
-    if tag == PLACE_TAG {
-        return is_short_place(s);
-    }
-    if !is_numeric(tag) {
-        return false;
-    }
-    is_short_number(s)
-}
-
-// Where it ends; 0 where the test does not pass.
-fn quick_end(s: &[u8]) -> usize
-    ensures { 0 < result → result ≡ end_of s.now }
-{
-    let e = short_end(s);
-    if e == 0 {
-        return 0;
-    }
-    if is_short(&s[0..e]) { e } else { 0 }
 }
 
 // ---- entries, records, lists
 
-fn any_end(s: &[u8]) -> usize
+fn any_end(s: &[u8]) -> Option<usize>
     ensures { result ≡ end_of s.now }
 {
-    if !is_any_entry(s) {
-        return 0;
+    if is_any_entry(s) {
+        Some(HEADER + size_of(s))
+    } else {
+        None
     }
-    HEADER + size_of(s)
 }
 
-// Where the entry at the front ends; 0 where it is not sound.
-fn entry_end(s: &[u8]) -> usize
+// Where the entry at the front ends, if it is sound.
+fn entry_end(s: &[u8]) -> Option<usize>
     ensures { result ≡ end_of s.now }
 {
-    let e = quick_end(s);
-    if e > 0 {
-        return e;
-    }
-    any_end(s)
+    quick_end(s).or_else(|| any_end(s))
 }
 
 fn is_entries(s: &[u8]) -> bool
     ensures { result ≡ every is_entry s.now }
 {
     let mut t = s;
-    while t.len() > 0 {
-        let e = entry_end(t);
-        if e == 0 {
+    while !t.is_empty() {
+        let Some(e) = entry_end(t) else {
             return false;
-        }
+        };
         let u = &t[e..];
         t = u;
     }
@@ -255,17 +211,14 @@ fn is_entries(s: &[u8]) -> bool
 fn is_record(s: &[u8]) -> bool
     ensures { result ≡ is_record s.now }
 {
-    if !is_part(s, RECORD_TAG) {
-        return false;
-    }
-    is_entries(body(s))
+    is_part(s, RECORD_TAG) && is_entries(body(s))
 }
 
 fn is_records(s: &[u8]) -> bool
     ensures { result ≡ every is_record s.now }
 {
     let mut t = s;
-    while t.len() > 0 {
+    while !t.is_empty() {
         if !is_record(t) {
             return false;
         }
@@ -275,11 +228,15 @@ fn is_records(s: &[u8]) -> bool
     true
 }
 
-pub fn check_list(l: &[u8]) -> u8
-    ensures { result ≡ number_of (read_list l.now) }
+pub fn check_list(l: &[u8]) -> Result<(), Refusal>
+    ensures { result ≡ checked (read_list l.now) }
 {
     if l.len() > LIST_MOST {
-        return LONG_LIST;
+        return Err(Refusal::LongList);
     }
-    if is_records(l) { 0 } else { MALFORMED_LIST }
+    if is_records(l) {
+        Ok(())
+    } else {
+        Err(Refusal::MalformedList)
+    }
 }

@@ -20,7 +20,7 @@ use Rattle.rules.proofs.Bools.{and_l, and_r}
 use Rattle.rules.proofs.Stored.Parts.{part_is, field_is, none_empty, some_empty, less_empty, length_whole}
 use Rattle.rules.proofs.Stored.Rows.{first, others, each_done, each_next}
 use Rattle.rules.proofs.Stored.Leaves.{BoundIs, is_open_lem, is_included, is_excluded, bound_is, at_open, at_included, at_excluded}
-use Rattle.rules.proofs.Stored.Views.{View, v_term, v_phrase, v_boolean, v_boost, v_constant_score, v_match_all, v_match_none, v_whole, v_float, viewed, at_tag, AsTerm, as_term, AsPhrase, as_phrase, AsRange, as_range, as_match_all, AsBoolean, as_boolean, no_front}
+use Rattle.rules.proofs.Stored.Views.{View, v_term, v_phrase, v_boolean, v_boost, v_constant_score, v_match_all, v_match_none, v_whole, v_float, viewed, at_tag, AsTerm, as_term, AsPhrase, as_phrase, AsRange, as_range, as_match_all, as_boolean, no_front}
 use Rattle.matching.specs.Level.{carries}
 use Rattle.matching.specs.Order.{ordered, keeps}
 use Rattle.matching.proofs.Levels.{carries_all, carries_none}

@@ -1,13 +1,13 @@
--- A Boolean whose clauses are asked one after the other: each answer keeps what it comes to, and a level is read back from its number.
+-- A Boolean whose clauses are asked one after the other: each answer keeps what it comes to.
 use mathlib.Core.Path.{◌≡◌, refl, sym, ap, ◌∙◌}
-use Prim.Native.Nat.{ℕ, ◌+◌, ◌-◌, ◌*◌, ◌/◌, ◌%◌, ◌≤◌, ◌<◌}
+use Prim.Native.Nat.{ℕ, ◌+◌, ◌-◌}
 use mathlib.Core.List.{List}
 use mathlib.Core.Bool.{Bool, true, false, ◌&&◌, ◌||◌, cond, or-false, and_assoc}
 use native.Mathlib.Omega.{arith}
 use native.Mathlib.Nat.{zero-add}
 use lib.Dec.{leb, eqb}
-use mathlib.Core.Logic.{◌⊎◌, inl, inr, ⊎_elim}
-use borrow.Author.Tests.{eqb-true, eq-eqb, ne_eqb, le-leb, leb-true}
+use mathlib.Core.Logic.{⊎_elim}
+use borrow.Author.Tests.{eqb-true, ne_eqb, le-leb, leb-true}
 use Rattle.rules.specs.Numbers.{must_tag, should_tag, must_not_tag}
 use Rattle.rules.specs.Query.{Kind, must, should, must_not, filter, Query, boolean, Clauses, none, clause}
 use Rattle.rules.specs.Reading.{kind_of}
@@ -16,22 +16,7 @@ use Rattle.rules.specs.Rewriting.{is_needed}
 use Rattle.rules.specs.Matching.{bit, allows, counts_for, any_needed, matches, all_allow, shoulds_true}
 use Rattle.rules.proofs.Bools.{alike, and_l, and_r, or_r, either}
 use Rattle.matching.specs.declared.level.Level.{Level}
-use Rattle.matching.specs.Level.{level_of, meets, answered, is_over, carries, after}
-
--- ---- the number of a level
-
-met_back : (m : Bool) (n b : ℕ) → b ≡ bit m → n ≡ b → eqb n 1 ≡ m
-met_back true n b e h = eq-eqb n 1 (h ∙ e)
-met_back false n b e h = ne_eqb n 1 (λ k. let z : 0 ≡ 1 = sym (h ∙ e) ∙ k in omega arith)
-
-pub packed_back : (l : Level) (b r : ℕ) → b ≡ bit l.met → b ≤ 1 → l.asked < 65536 → l.kind < 256
-    → r ≡ ((l.end * 65536 + l.asked) * 2 + b) * 256 + l.kind → level_of r ≡ l
-packed_back l b r eb hb ha hk e =
-    let x : r / 33554432 ≡ l.end = omega arith in
-    let y : r / 512 % 65536 ≡ l.asked = omega arith in
-    let z : r / 256 % 2 ≡ b = omega arith in
-    let w : r % 256 ≡ l.kind = omega arith in
-    rw (x, y, w, met_back l.met (r / 256 % 2) b eb z)
+use Rattle.matching.specs.Level.{meets, answered, is_over, carries, after}
 
 -- ---- an answer
 

@@ -1,7 +1,7 @@
 -- The walk through a stored query: each of its moves keeps what the whole query comes to.
-use mathlib.Core.Path.{◌≡◌, refl, sym, ap, ◌∙◌, subst₂}
-use Prim.Native.Nat.{ℕ, zero, suc, ◌+◌, ◌-◌, ◌≤◌, ◌<◌}
-use mathlib.Core.List.{List, [], ◌∷◌}
+use mathlib.Core.Path.{◌≡◌, refl, sym, ap, ◌∙◌, subst, subst₂}
+use Prim.Native.Nat.{ℕ, ◌+◌, ◌-◌, ◌≤◌, ◌<◌}
+use mathlib.Core.List.{List}
 use mathlib.Core.Bool.{Bool, true, false, ◌&&◌, ◌||◌}
 use native.Mathlib.Omega.{arith}
 use lib.ListN.{length, get_or, take, drop, set, length-take, length-drop}
@@ -10,7 +10,7 @@ use lib.Dec.{leb, eqb}
 use borrow.Author.Tests.{eqb-true, leb-true}
 use Rattle.rules.specs.Numbers.{boolean_tag, boost_tag, constant_score_tag, minimum_tag, should_tag, must_not_tag, selection_depth}
 use Rattle.rules.specs.Bytes.{of_big, tag_of, size_of, body_of, rest_of, whole_of}
-use Rattle.rules.specs.Query.{Kind, should, Query, Clauses, none, clause, depth, depths}
+use Rattle.rules.specs.Query.{Kind, Query, Clauses, none, clause, depth, depths}
 use Rattle.rules.specs.Reading.{kind_of}
 use Rattle.rules.specs.Checked.{Is, Are, Stored, StoredClauses}
 use Rattle.rules.specs.Lists.{Entry}
@@ -22,9 +22,10 @@ use Rattle.rules.proofs.Stored.Equal.{encode_injective}
 use Rattle.rules.proofs.Stored.Views.{View, viewed, at_tag, AsBoolean, as_boolean, as_boost, as_constant_score, Front, front_of, no_front}
 use Rattle.stretches.proofs.Joining.{drop_take}
 use Rattle.matching.specs.declared.level.Level.{Level}
-use Rattle.matching.specs.declared.truth.Next.{Next}
-use Rattle.matching.specs.declared.truth.Next.TheVariants.{Done, Query as Goes}
-use Rattle.matching.specs.Level.{level_of, answered, is_over, carries, after}
+use Rattle.std.specs.declared.ops.ControlFlow.{ControlFlow}
+use Rattle.std.specs.declared.ops.ControlFlow.TheVariants.{Continue, Break}
+use Rattle.matching.specs.declared.truth.Place.{Place}
+use Rattle.matching.specs.Level.{no_level, answered, is_over, carries, after}
 use Rattle.matching.specs.Truth.{Truth, StoredFor, is_open, cut, Open, outside, inside, outcome, At, AtClause, Leads, Over, Decides, Idle, Past}
 use Rattle.matching.proofs.Levels.{over_parts, carries_all, carries_clause, carries_none, carries_should, carries_optional}
 
@@ -62,7 +63,7 @@ module _ (s : List ℕ) where
 
 -- ---- the row of open Booleans
 
-module _ {s row : List ℕ} where
+module _ {s : List ℕ} {row : List Level} where
   pub open_end : {n e : ℕ} → Open s row n e → e ≤ length s
   open_end (outside h k) = omega arith
   open_end (inside d l cs h k a f m o) = let i = open_end o in omega arith
@@ -72,19 +73,19 @@ module _ {s row : List ℕ} where
   open_few (inside d l cs h k a f m o) = omega arith
 
 -- a row that is the same below n
-keep : {s row : List ℕ} (new : List ℕ) {n e : ℕ} → ((i : ℕ) → i < n → get_or new i 0 ≡ get_or row i 0) → Open s row n e → Open s new n e
+keep : {s : List ℕ} {row : List Level} (new : List Level) {n e : ℕ} → ((i : ℕ) → i < n → get_or new i no_level ≡ get_or row i no_level) → Open s row n e → Open s new n e
 keep new same (outside h k) = outside h k
 keep new same (inside d l cs h k a f m o) =
-    inside d l cs h (ap level_of (same d (omega arith)) ∙ k) a f m (keep new (λ i j. same i (omega arith)) o)
+    inside d l cs h (same d (omega arith) ∙ k) a f m (keep new (λ i j. same i (omega arith)) o)
 
-keep_outcome : (es : List Entry) {s row : List ℕ} (new : List ℕ) {n e : ℕ} (same : (i : ℕ) → i < n → get_or new i 0 ≡ get_or row i 0) (o : Open s row n e) (y : Bool)
+keep_outcome : (es : List Entry) {s : List ℕ} {row : List Level} (new : List Level) {n e : ℕ} (same : (i : ℕ) → i < n → get_or new i no_level ≡ get_or row i no_level) (o : Open s row n e) (y : Bool)
     → outcome es (keep new same o) y ≡ outcome es o y
 unfolding keep outcome
 keep_outcome es new same (outside h k) y = refl
 keep_outcome es new same (inside d l cs h k a f m o) y = keep_outcome es new (λ i j. same i (omega arith)) o (after es l y cs)
 
 -- the innermost Boolean, at d in the row
-pub record Innermost (s row : List ℕ) {n e : ℕ} (o : Open s row n e) (d : ℕ) (l : Level) : Type 0 where
+pub record Innermost (s : List ℕ) (row : List Level) {n e : ℕ} (o : Open s row n e) (d : ℕ) (l : Level) : Type 0 where
   pub clauses : Clauses
   pub are : Are (cut s e l.end) clauses
   pub fits : e ≤ l.end
@@ -92,23 +93,23 @@ pub record Innermost (s row : List ℕ) {n e : ℕ} (o : Open s row n e) (d : �
   pub around : Open s row d l.end
   pub value : (es : List Entry) (y : Bool) → outcome es o y ≡ outcome es around (after es l y clauses)
 
-pub innermost : {s row : List ℕ} {n e : ℕ} (o : Open s row n e) (d : ℕ) (l : Level) → n ≡ d + 1 → l ≡ level_of (get_or row d 0) → Innermost s row o d l
+pub innermost : {s : List ℕ} {row : List Level} {n e : ℕ} (o : Open s row n e) (d : ℕ) (l : Level) → n ≡ d + 1 → l ≡ get_or row d no_level → Innermost s row o d l
 unfolding outcome
 innermost (outside h k) d l p q = absurd (omega arith)
 innermost {s} {row} {n} {e} (inside c m cs h k a f g o) d l p q =
     let cd : c ≡ d = omega arith in
-    let ml : m ≡ l = sym k ∙ ap (λ (i : ℕ). level_of (get_or row i 0)) cd ∙ sym q in
+    let ml : m ≡ l = sym k ∙ ap (λ (i : ℕ). get_or row i no_level) cd ∙ sym q in
     subst₂ (λ (x : ℕ) (y : Level). Innermost s row (inside c m cs h k a f g o) x y) cd ml
     (record { clauses = cs; are = a; fits = f; deep = g; around = o; value = λ es y. refl })
 
 -- ---- the moves
 
-pub leads_on : (es : List Entry) (s row : List ℕ) {from to : ℕ} {v w : Bool} (r : Next) → from ≤ to → v ≡ w → Leads es s row to w r → Leads es s row from v r
-leads_on es s row (Done x) h e l = e ∙ l
-leads_on es s row (Goes n at end) h e l = let k = l.0 in (omega arith, (l.1.0, e ∙ l.1.1))
+pub leads_on : (es : List Entry) (s : List ℕ) (row : List Level) {from to : ℕ} {v w : Bool} (r : ControlFlow Bool Place) → from ≤ to → v ≡ w → Leads es s row to w r → Leads es s row from v r
+leads_on es s row (Break x) h e l = e ∙ l
+leads_on es s row (Continue p) h e l = let k = l.0 in (omega arith, (l.1.0, e ∙ l.1.1))
 
 -- to a clause: its level is laid in the row, and its query is next
-module _ {s row : List ℕ} {n at end : ℕ} (t : AtClause s row n at end) where
+module _ {s : List ℕ} {row : List Level} {n at end : ℕ} (t : AtClause s row n at end) where
   within : end ≤ length s
   within = open_end t.around
 
@@ -125,16 +126,16 @@ module _ {s row : List ℕ} {n at end : ℕ} (t : AtClause s row n at end) where
 abbrev pub at_kind : Level → ℕ → Level
 at_kind l k = record { end = l.end; asked = l.asked; met = l.met; kind = k }
 
-module _ {s row : List ℕ} {n at : ℕ} (l : Level) (t : AtClause s row n at l.end) (v z : ℕ) (low : n < length row)
-    (ev : level_of v ≡ at_kind l (tag_of (cut s at l.end))) (ez : z ≡ size_of (cut s at l.end)) where
+module _ {s : List ℕ} {row : List Level} {n at : ℕ} (l : Level) (t : AtClause s row n at l.end) (v : Level) (z : ℕ) (low : n < length row)
+    (ev : v ≡ at_kind l (tag_of (cut s at l.end))) (ez : z ≡ size_of (cut s at l.end)) where
   stretch : List ℕ
   stretch = cut s at l.end
 
   front : Front (cut s at l.end) t.clauses
   front = clause_in t
 
-  same_below : (i : ℕ) → i < n → get_or (set row n v) i 0 ≡ get_or row i 0
-  same_below i h = get_or-set_other row n i v 0 (λ e. omega arith)
+  same_below : (i : ℕ) → i < n → get_or (set row n v) i no_level ≡ get_or row i no_level
+  same_below i h = get_or-set_other row n i v no_level (λ e. omega arith)
 
   deep_clauses : (depth front.query + (n + 1) ≤ selection_depth) × (depths front.others + (n + 1) ≤ selection_depth)
   unfolding depth
@@ -142,7 +143,7 @@ module _ {s row : List ℕ} {n at : ℕ} (l : Level) (t : AtClause s row n at l.
 
   opened : Open s (set row n v) (n + 1) (at + 3 + z)
   opened =
-      inside {n = n + 1} {e = at + 3 + z} n (at_kind l (tag_of (cut s at l.end))) front.others refl (ap level_of (get_or-set_same row n v 0 low) ∙ ev)
+      inside {n = n + 1} {e = at + 3 + z} n (at_kind l (tag_of (cut s at l.end))) front.others refl (get_or-set_same row n v no_level low ∙ ev)
       (record {
         valid = front.valid_others;
         form = front.form_others ∙ rw ez (cut_rest s at l.end front.whole (within t));
@@ -162,7 +163,7 @@ module _ {s row : List ℕ} {n at : ℕ} (l : Level) (t : AtClause s row n at l.
       ∙ sym (keep_outcome es (set row n v) same_below t.around (after es m (matches es front.query) front.others))
 
   pub clause_leads : (es : List Entry)
-      → Leads es s (set row n v) at (outcome es t.around (carries es l.asked l.met t.clauses)) (Goes (n + 1) (at + 3) (at + 3 + z))
+      → Leads es s (set row n v) at (outcome es t.around (carries es l.asked l.met t.clauses)) (Continue (record { depth = n + 1; at = at + 3; end = at + 3 + z }))
   clause_leads es = (
     omega arith,
     (
@@ -251,8 +252,44 @@ module _ {es : List Entry} {s : List ℕ} {at end p : ℕ} {over : Bool} (P : Pa
           };
     })
 
+-- the clauses from `at` to `end`, gone past as far as t
+pub record Passed (es : List Entry) (s : List ℕ) (at end : ℕ) (over : Bool) (t : List ℕ) : Type 0 where
+  pub past : Past es s at end over (end - length t)
+  pub is : t ≡ cut s (end - length t) end
+
+pub passed_none : (es : List Entry) (s : List ℕ) (at end : ℕ) (over : Bool) → at ≤ end → end ≤ length s → Passed es s at end over (cut s at end)
+passed_none es s at end over h l =
+    let e : end - length (cut s at end) ≡ at = let k = cut_length s at end l in omega arith in
+    record { past = rw e (past_none es s at end over h); is = ap (λ (p : ℕ). cut s p end) (sym e) }
+
+module _ {es : List Entry} {s t : List ℕ} {at end : ℕ} {over : Bool} (P : Passed es s at end over t) (more : 0 < length t) (h : end ≤ length s) where
+  some_left : end - length t < end
+  some_left = let k = ap length P.is ∙ cut_length s (end - length t) end h in omega arith
+
+  module _ (c : StoredClauses (cut s at end)) where
+    pub passed_stored : StoredClauses t
+    passed_stored = rw P.is (past_stored P.past some_left h c)
+
+    pub passed_whole : whole_of t ≡ true
+    passed_whole = clause_whole passed_stored more
+
+    pub passed_next : {u : List ℕ} → Idle es over t → u ≡ rest_of t → Passed es s at end over u
+    passed_next {u} I eu =
+        let w = past_whole P.past some_left h c in
+        let is = ap rest_of P.is ∙ cut_rest s (end - length t) end w h in
+        let k = ap length P.is ∙ cut_length s (end - length t) end h in
+        let n = ap size_of P.is in
+        let l = ap length eu in
+        let j = length_whole t passed_whole in
+        let b = length_body t passed_whole in
+        let e : end - length u ≡ end - length t + 3 + size_of (cut s (end - length t) end) = omega arith in
+        record {
+          past = past_next P.past some_left h c (let f = λ (v : List ℕ). Idle es over v in subst f P.is I) e;
+          is = eu ∙ is ∙ ap (λ (p : ℕ). cut s p end) (sym e);
+        }
+
 -- back to the innermost Boolean, at d in the row, with the answer y to its clause
-module _ {s row : List ℕ} {n e d : ℕ} {l : Level} {o : Open s row n e} (I : Innermost s row o d l) (y : Bool) where
+module _ {s : List ℕ} {row : List Level} {n e d : ℕ} {l : Level} {o : Open s row n e} (I : Innermost s row o d l) (y : Bool) where
   denied_value : allows (kind_of l.kind) y ≡ false → (es : List Entry) → outcome es o y ≡ outcome es I.around false
   denied_value h es = I.value es y ∙ ap (outcome es I.around) (and_no_l _ h)
 
@@ -261,21 +298,21 @@ module _ {s row : List ℕ} {n e d : ℕ} {l : Level} {o : Open s row n e} (I : 
   next_value h es = I.value es y ∙ ap (outcome es I.around) (rw h)
 
 -- on the way back from o, where the query was x: the query that ends at e is y
-pub record Back (es : List Entry) (s row : List ℕ) (n e : ℕ) (y : Bool) {old : List ℕ} {m a : ℕ} (o : Open s old m a) (x : Bool) : Type 0 where
+pub record Back (es : List Entry) (s : List ℕ) (row : List Level) (n e : ℕ) (y : Bool) {old : List Level} {m a : ℕ} (o : Open s old m a) (x : Bool) : Type 0 where
   pub around : Open s row n e
   pub later : a ≤ e
   pub value : outcome es o x ≡ outcome es around y
 
-pub back_start : (es : List Entry) {s row : List ℕ} {m a : ℕ} (o : Open s row m a) (x : Bool) → Back es s row m a x o x
+pub back_start : (es : List Entry) {s : List ℕ} {row : List Level} {m a : ℕ} (o : Open s row m a) (x : Bool) → Back es s row m a x o x
 back_start es o x = record { around = o; later = omega arith; value = refl }
 
 -- the value of a clause's place, as its level is known
-pub record Next-clause (es : List Entry) (s row : List ℕ) (d e : ℕ) (l : Level) (v : Bool) : Type 0 where
+pub record Next-clause (es : List Entry) (s : List ℕ) (row : List Level) (d e : ℕ) (l : Level) (v : Bool) : Type 0 where
   pub place : AtClause s row d e l.end
   pub value : v ≡ outcome es place.around (carries es l.asked l.met place.clauses)
 
-module _ {es : List Entry} {s old row : List ℕ} {m a : ℕ} {o : Open s old m a} {x : Bool} {n e : ℕ} {y : Bool} (B : Back es s row n e y o x)
-    (d : ℕ) (l : Level) (p : n ≡ d + 1) (q : l ≡ level_of (get_or row d 0)) where
+module _ {es : List Entry} {s : List ℕ} {old row : List Level} {m a : ℕ} {o : Open s old m a} {x : Bool} {n e : ℕ} {y : Bool} (B : Back es s row n e y o x)
+    (d : ℕ) (l : Level) (p : n ≡ d + 1) (q : l ≡ get_or row d no_level) where
   inner : Innermost s row B.around d l
   inner = innermost B.around d l p q
 
@@ -324,18 +361,18 @@ module _ {es : List Entry} {s old row : List ℕ} {m a : ℕ} {o : Open s old m 
       value = past_value;
     })
 
-pub back_end : {es : List Entry} {s old row : List ℕ} {m a : ℕ} {o : Open s old m a} {x : Bool} {n e : ℕ} {y : Bool} (B : Back es s row n e y o x) → n ≡ 0
+pub back_end : {es : List Entry} {s : List ℕ} {old row : List Level} {m a : ℕ} {o : Open s old m a} {x : Bool} {n e : ℕ} {y : Bool} (B : Back es s row n e y o x) → n ≡ 0
     → outcome es o x ≡ y
 unfolding outcome
 back_end {es = es} {y = y} B h = B.value ∙ go B.around h
   where
-    go : {s row : List ℕ} {n e : ℕ} (o : Open s row n e) → n ≡ 0 → outcome es o y ≡ y
+    go : {s : List ℕ} {row : List Level} {n e : ℕ} (o : Open s row n e) → n ≡ 0 → outcome es o y ≡ y
     go (outside h k) z = refl
     go (inside d l cs h k a f m o) z = absurd (omega arith)
 
 -- ---- from a query
 
-module _ {s row : List ℕ} {n at end : ℕ} (t : At s row n at end) where
+module _ {s : List ℕ} {row : List Level} {n at end : ℕ} (t : At s row n at end) where
   pub at_whole : whole_of (cut s at end) ≡ true
   at_whole = (viewed t.query (cut s at end) t.is.form).whole
 
@@ -363,13 +400,13 @@ module _ {s row : List ℕ} {n at end : ℕ} (t : At s row n at end) where
   -- a Boost, a ConstantScore: to the query inside, which is the same
   to_inner : (q : Query) (k : ℕ) → Is (cut s (at + k) end) q → 0 < k → k ≤ end - at → depth q + n ≤ selection_depth
       → (es : List Entry) → matches es t.query ≡ matches es q
-      → Leads es s row at (outcome es t.around (matches es t.query)) (Goes n (at + k) end)
+      → Leads es s row at (outcome es t.around (matches es t.query)) (Continue (record { depth = n; at = at + k; end = end }))
   to_inner q k i h l d es e =
       let f = t.fits in
       (omega arith, (record { query = q; is = i; fits = omega arith; deep = d; around = t.around }, ap (outcome es t.around) e))
 
   pub to_boosted : tag_of (cut s at end) ≡ boost_tag → (es : List Entry)
-      → Leads es s row at (outcome es t.around (matches es t.query)) (Goes n (at + 7) end)
+      → Leads es s row at (outcome es t.around (matches es t.query)) (Continue (record { depth = n; at = at + 7; end = end }))
   unfolding matches depth
   to_boosted h es =
       let A = as_boost (seen boost_tag h) t.is.valid in
@@ -381,7 +418,7 @@ module _ {s row : List ℕ} {n at end : ℕ} (t : At s row n at end) where
       (omega arith) es (ap (matches es) A.is)
 
   pub to_constant : tag_of (cut s at end) ≡ constant_score_tag → (es : List Entry)
-      → Leads es s row at (outcome es t.around (matches es t.query)) (Goes n (at + 3) end)
+      → Leads es s row at (outcome es t.around (matches es t.query)) (Continue (record { depth = n; at = at + 3; end = end }))
   unfolding matches depth
   to_constant h es =
       let A = as_constant_score (seen constant_score_tag h) t.is.valid in
@@ -446,14 +483,14 @@ module _ {s row : List ℕ} {n at end : ℕ} (t : At s row n at end) where
 
 -- ---- the whole walk
 
-pub record Standing (es : List Entry) (s row : List ℕ) (n at end : ℕ) : Type 0 where
+pub record Standing (es : List Entry) (s : List ℕ) (row : List Level) (n at end : ℕ) : Type 0 where
   pub place : At s row n at end
   pub value : (q : Query) → Is s q → matches es q ≡ outcome es place.around (matches es place.query)
 
 pub is_one_lem : {s : List ℕ} (p q : Query) → Is s p → Is s q → p ≡ q
 is_one_lem p q i j = encode_injective p q i.valid j.valid (i.form ∙ sym j.form)
 
-pub standing_first : (es : List Entry) {s : List ℕ} (row : List ℕ) → StoredFor s → Standing es s row 0 0 (length s)
+pub standing_first : (es : List Entry) {s : List ℕ} (row : List Level) → StoredFor s → Standing es s row 0 0 (length s)
 unfolding outcome
 standing_first es {s} row c = record {
   place = record {
@@ -466,11 +503,11 @@ standing_first es {s} row c = record {
   value = λ q i. ap (matches es) (is_one_lem q c.stored.query i c.stored.is);
 }
 
-module _ {es : List Entry} {s row : List ℕ} (new : List ℕ) {n at end : ℕ} (S : Standing es s row n at end) (r : Next)
+module _ {es : List Entry} {s : List ℕ} {row : List Level} (new : List Level) {n at end : ℕ} (S : Standing es s row n at end) (r : ControlFlow Bool Place)
     (L : Leads es s new at (outcome es S.place.around (matches es S.place.query)) r) where
-  pub standing_done : (y : Bool) → r ≡ Done y → Truth s es y
+  pub standing_done : (y : Bool) → r ≡ Break y → Truth s es y
   unfolding Truth
   standing_done y e q i = sym (S.value q i ∙ rw e at L)
 
-  pub standing_next : (m a b : ℕ) → r ≡ Goes m a b → (at < a) × Standing es s new m a b
-  standing_next m a b e = let N = rw e at L in (N.0, record { place = N.1.0; value = λ q i. S.value q i ∙ N.1.1 })
+  pub standing_next : (p : Place) → r ≡ Continue p → (at < p.at) × Standing es s new p.depth p.at p.end
+  standing_next p e = let N = rw e at L in (N.0, record { place = N.1.0; value = λ q i. S.value q i ∙ N.1.1 })

@@ -4,7 +4,7 @@ use Prim.Native.Nat.{ℕ, ◌+◌, ◌<◌}
 use mathlib.Core.List.{List, [], ◌∷◌}
 use mathlib.Core.Bool.{Bool, true, false}
 use lib.ListN.{length, drop}
-use Rattle.rules.specs.Bytes.{is_empty, body_of, rest_of, every, each, some, all}
+use Rattle.rules.specs.Bytes.{body_of, rest_of, every, each, all}
 use Rattle.rules.specs.Query.{Word, word}
 use Rattle.rules.specs.Reading.{is_word, word_of}
 use Rattle.rules.specs.Lists.{Entry}

@@ -1,19 +1,14 @@
 -- A Boolean whose clauses are asked one after the other: what it still needs, and what the clauses that are left make of that.
-use Rattle.std.specs.Prelude.{ℕ, ◌-◌, ◌/◌, ◌%◌, List, Bool, true, false, ◌&&◌, ◌||◌, leb, eqb}
+use Rattle.std.specs.Prelude.{ℕ, ◌-◌, List, Bool, true, false, ◌&&◌, ◌||◌, leb}
 use Rattle.rules.specs.Query.{Kind, must, should, must_not, filter, Clauses}
 use Rattle.rules.specs.Reading.{kind_of}
 use Rattle.rules.specs.Lists.{Entry}
 use Rattle.rules.specs.Matching.{allows, counts_for, any_needed, all_allow, shoulds_true}
 use Rattle.matching.specs.declared.level.Level.{Level}
 
--- a level in one number: 16 bits for its end, 16 for what it asks, one for whether it was met, 8 for the clause's tag
-abbrev pub level_of : ℕ → Level
-level_of v = record {
-  end = v / 33554432;
-  asked = v / 512 % 65536;
-  met = eqb (v / 256 % 2) 1;
-  kind = v % 256;
-}
+-- what a row holds where no Boolean is open
+abbrev pub no_level : Level
+no_level = record { end = 0; asked = 0; met = false; kind = 0 }
 
 -- a Must, a Filter, or a Should that is true: one of them is enough where the minimum asks for none
 abbrev pub meets : Kind → Bool → Bool

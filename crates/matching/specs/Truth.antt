@@ -7,9 +7,12 @@ use Rattle.rules.specs.Checked.{Is, Are, Stored}
 use Rattle.rules.specs.Lists.{Entry}
 use Rattle.rules.specs.Matching.{matches}
 use Rattle.matching.specs.declared.level.Level.{Level}
-use Rattle.matching.specs.declared.truth.Next.{Next}
-use Rattle.matching.specs.declared.truth.Next.TheVariants.{Done, Query as Goes}
-use Rattle.matching.specs.Level.{level_of, carries, after}
+use Rattle.std.specs.declared.ops.ControlFlow.{ControlFlow}
+use Rattle.std.specs.declared.ops.ControlFlow.TheVariants.{Continue, Break}
+use Rattle.matching.specs.declared.record.Record.{Record}
+use Rattle.matching.specs.declared.truth.Place.{Place}
+use Rattle.entries.specs.Slots.{Told}
+use Rattle.matching.specs.Level.{no_level, carries, after}
 
 -- r says whether the query of s is true of es, whichever query that is
 unfoldable pub Truth : List ℕ → List Entry → Bool → Type 0
@@ -36,6 +39,10 @@ pub record StoredFor (s : List ℕ) : Type 0 where
   pub deep : depth stored.query ≤ selection_depth
   pub short : length s ≤ selection_bytes
 
+-- what is known of a record by its slots, where there are any
+abbrev pub Known : Record → Type 0
+Known r = Told r.slots.now r.from r.entries.now
+
 -- ---- the row of open Booleans
 
 abbrev pub cut : List ℕ → ℕ → ℕ → List ℕ
@@ -43,13 +50,13 @@ cut s a e = take (e - a) (drop a s)
 
 -- n Booleans are open around a query that ends at e. The innermost stands at d in the row, at the level l; behind the query stand the
 -- clauses that it has left.
-pub data Open (s row : List ℕ) : ℕ → ℕ → Type 0 where
+pub data Open (s : List ℕ) (row : List Level) : ℕ → ℕ → Type 0 where
   outside : {n e : ℕ} → n ≡ 0 → e ≡ length s → Open s row n e
-  inside : {n e : ℕ} (d : ℕ) (l : Level) (cs : Clauses) → n ≡ d + 1 → level_of (get_or row d 0) ≡ l → Are (cut s e l.end) cs → e ≤ l.end
+  inside : {n e : ℕ} (d : ℕ) (l : Level) (cs : Clauses) → n ≡ d + 1 → get_or row d no_level ≡ l → Are (cut s e l.end) cs → e ≤ l.end
       → depths cs + n ≤ selection_depth → Open s row d l.end → Open s row n e
 
 -- what the whole query is, where the query at hand is y
-unfoldable pub outcome : List Entry → {s row : List ℕ} {n e : ℕ} → Open s row n e → Bool → Bool
+unfoldable pub outcome : List Entry → {s : List ℕ} {row : List Level} {n e : ℕ} → Open s row n e → Bool → Bool
 outcome es (outside h k) y = y
 outcome es (inside d l cs h k a f m o) y = outcome es o (after es l y cs)
 
@@ -79,7 +86,7 @@ pub record Past (es : List Entry) (s : List ℕ) (at end : ℕ) (over : Bool) (p
 -- ---- the places of the walk
 
 -- at a query, from `at` to `end`
-pub record At (s row : List ℕ) (n at end : ℕ) : Type 0 where
+pub record At (s : List ℕ) (row : List Level) (n at end : ℕ) : Type 0 where
   pub query : Query
   pub is : Is (cut s at end) query
   pub fits : at ≤ end
@@ -87,7 +94,7 @@ pub record At (s row : List ℕ) (n at end : ℕ) : Type 0 where
   pub around : Open s row n end
 
 -- at the first of the clauses that a Boolean has left
-pub record AtClause (s row : List ℕ) (n at end : ℕ) : Type 0 where
+pub record AtClause (s : List ℕ) (row : List Level) (n at end : ℕ) : Type 0 where
   pub clauses : Clauses
   pub are : Are (cut s at end) clauses
   pub fits : at < end
@@ -95,6 +102,6 @@ pub record AtClause (s row : List ℕ) (n at end : ℕ) : Type 0 where
   pub around : Open s row n end
 
 -- where the walk goes from a place behind `from` that makes the whole query v
-abbrev pub Leads : List Entry → List ℕ → List ℕ → ℕ → Bool → Next → Type 0
-Leads es s row from v (Done r) = v ≡ r
-Leads es s row from v (Goes n at end) = (from < at) × ((t : At s row n at end) × (v ≡ outcome es t.around (matches es t.query)))
+abbrev pub Leads : List Entry → List ℕ → List Level → ℕ → Bool → ControlFlow Bool Place → Type 0
+Leads es s row from v (Break r) = v ≡ r
+Leads es s row from v (Continue p) = (from < p.at) × ((t : At s row p.depth p.at p.end) × (v ≡ outcome es t.around (matches es t.query)))

@@ -2,9 +2,10 @@
 // It asks for checked bytes and tests nothing again.
 #![tactic(auto)]
 
-mod level;
+pub mod level;
 mod order;
 mod phrase;
 mod range;
+mod record;
 mod term;
 pub mod truth;

@@ -7,7 +7,7 @@ use native.Mathlib.Omega.{arith}
 use lib.ListN.{length, drop, length-append, length-drop}
 use lib.Seq.{drop-drop}
 use lib.Dec.{leb, eqb}
-use borrow.Author.Tests.{ne_eqb}
+use borrow.Author.Tests.{ne_eqb, eqb-true, eqb-false}
 use Rattle.rules.specs.Numbers.{term_tag, phrase_tag, boolean_tag, boost_tag, constant_score_tag, match_all_tag, match_none_tag, whole_range_tag, float_range_tag, field_tag, text_tag, must_tag}
 use Rattle.rules.specs.Bytes.{is_empty, part, tag_of, size_of, rest_of}
 use Rattle.rules.specs.Query.{Kind, must, should, must_not, filter, whole, float, Query, term, phrase, boolean, boost, constant_score, match_all, match_none, range, Clauses, none, clause}
@@ -196,7 +196,14 @@ done (one q ps) t e h = absurd (let z = ap length (e ∙ empty_nil t h) in omega
 done (row none ps) t e h = let D = done ps t e h in omega (arith, D)
 done (row (clause k q cs) ps) t e h = clash h (sym (ap is_empty e))
 
--- ---- the loops: t is left, the headers before it weigh w, and their largest minimum is m
+module _ (t : List ℕ) {r : Bool} (e : r ≡ eqb (length t) 0) where
+  pub some_left : r ≡ false → 0 < length t
+  some_left h = omega (arith, eqb-false (length t) 0 (sym e ∙ h))
+
+  pub none_left : r ≡ true → length t ≤ 0
+  none_left h = omega (arith, eqb-true (length t) 0 (sym e ∙ h))
+
+-- ---- the loop: t is left, the headers before it weigh w, and their largest minimum is m
 
 pub record Walked (s t : List ℕ) (w m : ℕ) : Type 0 where
   pub pieces : Pieces
@@ -239,6 +246,10 @@ module _ (s t : List ℕ) (w m : ℕ) (W : Walked s t w m) where
         larger = λ q I. omega (arith, W.larger q I, T.least);
         below = omega (arith, W.below, T.least);
       }
+
+  -- the same, by what code has
+  pub turned : {u : List ℕ} {a b : ℕ} → 0 < length t → u ≡ drop (skip_of t) t → a ≡ w + worth_of (tag_of t) → b ≡ max m (least_of t) → Walked s u a b
+  turned {u} {a} {b} h eu ea eb = rw (eu, ea, eb) (turn h)
 
   -- the walk gets on
   pub shorter : 0 < length t → length (drop (skip_of t) t) < length t

@@ -2,7 +2,7 @@
 // Both go over the headers in reading order, into each part that holds a query and past each that holds none: one loop and no stack.
 #![tactic(auto)]
 
-ghost use Rattle.std.specs.Prelude.{◌≡◌, ◌+◌, ◌≤◌, ◌<◌, max, length, drop};
+ghost use Rattle.std.specs.Prelude.{◌≡◌, ◌+◌, ◌≤◌, ◌<◌, length, drop};
 ghost use Rattle.rules.specs.Numbers.{boolean_tag};
 ghost use Rattle.rules.specs.Bytes.{tag_of};
 ghost use Rattle.rules.specs.Checked.{Stored};
@@ -69,36 +69,42 @@ fn least(t: &[u8]) -> usize
     }
 }
 
-fn larger(a: usize, b: usize) -> usize
-    ensures { result ≡ max a b }
+// What the headers of a query say: its weight, and its largest minimum.
+#[derive(Clone, Copy)]
+struct Measures {
+    weight: usize,
+    largest: usize,
+}
+
+// Stays: the public `weight` and `largest` take bytes that are `Stored`, not a type that says so: their parameter may not get narrower.
+fn measure(s: &[u8]) -> Measures
+    requires { Stored s.now }
+    ensures weighs { Weighs s.now result.weight }
+    ensures largest { Largest s.now result.largest }
 {
-    if a < b { b } else { a }
+    let mut t = s;
+    let mut so_far = Measures {
+        weight: 0,
+        largest: 0,
+    };
+    while !t.is_empty() {
+        so_far.weight += worth(t[0]);
+        so_far.largest = so_far.largest.max(least(t));
+        t = onward(t);
+    }
+    so_far
 }
 
 pub fn weight(s: &[u8]) -> usize
     requires { Stored s.now }
     ensures { Weighs s.now result }
 {
-    let mut t = s;
-    let mut w: usize = 0;
-    while t.len() > 0 {
-        w += worth(t[0]);
-        let u = onward(t);
-        t = u;
-    }
-    w
+    measure(s).weight
 }
 
 pub fn largest(s: &[u8]) -> usize
     requires { Stored s.now }
     ensures { Largest s.now result }
 {
-    let mut t = s;
-    let mut m: usize = 0;
-    while t.len() > 0 {
-        m = larger(m, least(t));
-        let u = onward(t);
-        t = u;
-    }
-    m
+    measure(s).largest
 }

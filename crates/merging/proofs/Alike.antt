@@ -1,8 +1,8 @@
 -- Signatures: a clause whose signature no other has takes up none; and the loop that notes them.
 use mathlib.Core.Path.{◌≡◌, refl, sym, ap, ◌∙◌, subst}
-use mathlib.Core.Logic.{◌⊎◌, inl, inr}
+use mathlib.Core.Logic.{inl}
 use Prim.Native.Nat.{ℕ, zero, suc, ◌+◌, ◌-◌, ◌/◌, ◌%◌, ◌≤◌, ◌<◌}
-use mathlib.Core.List.{List, []}
+use mathlib.Core.List.{List}
 use mathlib.Core.Bool.{Bool, true, false, cond}
 use native.Mathlib.Omega.{arith}
 use lib.ListN.{length, get_or, take, drop}
@@ -22,16 +22,13 @@ use Rattle.rules.proofs.Stored.Views.{Front}
 use Rattle.places.specs.Within.{within}
 use Rattle.merging.specs.Merge.{Eatable, Ate, few, how_many}
 use Rattle.merging.specs.Signatures.{table_bytes, signatures, word_of, mix_of, signature_of, having, cell_of, one_more, OneMore, Noted, Alone}
-use Rattle.merging.proofs.Forms.{are_same, front, no_clause, front_is, front_are}
+use Rattle.merging.proofs.Forms.{are_same, some_left, none_left, front, no_clause, front_is, front_are}
 
 -- ---- the signature of a stretch
 
 pub signature_short : (s : List ℕ) → length s < 4 → 0 ≡ signature_of s
 unfolding signature_of
 signature_short s h = rw (lt-ltb (length s) 4 h)
-
-pub word_first : (s : List ℕ) (k b x : ℕ) → length s < k → b ≡ of_big (take 4 s) → x ≡ b → x ≡ word_of s k
-word_first s k b x h eb ex = let z : length s - k ≡ 0 = omega arith in ex ∙ eb ∙ ap (λ (i : ℕ). of_big (take 4 (drop i s))) (sym z)
 
 pub word_later : (s : List ℕ) (k b x : ℕ) → b ≡ of_big (take 4 (take (length s - (length s - k)) (drop (length s - k) s))) → x ≡ b → x ≡ word_of s k
 word_later s k b x eb ex = ex ∙ eb ∙ ap (λ (l : List ℕ). of_big (take 4 l)) (cut_from (length s - k) s)
@@ -42,9 +39,6 @@ unfolding signature_of
 signature_long s h a b x ea eb ex =
     let e = ex ∙ ap (λ (y : ℕ). y / 0x800_0000 + b / 0x2000_0000) ea ∙ ap (λ (y : ℕ). mix_of s 4 / 0x800_0000 + y / 0x2000_0000) eb in
     rw (le-ltb (length s) 4 h) (ap (λ (y : ℕ). (y + length s % 65536) % signatures) e)
-
-pub not_alone : (n : ℕ) → false ≡ true → n ≡ 1
-not_alone n e = clash e refl
 
 -- ---- a clause that no other equals
 
@@ -206,21 +200,23 @@ module _ {s t : List ℕ} {n : ℕ} (g : Counting s t n) where
   unfolding how_many
   step p = ap how_many (counting_front p).split
 
-  pub counting_next : (p : 0 < length t) → (n ≡ few → ⊥) → (u : List ℕ) → u ≡ rest_of t → Counting s u (n + 1)
+  pub counting_next : (p : 0 < length t) → n < few → (u : List ℕ) → u ≡ rest_of t → Counting s u (n + 1)
   counting_next p d u eu =
       let F = counting_front p in
       record {
         all = g.all;
         left = record { clauses = F.others; are = subst (λ (l : List ℕ). Are l F.others) (sym eu) (front_are F) };
-        low = omega (arith, g.low);
+        low = omega arith;
         sum = omega (arith, g.sum, step p);
       }
-
-  pub many : 0 < length t → n ≡ few → (cs : Clauses) → Are s cs → false ≡ leb (how_many cs) few
-  many p e cs a = sym (lt-leb (how_many cs) few (omega (arith, g.sum, step p, ap how_many (are_same g.all.are a))))
 
   pub not_many : length t ≤ 0 → (cs : Clauses) → Are s cs → true ≡ leb (how_many cs) few
   unfolding how_many
   not_many p cs a =
       let e = ap how_many (no_clause g.left.are p) in
       sym (le-leb (how_many cs) few (omega (arith, g.sum, g.low, ap how_many (are_same g.all.are a))))
+
+  -- so many were counted that none may be left
+  pub as_many : few ≤ n → (b : Bool) → b ≡ eqb (length t) 0 → (cs : Clauses) → Are s cs → b ≡ leb (how_many cs) few
+  as_many h true e cs a = not_many (none_left t true e refl) cs a
+  as_many h false e cs a = sym (lt-leb (how_many cs) few (omega (arith, g.sum, step (some_left t false e refl), ap how_many (are_same g.all.are a))))

@@ -5,7 +5,7 @@ use Prim.Native.Nat.{ℕ, ◌+◌, ◌-◌, ◌≤◌, ◌<◌}
 use mathlib.Core.List.{List, [], ◌++◌}
 use mathlib.Core.Bool.{Bool, true, false, cond}
 use native.Mathlib.Omega.{arith}
-use lib.ListN.{length, get_or, take, drop, length-take, length-drop}
+use lib.ListN.{length, get_or, take, drop, length-drop}
 use lib.Seq.{length-take-le}
 use lib.Ieee.{Float}
 use Rattle.rules.specs.Bytes.{part, size_of, same}
@@ -22,9 +22,9 @@ use Rattle.numbers.specs.Laid.{laid, Put}
 use Rattle.numbers.proofs.Laying.{there_laid}
 use Rattle.places.specs.Within.{within}
 use Rattle.merging.specs.Merge.{Eats, Fed, Eatable, Ate}
-use Rattle.places.proofs.Standing.{within_same, within_length, joined, lower, moved_length, behind_laid}
+use Rattle.places.proofs.Standing.{within_same, joined, lower, behind_laid}
 use Rattle.merging.proofs.Forms.{is_same_lem, are_same, same_kind}
-use Rattle.merging.proofs.Placed.{ClauseAt, clause_at_lem, no_clause_at, clause_end, clause_is, clause_further}
+use Rattle.merging.proofs.Placed.{ClauseAt, clause_at_lem, no_clause_at, clause_end, clause_is}
 use Rattle.merging.proofs.Laid.{put_long, put_kept}
 use Rattle.merging.proofs.Rows.{encodes_snoc, join_snoc, valids_snoc}
 

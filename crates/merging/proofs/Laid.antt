@@ -1,6 +1,6 @@
 -- Clauses laid in the place of what they are made of: one clause, with and without a boost, and a merged one; and what they measure.
 use mathlib.Core.Path.{◌≡◌, refl, sym, ap, ◌∙◌, subst}
-use Prim.Native.Nat.{ℕ, ◌+◌, ◌-◌, ◌≤◌, ◌<◌}
+use Prim.Native.Nat.{ℕ, ◌+◌, ◌-◌, ◌≤◌, max}
 use mathlib.Core.List.{List, ◌++◌}
 use mathlib.Core.Bool.{Bool, true, false, not, ◌&&◌, cond}
 use native.Mathlib.Omega.{arith}
@@ -181,19 +181,14 @@ module _ (at m k : ℕ) (s : List ℕ) (j : Kind) (x : Query) (ej : kind_tag j �
 -- ---- space made before the clauses that are left
 
 module _ (need at end : ℕ) (room : List ℕ) (low : at ≤ end) where
-  pub way_there : need ≤ at → Way need at end room at room
-  way_there h =
-      let z : at + (end - at) ≡ end = omega arith in
-      record { place = omega arith; kept = refl; there = ap (λ (e : ℕ). within at e room) z }
-
-  pub way_made : at < need → end ≤ length room → need + (end - at) ≤ length room → {p : ℕ} {room₁ : List ℕ} → Put room need (within at end room) p room₁
-      → Way need at end room need room₁
-  way_made h inside fits {room₁ = room₁} P =
+  pub way_made : (g : ℕ) → g ≡ max need at → end ≤ length room → g + (end - at) ≤ length room → {p : ℕ} {room₁ : List ℕ} → Put room g (within at end room) p room₁
+      → Way need at end room g room₁
+  way_made g h inside fits {room₁ = room₁} P =
       let n = within_length room at end low inside in
-      let f : need + length (within at end room) ≤ length room = omega arith in
-      let z : need + (end - at) - need ≡ length (within at end room) = omega arith in
+      let f : g + length (within at end room) ≤ length room = omega arith in
+      let z : g + (end - at) - g ≡ length (within at end room) = omega arith in
       record {
-        place = omega arith;
-        kept = lower room₁ room at need (omega arith) (put_kept P f);
-        there = ap (λ (i : ℕ). take i (drop need room₁)) z ∙ ap (λ (l : List ℕ). take (length (within at end room)) (drop need l)) P.bytes ∙ there_laid room need (within at end room) f;
+        place = h;
+        kept = lower room₁ room at g (omega arith) (put_kept P f);
+        there = ap (λ (i : ℕ). take i (drop g room₁)) z ∙ ap (λ (l : List ℕ). take (length (within at end room)) (drop g l)) P.bytes ∙ there_laid room g (within at end room) f;
       }

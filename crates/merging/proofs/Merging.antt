@@ -1,7 +1,7 @@
 -- The loop over the clauses of a Boolean: the first of those that are left takes up what it stands for, and is laid behind those that are kept.
-use mathlib.Core.Path.{◌≡◌, refl, sym, ap, ◌∙◌, subst}
+use mathlib.Core.Path.{◌≡◌, refl, sym, ap, ◌∙◌}
 use mathlib.Core.Logic.{◌⊎◌, inl, inr}
-use Prim.Native.Nat.{ℕ, ◌+◌, ◌-◌, ◌≤◌, ◌<◌, max}
+use Prim.Native.Nat.{ℕ, ◌+◌, ◌-◌, ◌≤◌, ◌<◌}
 use mathlib.Core.List.{List, ◌++◌}
 use mathlib.Core.Bool.{Bool, true, false, cond}
 use native.Mathlib.Omega.{arith}
@@ -9,11 +9,11 @@ use lib.ListN.{length, get_or, take, drop, take-append-drop}
 use lib.Seq.{length-take-le}
 use lib.Ieee.{Float}
 use Rattle.rules.specs.Bytes.{part, size_of}
-use Rattle.rules.specs.Query.{Kind, Query, term, phrase, boolean, boost, constant_score, match_all, match_none, range, Clauses, none, clause}
-use Rattle.rules.specs.Stored.{kind_tag, encode, encodes, Valid, Valids}
+use Rattle.rules.specs.Query.{Kind, Query, term, phrase, boolean, boost, constant_score, match_all, match_none, range, Clauses, none}
+use Rattle.rules.specs.Stored.{kind_tag, encode, encodes, Valid}
 use Rattle.rules.specs.Checked.{Is, Are}
 use Rattle.rules.specs.Floats.{one}
-use Rattle.rules.specs.Rewriting.{summable, base, boost_of, reboosted, clause_count, clause_counts}
+use Rattle.rules.specs.Rewriting.{summable, base, reboosted, clause_count, clause_counts}
 use Rattle.rules.specs.Eating.{held, own_sum, sum_eaten, stayed, merged_clauses}
 use Rattle.rules.proofs.Rewriting.Walk.{join, snoc, join_none}
 use Rattle.rules.proofs.Rewriting.Eating.{merged_none, merged_first, stayed_count, sum_stays}
@@ -24,7 +24,7 @@ use Rattle.merging.specs.Merge.{First, Eatable, Ate, reboosted_bytes, merged_siz
 use Rattle.merging.specs.Signatures.{signature_of, having, cell_of, Noted, Alone}
 use Rattle.places.proofs.Standing.{joined, second, within_same, within_length, behind_laid}
 use Rattle.merging.proofs.Forms.{are_same}
-use Rattle.merging.proofs.Placed.{ClauseAt, clause_at_lem, no_clause_at, clause_end, clause_is, clause_further}
+use Rattle.merging.proofs.Placed.{ClauseAt, clause_at_lem, no_clause_at, clause_end, clause_is}
 use Rattle.merging.proofs.Laid.{put_long, put_below, held_end, merged_size_lem, size_within, own_size, reboosted_bytes_lem}
 use Rattle.merging.proofs.Rows.{encodes_snoc, join_snoc, length_snoc}
 use Rattle.merging.proofs.Alike.{having_first, having_fewer, stayed_having}

@@ -1,5 +1,5 @@
 -- Clauses behind clauses, as they are stored.
-use mathlib.Core.Path.{◌≡◌, refl, sym, ap, ◌∙◌}
+use mathlib.Core.Path.{◌≡◌, refl, sym, ap}
 use Prim.Native.Nat.{◌+◌}
 use mathlib.Core.List.{◌++◌, append_assoc, append-nil}
 use native.Mathlib.Omega.{arith}

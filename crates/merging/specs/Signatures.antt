@@ -1,5 +1,6 @@
 -- Signatures of clauses: any function of the bytes would do. What a table says of them.
-use Rattle.std.specs.Prelude.{◌≡◌, ℕ, suc, ◌+◌, ◌-◌, ◌*◌, ◌/◌, ◌%◌, ◌^◌, ◌≤◌, List, cond, length, get_or, take, drop, eqb, ltb}
+use Rattle.std.specs.Prelude.{◌≡◌, ℕ, suc, ◌+◌, ◌-◌, ◌*◌, ◌/◌, ◌%◌, ◌^◌, ◌≤◌, List, [], Option, Some, None, cond, length, get_or, take, drop, eqb, ltb}
+use Rattle.std.specs.Borrow.{Bor}
 use Rattle.rules.specs.Bytes.{of_big}
 use Rattle.rules.specs.Query.{Clauses, none, clause}
 use Rattle.rules.specs.Stored.{encode}
@@ -44,6 +45,11 @@ pub record OneMore (g : ℕ) (table table' : List ℕ) : Type 0 where
   pub long : length table' ≡ length table
   pub here : cell_of table' g ≡ one_more (cell_of table g)
   pub others : (i : ℕ) → (i ≡ g → ⊥) → cell_of table' i ≡ cell_of table i
+
+-- what a table holds that is lent or not
+abbrev pub cells_of : Option (Bor (List ℕ)) → List ℕ
+cells_of (Some table) = table.now
+cells_of None = []
 
 -- where the table has 1, at most one clause has the signature
 abbrev pub Noted : ℕ → List ℕ → Clauses → Type 0

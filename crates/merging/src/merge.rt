@@ -12,7 +12,7 @@ ghost use Rattle.rules.specs.Rewriting.{summable, stands_for, base, boost_of};
 ghost use Rattle.rules.specs.Eating.{held, merged_clauses};
 ghost use Rattle.numbers.specs.Laid.{Put};
 ghost use Rattle.places.specs.Within.{within, Stands};
-ghost use Rattle.merging.specs.Signatures.{table_bytes, Noted, Alone};
+ghost use Rattle.merging.specs.Signatures.{cells_of, Noted, Alone};
 ghost use Rattle.merging.specs.Merge.{Eats, Fed, First, Eatable, Ate, reboosted_bytes, merged_size, Way, Mergeable, few, how_many};
 
 use crate::signatures::{TABLE, is_alone, note, signature};
@@ -36,59 +36,17 @@ const BOOSTED_FRONT: usize = HEADER + BOOST_FRONT;
 // The bits of the boost 1.
 const ONE: u32 = 0x3f80_0000;
 
-// A merged clause: where its base stands, its kind, its running sum.
-#[derive(Drop)]
-pub struct Merged {
-    pub base: usize,
-    pub kind: u8,
-    pub sum: f64,
-}
-
-fn summable(least: usize, k: u8) -> bool
-    ensures { (j : Kind) → kind_tag j ≡ k → result ≡ summable least j }
-{
-    if k == MUST_TAG {
-        true
-    } else if k == SHOULD_TAG {
-        least <= 1
-    } else {
-        false
-    }
-}
-
-// Whether an equal clause of kind k stands for another of its kind: a strict one of a Should does so only where the minimum is at most 1.
-fn stands_for_own(least: usize, strict: bool, k: u8) -> bool
-    ensures { (l : Kind) → kind_tag l ≡ k → result ≡ stands_for strict least l l }
-{
-    if k == SHOULD_TAG {
-        if strict {
-            return least <= 1;
-        }
-    }
-    true
-}
-
-fn stands_for(least: usize, strict: bool, j: u8, k: u8) -> bool
-    ensures { (i l : Kind) → kind_tag i ≡ j → kind_tag l ≡ k → result ≡ stands_for strict least i l }
-{
-    if j == k {
-        return stands_for_own(least, strict, k);
-    }
-    if k == FILTER_TAG {
-        return j == MUST_TAG;
-    }
-    false
-}
-
 // A query with one outer boost taken off.
+// Stays: `Stored` is a query with its proof; a ghost field that holds one wants a law over all queries that two such proofs are one, longer than these six clauses.
 fn base(q: &[u8]) -> &[u8]
     requires { Stored q.now }
     ensures { (x : Query) → Is q.now x → Is result.now (base x) }
 {
     if q[0] == BOOST_TAG {
-        return &q[BOOST_FRONT..];
+        &q[BOOST_FRONT..]
+    } else {
+        q
     }
-    q
 }
 
 fn boost_of(q: &[u8]) -> u32
@@ -96,120 +54,30 @@ fn boost_of(q: &[u8]) -> u32
     ensures { (x : Query) → Is q.now x → widened result ≡ boost_of x }
 {
     if q[0] == BOOST_TAG {
-        return big4(&q[HEADER..]);
+        big4(&q[HEADER..])
+    } else {
+        ONE
     }
-    ONE
 }
 
-// What a clause of kind k is compared by.
-fn held(least: usize, k: u8, q: &[u8]) -> &[u8]
-    requires { Stored q.now }
-    ensures { (x : Query) (j : Kind) → Is q.now x → kind_tag j ≡ k → Is result.now (held least j x) }
-{
-    if summable(least, k) {
-        return base(q);
-    }
-    q
-}
-
-// Does a clause of kind k that is compared by h stand for one of kind j with the query q?
-fn eats(least: usize, strict: bool, k: u8, h: &[u8], j: u8, q: &[u8]) -> bool
-    requires { Stored q.now }
-    ensures { Eats strict least k h.now j q.now result }
-{
-    if stands_for(least, strict, k, j) {
-        return same(h, held(least, j, q));
-    }
-    false
-}
-
-// The sum once a clause of kind j with the query q was taken up.
-fn fed(least: usize, sum: f64, j: u8, q: &[u8]) -> f64
-    requires { Stored q.now }
-    ensures { Fed least sum j q.now result }
-{
-    if summable(least, j) {
-        return add(sum, boost_of(q));
-    }
-    sum
-}
-
-// The clause of kind k with the query q, which stands at a place, before it has taken up any.
-fn first_of(least: usize, at: usize, k: u8, q: &[u8]) -> Merged
-    requires { Stored q.now × (at + length q.now < 18446744073709551616) }
-    ensures { (j : Kind) (x : Query) → kind_tag j ≡ k → Is q.now x → First at least j x result.base result.kind result.sum }
-{
-    if summable(least, k) {
-        let h = base(q);
-        return Merged {
-            base: at + (q.len() - h.len()),
-            kind: k,
-            sum: as_sum(boost_of(q)),
-        };
-    }
-    Merged {
-        base: at,
-        kind: k,
-        sum: 1.0,
-    }
+// A merged clause: where its base stands, its kind, its running sum.
+#[derive(Clone, Copy)]
+struct Merged {
+    base: usize,
+    // Stays: a kind is the tag that is read and laid again; an enum would be made of that byte and turned into it within one turn of the loop.
+    kind: u8,
+    sum: f64,
 }
 
 // Where the clauses that were left begin, and the sum with those that were taken up.
-#[derive(Drop)]
+#[derive(Clone, Copy)]
 struct Eaten {
     from: usize,
     sum: f64,
 }
 
-// Goes over the clauses from `at`, where the base of m ends, up to `end`.
-fn eat(room: &mut [u8], m: Merged, at: usize, end: usize, least: usize, strict: bool) -> Eaten
-    requires { Eatable m.base m.kind at end room.old }
-    ensures { (k : Kind) (h : Query) (cs : Clauses) → kind_tag k ≡ m.kind → Is (within m.base at room.old) h → Are (within at end room.old) cs → Ate strict least at end room.old k h cs m.sum result.from result.sum room.new }
-{
-    let b = m.base;
-    let k = m.kind;
-    let mut sum = m.sum;
-    let mut from = at;
-    let mut u = at;
-    while u < end {
-        let j = room[u];
-        let v = end_of(room, u);
-        if eats(least, strict, k, &room[b..at], j, &room[u + HEADER..v]) {
-            let x = fed(least, sum, j, &room[u + HEADER..v]);
-            let f = from + (v - u);
-            shift(room, f, from, u - from);
-            sum = x;
-            from = f;
-        }
-        u = v;
-    }
-    Eaten { from, sum }
-}
-
-// The same, without a search where the table says that no clause equals m.
-fn eat_others(
-    room: &mut [u8],
-    m: Merged,
-    at: usize,
-    end: usize,
-    least: usize,
-    strict: bool,
-    table: &[u8],
-) -> Eaten
-    requires { Eatable m.base m.kind at end room.old × Alone least table.now m.base at end room.old }
-    ensures { (k : Kind) (h : Query) (cs : Clauses) → kind_tag k ≡ m.kind → Is (within m.base at room.old) h → Are (within at end room.old) cs → Ate strict least at end room.old k h cs m.sum result.from result.sum room.new }
-{
-    let b = m.base;
-    if is_alone(table, &room[b..at]) {
-        return Eaten {
-            from: at,
-            sum: m.sum,
-        };
-    }
-    eat(room, m, at, end, least, strict)
-}
-
 // Lays a clause at w: what stands from b up to e.
+// Stays: b and e are places of the room that is written, which cannot be lent beside it as a slice.
 fn put_clause(room: &mut [u8], w: usize, kind: u8, b: usize, e: usize) -> usize
     requires { (b ≤ e) × (e ≤ length room.old) × (w + 3 + (e - b) ≤ length room.old) × (e - b < 65536) }
     ensures { Put room.old w (part kind (within b e room.old)) result room.new }
@@ -238,12 +106,11 @@ fn put_merged(room: &mut [u8], w: usize, m: Merged, e: usize) -> usize
     requires { (m.base ≤ e) × (e ≤ length room.old) × (w + merged_size m.sum (e - m.base) ≤ length room.old) × (merged_size m.sum (e - m.base) < 65536) }
     ensures { Put room.old w (part m.kind (reboosted_bytes m.sum (within m.base e room.old))) result room.new }
 {
-    let b = m.base;
-    let s = m.sum;
-    if is_one(s) {
-        return put_clause(room, w, m.kind, b, e);
+    if is_one(m.sum) {
+        put_clause(room, w, m.kind, m.base, e)
+    } else {
+        put_boosted(room, w, m.kind, rounded_bits(m.sum), m.base, e)
     }
-    put_boosted(room, w, m.kind, rounded_bits(s), b, e)
 }
 
 // The bytes that a merged clause with a base of n bytes takes.
@@ -263,67 +130,179 @@ fn make_way(room: &mut [u8], need: usize, at: usize, end: usize) -> usize
     requires { (at ≤ end) × (end ≤ length room.old) × (need + (end - at) ≤ length room.old) }
     ensures { Way need at end room.old result room.new }
 {
-    if need <= at {
-        return at;
-    }
-    shift(room, need, at, end - at);
-    need
+    let begin = need.max(at);
+    shift(room, begin, at, end - at);
+    begin
 }
 
-// Merges the clauses that stand in the first `end` bytes, and lays what is kept at the front.
-fn merge_all(room: &mut [u8], end: usize, least: usize, strict: bool, table: &[u8]) -> usize
-    requires { Mergeable end room.old × ((cs : Clauses) → Are (within 0 end room.old) cs → Noted least table.now cs) }
-    ensures { (cs : Clauses) → Are (within 0 end room.old) cs → Stands 0 room.old result (encodes (merged_clauses strict least cs)) room.new }
-{
-    let mut t = 0;
-    let mut w = 0;
-    let mut last = end;
-    while t < last {
-        let e = end_of(room, t);
-        let m = first_of(least, t + HEADER, room[t], &room[t + HEADER..e]);
-        let b = m.base;
-        let k = m.kind;
-        let a = eat_others(room, m, e, last, least, strict, table);
-        let s = a.sum;
-        let f = a.from;
-        let g = make_way(room, w + merged_size(s, e - b), f, last);
-        let v = put_merged(
-            room,
-            w,
+// The Boolean whose clauses are merged: its minimum, and whether it is rewritten strictly.
+#[derive(Clone, Copy)]
+struct Boolean {
+    least: usize,
+    // Stays: no value goes with it; the definitions take it as a Bool, and so does C, in `probe_rewrite_and_select`.
+    strict: bool,
+}
+
+impl Boolean {
+    fn summable(self, k: u8) -> bool
+        ensures { (j : Kind) → kind_tag j ≡ k → result ≡ summable self.least j }
+    {
+        k == MUST_TAG || k == SHOULD_TAG && self.least <= 1
+    }
+
+    // Whether an equal clause of kind k stands for another of its kind: a strict one of a Should does so only where the minimum is at most 1.
+    fn stands_for_own(self, k: u8) -> bool
+        ensures { (l : Kind) → kind_tag l ≡ k → result ≡ stands_for self.strict self.least l l }
+    {
+        !self.strict || k != SHOULD_TAG || self.least <= 1
+    }
+
+    fn stands_for(self, j: u8, k: u8) -> bool
+        ensures { (i l : Kind) → kind_tag i ≡ j → kind_tag l ≡ k → result ≡ stands_for self.strict self.least i l }
+    {
+        if j == k {
+            self.stands_for_own(k)
+        } else {
+            j == MUST_TAG && k == FILTER_TAG
+        }
+    }
+
+    // What a clause of kind k is compared by.
+    fn held(self, k: u8, q: &[u8]) -> &[u8]
+        requires { Stored q.now }
+        ensures { (x : Query) (j : Kind) → Is q.now x → kind_tag j ≡ k → Is result.now (held self.least j x) }
+    {
+        if self.summable(k) { base(q) } else { q }
+    }
+
+    // Does a clause of kind k that is compared by h stand for one of kind j with the query q?
+    fn eats(self, k: u8, h: &[u8], j: u8, q: &[u8]) -> bool
+        requires { Stored q.now }
+        ensures { Eats self.strict self.least k h.now j q.now result }
+    {
+        self.stands_for(k, j) && same(h, self.held(j, q))
+    }
+
+    // The sum once a clause of kind j with the query q was taken up.
+    fn fed(self, sum: f64, j: u8, q: &[u8]) -> f64
+        requires { Stored q.now }
+        ensures { Fed self.least sum j q.now result }
+    {
+        if self.summable(j) {
+            add(sum, boost_of(q))
+        } else {
+            sum
+        }
+    }
+
+    // The clause of kind k with the query q, which stands at a place, before it has taken up any.
+    fn first_of(self, at: usize, k: u8, q: &[u8]) -> Merged
+        requires { Stored q.now × (at + length q.now < 18446744073709551616) }
+        ensures { (j : Kind) (x : Query) → kind_tag j ≡ k → Is q.now x → First at self.least j x result.base result.kind result.sum }
+    {
+        if self.summable(k) {
+            let h = base(q);
             Merged {
-                base: b,
+                base: at + (q.len() - h.len()),
                 kind: k,
-                sum: s,
+                sum: as_sum(boost_of(q)),
+            }
+        } else {
+            Merged {
+                base: at,
+                kind: k,
+                sum: 1.0,
+            }
+        }
+    }
+
+    // Goes over the clauses from `at`, where the base of m ends, up to `end`.
+    fn eat(self, room: &mut [u8], m: Merged, at: usize, end: usize) -> Eaten
+        requires { Eatable m.base m.kind at end room.old }
+        ensures { (k : Kind) (h : Query) (cs : Clauses) → kind_tag k ≡ m.kind → Is (within m.base at room.old) h → Are (within at end room.old) cs → Ate self.strict self.least at end room.old k h cs m.sum result.from result.sum room.new }
+    {
+        // Stays: the clauses stand in the room that is written, so that no iterator can lend them; each ends where its header says.
+        let mut sum = m.sum;
+        let mut from = at;
+        let mut u = at;
+        while u < end {
+            let j = room[u];
+            let v = end_of(room, u);
+            if self.eats(m.kind, &room[m.base..at], j, &room[u + HEADER..v]) {
+                sum = self.fed(sum, j, &room[u + HEADER..v]);
+                let f = from + (v - u);
+                shift(room, f, from, u - from);
+                from = f;
+            }
+            u = v;
+        }
+        Eaten { from, sum }
+    }
+
+    // The same, without a search where the table says that no clause equals m.
+    fn eat_others(
+        self,
+        room: &mut [u8],
+        m: Merged,
+        at: usize,
+        end: usize,
+        table: Option<&[u8; TABLE]>,
+    ) -> Eaten
+        requires { Eatable m.base m.kind at end room.old × Alone self.least (cells_of table) m.base at end room.old }
+        ensures { (k : Kind) (h : Query) (cs : Clauses) → kind_tag k ≡ m.kind → Is (within m.base at room.old) h → Are (within at end room.old) cs → Ate self.strict self.least at end room.old k h cs m.sum result.from result.sum room.new }
+    {
+        match table {
+            Some(t) if is_alone(t, &room[m.base..at]) => Eaten {
+                from: at,
+                sum: m.sum,
             },
-            e,
-        );
-        last = last + (g - f);
-        w = v;
-        t = g;
+            _ => self.eat(room, m, at, end),
+        }
     }
-    w
-}
 
-// Notes the signature of each clause in the table.
-fn note_all(s: &[u8], least: usize, table: &mut [u8])
-    requires { StoredClauses s.now × (length table.old ≡ table_bytes) }
-    ensures { (cs : Clauses) → Are s.now cs → Noted least table.new cs }
-{
-    let mut t = s;
-    while t.len() > 0 {
-        note(table, signature(held(least, t[0], body(t))));
-        let u = rest(t);
-        t = u;
+    // Merges the clauses that stand in the first `end` bytes, and lays what is kept at the front.
+    // Stays: the room is lent from call to call as it is, and `Mergeable` is clauses with their proof, for a ghost field as `Stored` above.
+    fn merge_all(self, room: &mut [u8], end: usize, table: Option<&[u8; TABLE]>) -> usize
+        requires { Mergeable end room.old × ((cs : Clauses) → Are (within 0 end room.old) cs → Noted self.least (cells_of table) cs) }
+        ensures { (cs : Clauses) → Are (within 0 end room.old) cs → Stands 0 room.old result (encodes (merged_clauses self.strict self.least cs)) room.new }
+    {
+        // Stays: as in `eat`, the clauses stand in the room that is written.
+        let mut t = 0;
+        let mut w = 0;
+        let mut last = end;
+        while t < last {
+            let e = end_of(room, t);
+            let m = self.first_of(t + HEADER, room[t], &room[t + HEADER..e]);
+            let a = self.eat_others(room, m, e, last, table);
+            let g = make_way(room, w + merged_size(a.sum, e - m.base), a.from, last);
+            w = put_merged(room, w, Merged { sum: a.sum, ..m }, e);
+            last += g - a.from;
+            t = g;
+        }
+        w
     }
-}
 
-fn merge_many(room: &mut [u8], end: usize, least: usize, strict: bool) -> usize
-    requires { Mergeable end room.old }
-    ensures { (cs : Clauses) → Are (within 0 end room.old) cs → Stands 0 room.old result (encodes (merged_clauses strict least cs)) room.new }
-{
-    let mut table = [0u8; TABLE];
-    note_all(&room[0..end], least, &mut table);
-    merge_all(room, end, least, strict, &table)
+    // Notes the signature of each clause in the table.
+    fn note_all(self, s: &[u8], table: &mut [u8; TABLE])
+        requires { StoredClauses s.now }
+        ensures { (cs : Clauses) → Are s.now cs → Noted self.least table.new cs }
+    {
+        let mut t = s;
+        while !t.is_empty() {
+            note(table, signature(self.held(t[0], body(t))));
+            t = rest(t);
+        }
+    }
+
+    fn merge_many(self, room: &mut [u8], end: usize) -> usize
+        requires { Mergeable end room.old }
+        ensures { (cs : Clauses) → Are (within 0 end room.old) cs → Stands 0 room.old result (encodes (merged_clauses self.strict self.least cs)) room.new }
+    {
+        // Stays: no number says how far it is filled: a cell is found by its signature, and all are 0 at first.
+        let mut table = [0u8; TABLE];
+        self.note_all(&room[0..end], &mut table);
+        self.merge_all(room, end, Some(&table))
+    }
 }
 
 // Are there so few clauses that a table is not worth its clearing?
@@ -332,16 +311,13 @@ fn is_few(clauses: &[u8]) -> bool
     ensures { (cs : Clauses) → Are clauses.now cs → result ≡ leb (how_many cs) few }
 {
     let mut t = clauses;
-    let mut n: usize = 0;
-    while t.len() > 0 {
-        if n == FEW {
-            return false;
+    for _ in 0..FEW {
+        if t.is_empty() {
+            return true;
         }
-        n += 1;
-        let u = rest(t);
-        t = u;
+        t = rest(t);
     }
-    true
+    t.is_empty()
 }
 
 // Merges the clauses that stand in the first `end` bytes, and lays what is kept at the front. Few clauses are compared with no table.
@@ -349,8 +325,10 @@ pub fn merge_clauses(room: &mut [u8], end: usize, least: usize, strict: bool) ->
     requires { Mergeable end room.old }
     ensures { (cs : Clauses) → Are (within 0 end room.old) cs → Stands 0 room.old result (encodes (merged_clauses strict least cs)) room.new }
 {
+    let boolean = Boolean { least, strict };
     if is_few(&room[0..end]) {
-        return merge_all(room, end, least, strict, b"");
+        boolean.merge_all(room, end, None)
+    } else {
+        boolean.merge_many(room, end)
     }
-    merge_many(room, end, least, strict)
 }

@@ -14,11 +14,7 @@ fn word(s: &[u8], k: usize) -> u64
     requires { (4 ≤ length s.now) × (4 ≤ k) }
     ensures { (result ≡ word_of s.now k) × (result < 2 ^ 32) }
 {
-    if s.len() < k {
-        return big4(s) as u64;
-    }
-    let e = s.len() - k;
-    big4(&s[e..]) as u64
+    u64::from(big4(&s[s.len().saturating_sub(k)..]))
 }
 
 // Sixteen bytes from k before the end backwards, each four of them by a factor of 28 bits: so the sum has no more than 62.
@@ -50,30 +46,27 @@ fn turn(g: usize) -> usize
 }
 
 // What the table has of a signature: 0, 1, or 2 where more than one clause has it.
-fn cell(table: &[u8], g: usize) -> u8
-    requires { g / 4 < length table.now }
+fn cell(table: &[u8; TABLE], g: usize) -> u8
+    requires { g < signatures }
     ensures { result ≡ cell_of table.now g }
 {
     (table[g / 4] >> turn(g)) % 4
 }
 
 // One clause more has the signature g.
-pub fn note(table: &mut [u8], g: usize)
-    requires { (length table.old ≡ table_bytes) × (g < signatures) }
+pub fn note(table: &mut [u8; TABLE], g: usize)
+    requires { g < signatures }
     ensures { OneMore g table.old table.new }
 {
     if cell(table, g) < 2 {
         let i = g / 4;
-        table[i] = table[i] + (1u8 << turn(g));
+        table[i] += 1u8 << turn(g);
     }
 }
 
-// Does the table say that one clause alone has this stretch's signature? An empty one says so of none.
-pub fn is_alone(table: &[u8], s: &[u8]) -> bool
+// Does the table say that one clause alone has this stretch's signature?
+pub fn is_alone(table: &[u8; TABLE], s: &[u8]) -> bool
     ensures { result ≡ true → cell_of table.now (signature_of s.now) ≡ 1 }
 {
-    if table.len() != TABLE {
-        return false;
-    }
     cell(table, signature(s)) == 1
 }

@@ -3,6 +3,8 @@
 // holds. Whoever uses one is proved against the definition of that name.
 #![tactic(auto)]
 
+pub mod refusal;
+
 // ---- limits
 
 pub const TEXT_MOST: usize = 1024;

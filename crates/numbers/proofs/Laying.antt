@@ -1,10 +1,11 @@
 -- Laws of `laid`: what one writer lays behind another, in front of another or inside a lent stretch is one stretch.
+use borrow.Rule.Slice.PartMut.{put_mid}
 use mathlib.Core.Path.{◌≡◌, refl, sym, ap, ◌∙◌}
 use Prim.Native.Nat.{ℕ, ◌+◌, ◌-◌, ◌/◌, ◌%◌, ◌≤◌, ◌<◌}
 use mathlib.Core.List.{List, [], ◌∷◌, ◌++◌, append_assoc, append-nil}
 use native.Mathlib.Omega.{arith}
 use native.Mathlib.Numerals.{add-one, add-two, add-three}
-use lib.ListN.{length, get_or, take, drop, set, replicate, length-append, length-drop, take-append-drop}
+use lib.ListN.{length, get_or, take, drop, set, length-append, length-drop, take-append-drop}
 use lib.Seq.{take_at, drop_at, take-take, drop-drop, take-add, drop-append-le, length-take-le, take-length, drop-length, sets, sets-eq, paste, paste-suc}
 use Rattle.rules.specs.Bytes.{big, part}
 use Rattle.rules.proofs.Stored.Widths.{big_two, big_four}
@@ -63,7 +64,7 @@ pub laid_sets : (s out : List ℕ) (at : ℕ) → at + length s ≤ length out �
 unfolding laid
 laid_sets s out at h = sets-eq s out at h
 
--- a number in two bytes and in four, as code stores them
+-- a number in two bytes and in four, stored byte by byte
 pub two_laid : (out : List ℕ) (at v : ℕ) → at + 2 ≤ length out → v < 65536 → set (set out at (v / 256)) (at + 1) (v % 256) ≡ laid out at (big 2 v)
 two_laid out at v h l =
     rw (big_two v l) (ap (λ (i : ℕ). set (set out at (v / 256)) i (v % 256)) (add-one at) ∙ laid_sets (v / 256 ∷ v % 256 ∷ []) out at h)
@@ -86,11 +87,6 @@ unfolding laid
 copy_end out l s at k h i e =
     let n : k ≡ length s = omega arith in
     e ∙ rw (n, take-length s)
-
-pub clear_end : (room l : List ℕ) (k : ℕ) → k ≤ length room → length room ≤ k → l ≡ replicate k 0 ++ drop k room → l ≡ replicate (length room) 0
-clear_end room l k h i e =
-    let n : k ≡ length room = omega arith in
-    e ∙ rw (n, drop-length room) (append-nil (replicate (length room) 0))
 
 -- ---- two stretches
 
@@ -128,6 +124,13 @@ lent out ys a e h k l =
     let n : a + (e - a) ≡ a + length ys = omega arith in
     sym (append_assoc (take a out) ys (drop (e - a) (drop a out)))
     ∙ ap {B = List ℕ} (λ r. take a out ++ ys ++ r) (drop-drop (e - a) a out ∙ ap (λ (i : ℕ). drop i out) n)
+
+-- s is copied over the bytes from a place on
+pub copied : (out ys s : List ℕ) (at : ℕ) → ys ≡ s → at + length s ≤ length out → Put out at s (at + length s) (put_mid at (at + length s - at) out ys)
+copied out ys s at e fits = record {
+  place = refl;
+  bytes = lent out ys at (at + length s) (omega arith) fits (omega (arith, ap length e)) ∙ ap (laid out at) e;
+}
 
 -- what is laid inside the n bytes from a on, seen in the whole
 pub laid_inside : (out : List ℕ) (a n k : ℕ) (s : List ℕ) → k + length s ≤ n → a + n ≤ length out

@@ -1,14 +1,14 @@
 -- From what is read to what the public call answers and leaves. Assumes nothing.
 use mathlib.Core.Path.{◌≡◌, refl, sym, ap, subst, ◌∙◌}
 use mathlib.Core.Bool.{Bool, true, false, ◌&&◌}
-use Prim.Native.Nat.{ℕ, zero, suc, ◌+◌, ◌-◌, ◌≤◌, ◌<◌}
+use Prim.Native.Nat.{ℕ, zero, suc, ◌-◌, ◌≤◌, ◌<◌}
 use mathlib.Core.List.{List, [], ◌∷◌, ◌++◌}
 use native.Mathlib.Decide.{dec_lt}
 use native.Mathlib.Omega.{arith}
 use lib.Dec.{leb}
 use lib.ListN.{length, take, drop, get_or, replicate, get_or-eq_default}
 use borrow.Author.Tests.{le-leb, lt-leb, leb-true}
-use Rattle.rules.specs.Numbers.{text_most, Refusal, number, place_of, faulty, Read, got, refused, need, on_read, and_then, placed, long_text, not_ascii, bad_setup, unexpected_token, long_answer, field_most, selection_bytes}
+use Rattle.rules.specs.Numbers.{text_most, Refusal, number, fault_number, place_of, faulty, Read, got, refused, need, on_read, and_then, placed, long_text, not_ascii, bad_setup, unexpected_token, long_answer, field_most, selection_bytes}
 use Rattle.rules.specs.Bytes.{is_text, is_field, all}
 use Rattle.rules.specs.Query.{Query, match_none, Clauses, none}
 use Rattle.rules.specs.Stored.{encode}
@@ -19,22 +19,56 @@ use Rattle.rules.specs.Answers.{stored_reply, fitting, leave_at, call_at, parse_
 use Rattle.rules.proofs.Bools.{clash, both, and_l, and_r}
 use Rattle.rules.proofs.Stored.Sizes.{length_match_none}
 use Rattle.rules.proofs.Text.Tokenizing.{Standing, lex_few, lex_standing}
-use Rattle.numbers.specs.Laid.{laid, Put, header}
+use Rattle.numbers.specs.Laid.{Put, header}
 use Rattle.numbers.proofs.Laying.{laid_front}
 use Rattle.row.specs.Row.{room_least, tokens_of}
-use Rattle.lexer.specs.Lexing.{Row, answer_of as lexed_of}
-use Rattle.lexer.specs.declared.Lexed.TheVariants as lexed
+use Rattle.std.specs.Prelude.{Result, Ok, Err}
+use Rattle.rules.specs.Numbers as rules
+use Rattle.names.specs.Refusals.{coded, coded_fault, numbered, located, answered_at}
+use Rattle.names.specs.declared.refusal.Fault.{Fault as Met}
+use Rattle.lexer.specs.Lexing.{Row}
 use Rattle.counted.specs.Kinds.{is_alone, made_bytes, made_length, Sums}
 use Rattle.clauses.specs.Measured.{place_at, Spaced, Rowed, Tuned, MeansKept, MeantClauses}
 use Rattle.clauses.specs.Written.{QueryToWrite}
-use Rattle.parser.specs.Parsed.{answer_of, left_of, fit, Delivers, Parses}
-use Rattle.parser.specs.declared.parse.Parsed.{Parsed}
-use Rattle.parser.specs.declared.parse.Parsed.TheVariants.{Refused, Bytes}
+use Rattle.parser.specs.Parsed.{answer_of, left_of, told, fit, Delivers, Parses}
+use Rattle.names.specs.declared.refusal.Refusal.{Refusal as code-refusal}
+use Rattle.names.specs.declared.refusal.Refusal.TheVariants as code
 use Rattle.counted.specs.declared.Counted.{Counted}
-use Rattle.counted.specs.declared.Counted.TheVariants.{Fault, Clauses as Many}
 use Rattle.counted.proofs.Deciding.{made_some}
 use Rattle.row.proofs.Rows.{length_tokens, token_none}
 use Rattle.clauses.proofs.Rows.{place_most_lem}
+
+-- ---- the numbers of refusals
+
+numbered_fault : (f : rules.Fault) → numbered (coded_fault f) ≡ fault_number f
+numbered_fault rules.open_quote = refl
+numbered_fault rules.nothing_escaped = refl
+numbered_fault rules.range_bracket = refl
+numbered_fault rules.wildcard = refl
+numbered_fault rules.fuzzy_term = refl
+numbered_fault rules.sloppy_phrase = refl
+numbered_fault rules.unexpected_end = refl
+numbered_fault rules.unexpected_token = refl
+numbered_fault rules.open_bracket = refl
+numbered_fault rules.bad_numeral = refl
+numbered_fault rules.no_numeral = refl
+numbered_fault rules.long_field = refl
+numbered_fault rules.many_brackets = refl
+numbered_fault rules.long_numeral = refl
+
+pub numbered_code : (x : Refusal) → numbered (coded x) ≡ number x
+numbered_code rules.long_text = refl
+numbered_code rules.not_ascii = refl
+numbered_code rules.bad_setup = refl
+numbered_code rules.long_answer = refl
+numbered_code rules.long_query = refl
+numbered_code rules.malformed_query = refl
+numbered_code rules.deep_query = refl
+numbered_code rules.long_list = refl
+numbered_code rules.malformed_list = refl
+numbered_code rules.many_queries = refl
+numbered_code rules.short_room = refl
+numbered_code (faulty f p) = numbered_fault f
 
 -- ---- the whole answer
 
@@ -46,28 +80,33 @@ reply_fit (got q) n = by (leb (length (encode q)) n)
     by true = refl
     by false = refl
 
-left_is : (X : Read Query) (out room out' room' : List ℕ) (p : Parsed) → Delivers X out p out' → room' ≡ replicate (length room) 0
+left_is : (X : Read Query) (out room out' room' : List ℕ) (p : Result ℕ Met) → Delivers X out p out' → room' ≡ replicate (length room) 0
     → left_of p out' room' ≡ leave_at (and_then (on_read stored_reply X) (fitting (length out))) out room
-left_is X out room out' room' (Refused e p) (x, d, n, w, o, b) z = rw (reply_fit X (length out), d, n, w, o, z)
-left_is X out room out' room' (Bytes n) (q, d, m, o, b) z = rw (reply_fit X (length out), d, o, z, m)
+left_is X out room out' room' (Err e) (x, d, w, o, b) z = rw (reply_fit X (length out), d, w, numbered_code x, o, z)
+left_is X out room out' room' (Ok n) (q, d, m, o, b) z = rw (reply_fit X (length out), d, o, z, m)
 
-delivers_short : (X : Read Query) (out out' : List ℕ) (p : Parsed) → Delivers X out p out' → (answer_of p).written ≤ selection_bytes
-delivers_short X out out' (Refused e p) D = omega arith
-delivers_short X out out' (Bytes n) (q, d, m, o, b) = b
+answer_is : (X : Read Query) (out out' : List ℕ) (p : Result ℕ Met) → Delivers X out p out' → p ≡ told (and_then (on_read stored_reply X) (fitting (length out)))
+answer_is X out out' (Err e) (x, d, w, o, b) = rw (reply_fit X (length out), d, w)
+answer_is X out out' (Ok n) (q, d, m, o, b) = rw (reply_fit X (length out), d, m)
 
-delivers_near : (X : Read Query) (out out' : List ℕ) (p : Parsed) → Delivers X out p out' → (answer_of p).place ≤ text_most
-delivers_near X out out' (Refused e p) (x, d, n, w, o, b) = b
-delivers_near X out out' (Bytes n) D = omega arith
+delivers_short : (X : Read Query) (out out' : List ℕ) (p : Result ℕ Met) → Delivers X out p out' → (answer_of p).written ≤ selection_bytes
+delivers_short X out out' (Err e) D = omega arith
+delivers_short X out out' (Ok n) (q, d, m, o, b) = b
+
+delivers_near : (X : Read Query) (out out' : List ℕ) (p : Result ℕ Met) → Delivers X out p out' → (answer_of p).place ≤ text_most
+delivers_near X out out' (Err e) (x, d, w, o, b) = b
+delivers_near X out out' (Ok n) D = omega arith
 
 module _ (o a : ℕ) (f es text out room : List ℕ) where
-  pub parse_short : length room < 5120 → (room' : List ℕ) → room' ≡ replicate (length room) 0 → Parses o a f es text out room out room' (Refused 32 0)
+  pub parse_short : length room < 5120 → (room' : List ℕ) → room' ≡ replicate (length room) 0 → Parses o a f es text out room out room' (Err (record { refusal = code.ShortRoom; place = 0 }))
   unfolding parse_left call_at
-  parse_short h room' z = record { is = rw (lt-leb 5120 (length room) h, z); short = omega arith; near = omega arith }
+  parse_short h room' z = record { answer = rw (lt-leb 5120 (length room) h); is = rw (lt-leb 5120 (length room) h, z); short = omega arith; near = omega arith }
 
-  pub parse_whole : 5120 ≤ length room → (p : Parsed) (out' room' : List ℕ) → Delivers (and_then (read_setup o a f es) (λ st. parse st text)) out p out'
+  pub parse_whole : 5120 ≤ length room → (p : Result ℕ Met) (out' room' : List ℕ) → Delivers (and_then (read_setup o a f es) (λ st. parse st text)) out p out'
       → room' ≡ replicate (length room) 0 → Parses o a f es text out room out' room' p
   unfolding parse_left call_at parse_reply
   parse_whole h p out' room' D z = record {
+    answer = rw (le-leb 5120 (length room) h) (answer_is (and_then (read_setup o a f es) (λ st. parse st text)) out out' p D);
     is = rw (le-leb 5120 (length room) h) (left_is (and_then (read_setup o a f es) (λ st. parse st text)) out room out' room' p D z);
     short = delivers_short (and_then (read_setup o a f es) (λ st. parse st text)) out out' p D;
     near = delivers_near (and_then (read_setup o a f es) (λ st. parse st text)) out out' p D;
@@ -75,11 +114,14 @@ module _ (o a : ℕ) (f es text out room : List ℕ) where
 
 -- ---- refusals
 
-pub refuses : {X : Read Query} (out : List ℕ) (e p : ℕ) {x : Refusal} → X ≡ refused x → e ≡ number x → p ≡ place_of x → p ≤ text_most → Delivers X out (Refused e p) out
-refuses out e p {x} d n w b = (x, rw d, n, w, refl, b)
+pub refuses : {X : Read Query} (out : List ℕ) {e : Met} {x : Refusal} → X ≡ refused x → e ≡ located x → e.place ≤ text_most → Delivers X out (Err e) out
+refuses out {x = x} d w b = (x, rw d, w, refl, b)
 
-pub delivers_as : {X Y : Read Query} (out out' : List ℕ) (p : Parsed) → X ≡ Y → Delivers Y out p out' → Delivers X out p out'
+pub delivers_as : {X Y : Read Query} (out out' : List ℕ) (p : Result ℕ Met) → X ≡ Y → Delivers Y out p out' → Delivers X out p out'
 delivers_as out out' p e D = subst (λ (Z : Read Query). Delivers Z out p out') (sym e) D
+
+met_as : {a b : code-refusal} {p q : ℕ} → a ≡ b → p ≡ q → ◌≡◌ {A = Met} (record { refusal = a; place = p }) (record { refusal = b; place = q })
+met_as e d = rw (e, d)
 
 -- ---- the setup
 
@@ -190,10 +232,10 @@ row_of text room n {ts} h l e k W =
 
 -- ---- a query that fits, and one that does not
 
-pub fits_not : (out : List ℕ) (q : Query) → length out < length (encode q) → Delivers (got q) out (Refused 18 0) out
-fits_not out q h = (long_answer, rw (lt-leb (length (encode q)) (length out) h), refl, refl, refl, omega arith)
+pub fits_not : (out : List ℕ) (q : Query) → length out < length (encode q) → Delivers (got q) out (Err (record { refusal = code.LongAnswer; place = 0 })) out
+fits_not out q h = (long_answer, rw (lt-leb (length (encode q)) (length out) h), refl, refl, omega arith)
 
-pub fits : (out out' : List ℕ) (q : Query) (n : ℕ) → n ≡ length (encode q) → n ≤ length out → out' ≡ encode q ++ drop n out → n ≤ 65000 → Delivers (got q) out (Bytes n) out'
+pub fits : (out out' : List ℕ) (q : Query) (n : ℕ) → n ≡ length (encode q) → n ≤ length out → out' ≡ encode q ++ drop n out → n ≤ 65000 → Delivers (got q) out (Ok n) out'
 fits out out' q n e h o m = (q, rw (le-leb (length (encode q)) (length out) (omega arith)), e, o, omega arith)
 
 none_made : (m : Made) → 0 ≡ made_length m → m ≡ nothing
@@ -205,18 +247,18 @@ some_made nothing n e h = absurd (h e)
 some_made (made q) n e h = (q, refl)
 
 module _ (cs : Clauses) (len : ℕ) (e : len ≡ made_length (query_of cs)) (out : List ℕ) where
-  pub none_short : len ≡ 0 → length out < 3 → Delivers (got (or_match_none (query_of cs))) out (Refused 18 0) out
+  pub none_short : len ≡ 0 → length out < 3 → Delivers (got (or_match_none (query_of cs))) out (Err (record { refusal = code.LongAnswer; place = 0 })) out
   none_short z h = rw (none_made (query_of cs) (sym z ∙ e)) (fits_not out match_none (omega (arith, length_match_none)))
 
-  pub none_fits : len ≡ 0 → 3 ≤ length out → {r : ℕ} {out' : List ℕ} → Put out 0 (header 7 0) r out' → Delivers (got (or_match_none (query_of cs))) out (Bytes 3) out'
+  pub none_fits : len ≡ 0 → 3 ≤ length out → {r : ℕ} {out' : List ℕ} → Put out 0 (header 7 0) r out' → Delivers (got (or_match_none (query_of cs))) out (Ok 3) out'
   unfolding encode
   none_fits z h {out' = out'} P = rw (none_made (query_of cs) (sym z ∙ e)) (fits out out' match_none 3 refl h (P.bytes ∙ laid_front out (header 7 0)) (omega arith))
 
-  pub some_short : (len ≡ 0 → ⊥) → length out < len → Delivers (got (or_match_none (query_of cs))) out (Refused 18 0) out
+  pub some_short : (len ≡ 0 → ⊥) → length out < len → Delivers (got (or_match_none (query_of cs))) out (Err (record { refusal = code.LongAnswer; place = 0 })) out
   some_short z h = let q = some_made (query_of cs) len e z in rw q.1 (fits_not out q.0 (omega (arith, e ∙ ap made_length q.1)))
 
   pub some_fits : (len ≡ 0 → ⊥) → len ≤ length out → len ≤ 65000 → (ys : List ℕ) → ys ≡ made_bytes (query_of cs)
-      → Delivers (got (or_match_none (query_of cs))) out (Bytes len) (take 0 out ++ (ys ++ drop (len - 0) (drop 0 out)))
+      → Delivers (got (or_match_none (query_of cs))) out (Ok len) (take 0 out ++ (ys ++ drop (len - 0) (drop 0 out)))
   some_fits z h b ys y =
       let q = some_made (query_of cs) len e z in
       let l : len ≡ length (encode q.0) = e ∙ ap made_length q.1 in
@@ -226,15 +268,15 @@ module _ (cs : Clauses) (len : ℕ) (e : len ≡ made_length (query_of cs)) (out
 
 -- ---- the tokens
 
-module _ (st : Setup) (room : List ℕ) (n : ℕ) (f : List ℕ) (ef : st.field ≡ f) {g : Counted} (M : MeantClauses st (tokens_of room n) n f 0 0 g) where
+module _ (st : Setup) (room : List ℕ) (n : ℕ) (f : List ℕ) (ef : st.field ≡ f) {g : Result Counted Met} (M : MeantClauses st (tokens_of room n) n f 0 0 g) where
   tokens_run : parse_tokens st (tokens_of room n) ≡ and_then (on_read query_found M.answer) (whole_query (tokens_of room n))
   unfolding parse_tokens
   tokens_run =
       ap (λ (h : List ℕ). and_then (on_read query_found (parse_clauses st (tokens_of room n) (suc (length (tokens_of room n))) h 0 none 0)) (whole_query (tokens_of room n))) ef
       ∙ ap (λ (o : Read Kept). and_then (on_read query_found o) (whole_query (tokens_of room n))) (M.says (suc (length (tokens_of room n))) (omega (arith, length_tokens room n)))
 
-  means_as : {g' : Counted} → g ≡ g' → MeansKept g' M.answer
-  means_as e = subst (λ (x : Counted). MeansKept x M.answer) e M.means
+  means_as : {g' : Result Counted Met} → g ≡ g' → MeansKept g' M.answer
+  means_as e = subst (λ (x : Result Counted Met). MeansKept x M.answer) e M.means
 
   answered : {r : Read Kept} → M.answer ≡ r → parse_tokens st (tokens_of room n) ≡ and_then (on_read query_found r) (whole_query (tokens_of room n))
   answered e = tokens_run ∙ ap (λ (o : Read Kept). and_then (on_read query_found o) (whole_query (tokens_of room n))) e
@@ -247,51 +289,53 @@ module _ (st : Setup) (room : List ℕ) (n : ℕ) (f : List ℕ) (ef : st.field 
     placed_as : {r : Read Query} → parse_tokens st (tokens_of room n) ≡ r → placed_tokens ≡ placed (start_of end (tokens_of room n)) r
     placed_as e = ap (placed (start_of end (tokens_of room n))) e
 
-    pub tokens_fault : (e t p : ℕ) → g ≡ Fault e t → p ≡ start_of end (tokens_of room n) t → p ≤ text_most → (out : List ℕ) → Delivers placed_tokens out (Refused e p) out
-    tokens_fault e t p d w b out =
+    pub tokens_fault : {e : Met} → g ≡ Err e → (p : ℕ) → p ≡ start_of end (tokens_of room n) e.place → p ≤ text_most → (out : List ℕ)
+        → Delivers placed_tokens out (Err (record { refusal = e.refusal; place = p })) out
+    tokens_fault {e} d p w b out =
         let z = means_as d in
-        refuses out e p {x = faulty z.0 (start_of end (tokens_of room n) t)} (placed_as (answered z.1)) z.2 w b
+        refuses out {x = faulty z.0 (start_of end (tokens_of room n) e.place)} (placed_as (answered z.1)) (met_as z.2 w) b
 
-    pub tokens_more : {count tag bytes next : ℕ} → g ≡ Many count tag bytes next → is_at 0 (tokens_of room n) next ≡ false
-        → (p : ℕ) → p ≡ start_of end (tokens_of room n) next → p ≤ text_most → (out : List ℕ) → Delivers placed_tokens out (Refused 11 p) out
+    pub tokens_more : {c : Counted} → g ≡ Ok c → is_at 0 (tokens_of room n) c.next ≡ false
+        → (p : ℕ) → p ≡ start_of end (tokens_of room n) c.next → p ≤ text_most → (out : List ℕ)
+        → Delivers placed_tokens out (Err (record { refusal = code.UnexpectedToken; place = p })) out
     unfolding whole_query
-    tokens_more {next = next} e b p w l out =
+    tokens_more {c} e b p w l out =
         let z = means_as e in
-        refuses out 11 p {x = faulty unexpected_token (start_of end (tokens_of room n) next)} (placed_as {r = refused (faulty unexpected_token next)} (answered z.1 ∙ rw b)) refl w l
+        refuses out {x = faulty unexpected_token (start_of end (tokens_of room n) c.next)} (placed_as {r = refused (faulty unexpected_token c.next)} (answered z.1 ∙ rw b)) (rw w) l
 
-  module _ {count tag bytes next : ℕ} (e : g ≡ Many count tag bytes next) where
+  module _ {c : Counted} (e : g ≡ Ok c) where
     pub tokens_kept : Clauses
     tokens_kept = (means_as e).0
 
-    pub tokens_end : (end : ℕ) → is_at 0 (tokens_of room n) next ≡ true → placed_tokens end ≡ got (or_match_none (query_of tokens_kept))
+    pub tokens_end : (end : ℕ) → is_at 0 (tokens_of room n) c.next ≡ true → placed_tokens end ≡ got (or_match_none (query_of tokens_kept))
     unfolding whole_query tokens_kept
     tokens_end end b = let z = means_as e in placed_as end {r = got (or_match_none (query_of z.0))} (answered z.1 ∙ rw b)
 
     pub tokens_write : {default : List ℕ} {operator analyzer : ℕ} → f ≡ default → Tuned st operator room n default 0 analyzer
-        → {alone : Bool} {len : ℕ} → ((cs : Clauses) (b : ℕ) → Sums cs count tag b → alone ≡ is_alone cs) → ((cs : Clauses) → Sums cs count tag bytes → len ≡ made_length (query_of cs))
-        → QueryToWrite room n default operator 0 analyzer 0 0 alone len st tokens_kept next
+        → {alone : Bool} {len : ℕ} → ((cs : Clauses) (b : ℕ) → Sums cs c.sum.count c.sum.tag b → alone ≡ is_alone cs) → ((cs : Clauses) → Sums cs c.sum.count c.sum.tag c.sum.bytes → len ≡ made_length (query_of cs))
+        → QueryToWrite room n default operator 0 analyzer 0 0 alone len st tokens_kept c.next
     unfolding tokens_kept
     tokens_write {default} d T a l =
         let z = means_as e in
         record {
           tuned = T;
           is = (suc (n - 0), λ k h. ap (λ (x : List ℕ). parse_clauses st (tokens_of room n) k x 0 none 0) (sym d) ∙ M.says k h ∙ z.1);
-          alone_is = a z.0 bytes z.2;
+          alone_is = a z.0 c.sum.bytes z.2;
           fills = l z.0 z.2;
         }
 
 -- ---- what the lexer answered
 
-pub lexed_refused : (o : Read (List Token)) (e p : ℕ) → lexed.Refused e p ≡ lexed_of o → (x : Refusal) × (o ≡ refused x) × (e ≡ number x) × (p ≡ place_of x)
-lexed_refused (refused x) e p h = (x, refl, cc, cc)
-lexed_refused (got ts) e p h = absurd (never e p (length ts) h)
+pub lexed_refused : (o : Read (List Token)) (e : Met) → Err e ≡ answered_at length o → (x : Refusal) × (o ≡ refused x) × (e ≡ located x)
+lexed_refused (refused x) e h = (x, refl, cc)
+lexed_refused (got ts) e h = absurd (never (length ts) e h)
   where
-    never : (e p n : ℕ) → lexed.Refused e p ≡ lexed.Tokens n → ⊥
-    never e p n h = let z : ◌≡◌ {A = ℕ} 0 1 = cc in omega arith
+    never : (n : ℕ) (e : Met) → ◌≡◌ {A = Result ℕ Met} (Err e) (Ok n) → ⊥
+    never n e h = cc
 
-pub lexed_tokens : (o : Read (List Token)) (n : ℕ) → lexed.Tokens n ≡ lexed_of o → (ts : List Token) × (o ≡ got ts) × (n ≡ length ts)
+pub lexed_tokens : (o : Read (List Token)) (n : ℕ) → Ok n ≡ answered_at length o → (ts : List Token) × (o ≡ got ts) × (n ≡ length ts)
 lexed_tokens (got ts) n h = (ts, refl, cc)
-lexed_tokens (refused x) n h = absurd (never n (number x) (place_of x) h)
+lexed_tokens (refused x) n h = absurd (never n (located x) h)
   where
-    never : (n e p : ℕ) → lexed.Tokens n ≡ lexed.Refused e p → ⊥
-    never n e p h = let z : ◌≡◌ {A = ℕ} 0 1 = cc in omega arith
+    never : (n : ℕ) (e : Met) → ◌≡◌ {A = Result ℕ Met} (Ok n) (Err e) → ⊥
+    never n e h = cc

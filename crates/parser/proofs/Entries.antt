@@ -3,13 +3,14 @@ use mathlib.Core.Path.{◌≡◌, refl, sym, ap, ◌∙◌}
 use mathlib.Core.Logic.{◌⊎◌, inl, inr, ⊎_elim}
 use mathlib.Core.Bool.{Bool, true, false, ◌&&◌}
 use Prim.Native.Nat.{ℕ, zero, suc, ◌+◌, ◌-◌, ◌*◌, ◌≤◌, ◌<◌, min}
+use Rattle.std.specs.Prelude.{Some}
 use mathlib.Core.List.{List, [], ◌∷◌, ◌++◌, append_assoc, append-nil}
 use native.Mathlib.Decide.{ℕ_discrete}
 use native.Mathlib.Omega.{arith}
 use native.Mathlib.Numerals.{add-one}
 use lib.Dec.{leb}
 use lib.ListN.{length, take, drop, get_or, set, length-append, length-drop, length-set, drop_of_length-le}
-use lib.Seq.{drop-cons, drop-drop, set-get_or, set-set, get_or-set_same, get_or-set_other, take-suc, take-length, length-take-le}
+use lib.Seq.{get_or-set_same, get_or-set_other, take-suc, take-length, length-take-le}
 use borrow.Author.Tests.{le-leb, lt-leb, leb-true}
 use Rattle.rules.specs.Numbers.{Read, got, refused, need, on_read, bad_setup}
 use Rattle.rules.specs.Bytes.{is_text, all, is_field}
@@ -17,7 +18,7 @@ use Rattle.rules.specs.Setup.{FieldEntry, field_entry, is_analyzer, is_field_ent
 use Rattle.rules.proofs.Bools.{clash, both, and_l, and_r, and_no_l, and_no_r}
 use Rattle.rules.proofs.Stored.Parts.{text_step}
 use Rattle.fields.specs.Fields.{row_text, entry_at, entries_to, array_entries}
-use Rattle.parser.specs.Noted.{RowPut, Entered}
+use Rattle.parser.specs.Noted.{RowPut, Broken, Entered}
 
 -- ---- rows
 
@@ -56,6 +57,10 @@ entries_or (suc k) (a ∷ n ∷ s) = by (leb n (length s)) (entries_or k (drop n
     by true (inl (es, e)) = inl (field_entry a (take n s) ∷ es, rw e)
     by true (inr e) = inr (rw e)
 
+none_left : (s : List ℕ) → length s ≡ 0 → s ≡ []
+none_left [] h = refl
+none_left (c ∷ s) h = absurd (omega arith)
+
 entries_none : (k : ℕ) (s : List ℕ) → s ≡ [] → entries_in k s ≡ got []
 unfolding entries_in entries_step
 entries_none zero s e = rw e
@@ -76,10 +81,11 @@ entries_one : (k a n : ℕ) (s : List ℕ) → n ≤ length s → entries_in (su
 unfolding entries_in entries_step
 entries_one k a n s h = rw (le-leb n (length s) h)
 
-two_more : (s : List ℕ) (at : ℕ) → at + 1 < length s → drop at s ≡ get_or s at 0 ∷ get_or s (at + 1) 0 ∷ drop (at + 2) s
-two_more s at h =
-    let e : suc (at + 1) ≡ at + 2 = omega arith in
-    drop-cons s at 0 (omega arith) ∙ ap (λ (x : ℕ). get_or s at 0 ∷ drop x s) (sym (add-one at)) ∙ ap (λ (l : List ℕ). get_or s at 0 ∷ l) (drop-cons s (at + 1) 0 h ∙ ap (λ (x : ℕ). get_or s (at + 1) 0 ∷ drop x s) e)
+-- the head of an entry, and what stands behind it
+pub two_first : (s : List ℕ) → 2 ≤ length s → s ≡ get_or s 0 0 ∷ get_or s 1 0 ∷ take (length s - 2) (drop 2 s)
+two_first [] h = absurd (omega arith)
+two_first (a ∷ []) h = absurd (omega arith)
+two_first (a ∷ b ∷ s) h = let e : length (a ∷ b ∷ s) - 2 ≡ length s = omega arith in ap (λ (t : List ℕ). a ∷ b ∷ t) (sym (ap (λ (k : ℕ). take k s) e ∙ take-length s))
 
 -- ---- a setup that is refused
 
@@ -138,83 +144,48 @@ row_lengths names row count k h l e = by (ℕ_discrete k count)
     by (yes q) = rw (q, get_or-set_same names count row [] h) l
     by (no n) = rw (get_or-set_other names count k row [] n) e
 
--- a byte of a name laid in its row
-pub record Rowing (names₀ : List (List ℕ)) (k : ℕ) (s : List ℕ) (names : List (List ℕ)) (i : ℕ) : Type 0 where
-  pub row : List ℕ
-  pub upto : i ≤ length s
-  pub at : names ≡ set names₀ k row
-  pub full : length row ≡ 32
-  pub text : row_text i row ≡ take i s
-
-rowing_starts : (names : List (List ℕ)) (k : ℕ) (s : List ℕ) → length (get_or names k []) ≡ 32 → Rowing names k s names 0
-rowing_starts names k s l = record {
-  row = get_or names k [];
-  upto = omega arith;
-  at = sym (set-get_or names k []);
-  full = l;
-  text = row_start (get_or names k []) s;
-}
-
-module _ {names₀ : List (List ℕ)} {k : ℕ} {s : List ℕ} {names : List (List ℕ)} {i : ℕ} (R : Rowing names₀ k s names i) where
-  rowing_turn : (x : ℕ) (d : List ℕ) → k < length names₀ → length s ≤ 32 → i < length s → x ≡ get_or s i 0
-      → Rowing names₀ k s (set names k (set (get_or names k d) i x)) (i + 1)
-  rowing_turn x d h m l e =
-      let r : get_or names k d ≡ R.row = ap (λ (z : List (List ℕ)). get_or z k d) R.at ∙ get_or-set_same names₀ k R.row d h in
-      record {
-        row = set R.row i x;
-        upto = omega arith;
-        at =
-            ap (λ (z : List ℕ). set names k (set z i x)) r ∙ ap (λ (z : List (List ℕ)). set z k (set R.row i x)) R.at
-            ∙ set-set names₀ k R.row (set R.row i x);
-        full = rw length-set R.full;
-        text = row_turn R.row s i x (omega (arith, R.full)) l e R.text;
-      }
-
--- the same while every byte so far is ASCII
-pub record Testing (names₀ : List (List ℕ)) (k : ℕ) (s : List ℕ) (names : List (List ℕ)) (i : ℕ) : Type 0 where
-  pub rowing : Rowing names₀ k s names i
-  pub rest : is_text s ≡ is_text (drop i s)
-
-pub testing_starts : (names : List (List ℕ)) (k : ℕ) (s : List ℕ) → length (get_or names k []) ≡ 32 → Testing names k s names 0
-testing_starts names k s l = record { rowing = rowing_starts names k s l; rest = refl }
-
 text_nil : (s : List ℕ) (i : ℕ) → length s ≤ i → is_text (drop i s) ≡ true
 unfolding is_text
 text_nil s i h = rw (drop_of_length-le s h)
 
-module _ {names₀ : List (List ℕ)} {k : ℕ} {s : List ℕ} {names : List (List ℕ)} {i : ℕ} (T : Testing names₀ k s names i) where
-  pub testing_turn : (x : ℕ) (d : List ℕ) → k < length names₀ → length s ≤ 32 → i < length s → x ≡ get_or s i 0 → x ≤ 127
-      → Testing names₀ k s (set names k (set (get_or names k d) i x)) (i + 1)
-  testing_turn x d h m l e a = record {
-    rowing = rowing_turn T.rowing x d h m l e;
+-- the first bytes of a name laid in a row, each ASCII
+pub record Testing (s row : List ℕ) (i : ℕ) : Type 0 where
+  pub full : length row ≡ 32
+  pub text : row_text i row ≡ take i s
+  pub rest : is_text s ≡ is_text (drop i s)
+
+pub testing_starts : (s row : List ℕ) → length row ≡ 32 → Testing s row 0
+testing_starts s row l = record { full = l; text = row_start row s; rest = refl }
+
+module _ {s row : List ℕ} {i : ℕ} (T : Testing s row i) where
+  pub testing_turn : (x : ℕ) → length s ≤ 32 → i < length s → x ≡ get_or s i 0 → x ≤ 127 → Testing s (set row i x) (i + 1)
+  testing_turn x m l e a = record {
+    full = rw length-set T.full;
+    text = row_turn row s i x (omega (arith, T.full)) l e T.text;
     rest = T.rest ∙ text_step s i l ∙ rw (← e, le-leb x 0x7f a, add-one);
   }
 
-  pub testing_stops : i < length s → 127 < get_or s i 0 → RowPut names₀ k s false names
+  pub testing_stops : i < length s → 127 < get_or s i 0 → RowPut s false row
   testing_stops l a = record {
-    row = T.rowing.row;
-    at = T.rowing.at;
-    full = T.rowing.full;
+    full = T.full;
     told = sym (T.rest ∙ text_step s i l ∙ and_no_l (is_text (drop (suc i) s)) (lt-leb (get_or s i 0) 0x7f a));
     held = λ e. clash e refl;
   }
 
-  pub testing_ends : length s ≤ i → RowPut names₀ k s true names
-  testing_ends l = record {
-    row = T.rowing.row;
-    at = T.rowing.at;
-    full = T.rowing.full;
+  pub testing_ends : i ≤ length s → length s ≤ i → RowPut s true row
+  testing_ends h l = record {
+    full = T.full;
     told = sym (T.rest ∙ text_nil s i l);
-    held = λ e. row_end T.rowing.row s i T.rowing.upto l T.rowing.text;
+    held = λ e. row_end row s i h l T.text;
   }
 
 -- ---- the loop
 
-pub record Entering (fields : List ℕ) (names : List (List ℕ)) (lengths analyzers : List ℕ) (at count : ℕ) : Type 0 where
-  pub within : at ≤ length fields
-  pub twice : 2 * count ≤ at
+-- `rest` is what is not read yet, and the entries before it stand in the arrays
+pub record Entering (fields rest : List ℕ) (names : List (List ℕ)) (lengths analyzers : List ℕ) (count : ℕ) : Type 0 where
+  pub twice : 2 * count + length rest ≤ length fields
   pub few : count ≤ 8
-  pub reads : entries_in (length fields) fields ≡ on_read (λ rest. entries_to names lengths analyzers count ++ rest) (entries_in (length fields - count) (drop at fields))
+  pub reads : entries_in (length fields) fields ≡ on_read (λ more. entries_to names lengths analyzers count ++ more) (entries_in (length fields - count) rest)
   pub good : all is_field_entry (entries_to names lengths analyzers count) ≡ true
   pub counted : length (entries_to names lengths analyzers count) ≡ count
   pub eight : (length names ≡ 8) × (length lengths ≡ 8) × (length analyzers ≡ 8)
@@ -225,10 +196,9 @@ on_same (got es) = refl
 on_same (refused x) = refl
 
 pub entering_starts : (fields : List ℕ) (names : List (List ℕ)) (lengths analyzers : List ℕ) → (length names ≡ 8) × (length lengths ≡ 8) × (length analyzers ≡ 8) × ((k : ℕ) → k < 8 → length (get_or names k []) ≡ 32)
-    → Entering fields names lengths analyzers 0 0
+    → Entering fields fields names lengths analyzers 0
 unfolding entries_to all
 entering_starts fields names lengths analyzers h = record {
-  within = omega arith;
   twice = omega arith;
   few = omega arith;
   reads = ap (λ (k : ℕ). entries_in k fields) (omega arith) ∙ on_same _;
@@ -238,112 +208,94 @@ entering_starts fields names lengths analyzers h = record {
   rows = h.3;
 }
 
-module _ {fields : List ℕ} {names : List (List ℕ)} {lengths analyzers : List ℕ} {at count : ℕ} (E : Entering fields names lengths analyzers at count) where
-  es : List FieldEntry
-  es = entries_to names lengths analyzers count
-
+module _ {fields rest : List ℕ} {names : List (List ℕ)} {lengths analyzers : List ℕ} {count : ℕ} (E : Entering fields rest names lengths analyzers count) where
   to_array : array_entries names lengths analyzers count ≡ entries_to names lengths analyzers count
   unfolding array_entries
   to_array = let e : min count 8 ≡ count = omega (arith, E.few) in ap (entries_to names lengths analyzers) e
 
-  pub entering_ends : length fields ≤ at → Entered fields names lengths analyzers count
-  entering_ends h = record {
-    held = λ few.
-        rw to_array (
-          E.reads ∙ rw (entries_none (length fields - count) (drop at fields) (drop_of_length-le fields h)) (ap got (append-nil (entries_to names lengths analyzers count))),
-          E.good,
-          E.counted,
-        );
-    broken = λ many. absurd (omega (arith, E.few));
-  }
+  pub entering_ends : length rest ≡ 0 → Entered fields names lengths analyzers (Some count)
+  entering_ends h =
+      rw to_array (
+        E.reads ∙ rw (entries_none (length fields - count) rest (none_left rest h)) (ap got (append-nil (entries_to names lengths analyzers count))),
+        E.good,
+        E.counted,
+        E.few,
+      )
 
-  -- nine stands for entries that break a rule
-  nine : ((o a : ℕ) (f : List ℕ) → read_setup o a f fields ≡ refused bad_setup) → Entered fields names lengths analyzers 9
-  nine b = record { held = λ few. absurd (omega arith); broken = λ many. b }
+  rest_refused : entries_in (length fields - count) rest ≡ refused bad_setup → Broken fields
+  rest_refused e o a f = entries_bad o a f fields (E.reads ∙ rw e)
 
-  rest_refused : entries_in (length fields - count) (drop at fields) ≡ refused bad_setup → Entered fields names lengths analyzers 9
-  rest_refused e = nine (λ o a f. entries_bad o a f fields (E.reads ∙ rw e))
+  pub entering_cut : 0 < length rest → length rest < 2 → Broken fields
+  entering_cut h l = rest_refused (entries_cut (length fields - count) rest (omega (arith, E.twice)) h l)
 
-  module _ (h : at < length fields) where
+  module _ (a len : ℕ) (tail : List ℕ) (here : rest ≡ a ∷ len ∷ tail) where
+    long : length rest ≡ 2 + length tail
+    long = ap length here ∙ omega arith
+
     some_fuel : length fields - count ≡ suc (length fields - count - 1)
-    some_fuel = omega (arith, E.twice)
+    some_fuel = omega (arith, E.twice, long)
 
-    pub entering_cut : length fields - at < 2 → Entered fields names lengths analyzers 9
-    entering_cut l = rest_refused (entries_cut (length fields - count) (drop at fields) (omega (arith, E.twice)) (rw length-drop (omega arith)) (rw length-drop l))
+    pub entering_short : length tail < len → Broken fields
+    entering_short m = rest_refused (ap (λ (k : ℕ). entries_in k rest) some_fuel ∙ ap (entries_in _) here ∙ entries_short (length fields - count - 1) a len tail m)
 
-    module _ (l : 2 ≤ length fields - at) where
-      here : drop at fields ≡ get_or fields at 0 ∷ get_or fields (at + 1) 0 ∷ drop (at + 2) fields
-      here = two_more fields at (omega arith)
+    module _ (m : len ≤ length tail) where
+      one : entries_in (length fields - count) rest ≡ on_read (λ more. field_entry a (take len tail) ∷ more) (entries_in (length fields - (count + 1)) (drop len tail))
+      one =
+          let x : length fields - count - 1 ≡ length fields - (count + 1) = omega arith in
+          ap (λ (k : ℕ). entries_in k rest) some_fuel ∙ ap (entries_in _) here ∙ entries_one (length fields - count - 1) a len tail m
+          ∙ ap (λ (k : ℕ). on_read (λ more. field_entry a (take len tail) ∷ more) (entries_in k (drop len tail))) x
 
-      pub entering_short : length fields - (at + 2) < get_or fields (at + 1) 0 → Entered fields names lengths analyzers 9
-      entering_short m =
-          rest_refused (ap (λ (k : ℕ). entries_in k (drop at fields)) some_fuel ∙ ap (entries_in _) here
-          ∙ entries_short (length fields - count - 1) (get_or fields at 0) (get_or fields (at + 1) 0) (drop (at + 2) fields) (rw length-drop m))
+      whole : {r : Read (List FieldEntry)} → entries_in (length fields - (count + 1)) (drop len tail) ≡ r
+          → entries_in (length fields) fields ≡ on_read (λ more. entries_to names lengths analyzers count ++ more) (on_read (λ more. field_entry a (take len tail) ∷ more) r)
+      whole e =
+          E.reads ∙ ap (on_read (λ more. entries_to names lengths analyzers count ++ more)) one
+          ∙ ap (λ (r : Read (List FieldEntry)). on_read (λ more. entries_to names lengths analyzers count ++ more) (on_read (λ more. field_entry a (take len tail) ∷ more) r)) e
 
-      module _ (a len : ℕ) (ea : a ≡ get_or fields at 0) (el : len ≡ get_or fields (at + 1) 0) (m : len ≤ length fields - (at + 2)) where
-        name : List ℕ
-        name = take (at + 2 + len - (at + 2)) (drop (at + 2) fields)
+      by_rest : ((more : List FieldEntry) → (o b : ℕ) (f : List ℕ) → setup_with o b f (entries_to names lengths analyzers count ++ field_entry a (take len tail) ∷ more) ≡ refused bad_setup)
+          → Broken fields
+      unfolding read_setup
+      by_rest g o b f =
+          ⊎_elim
+          (λ (more, e). rw (whole e) (g more o b f))
+          (λ e. entries_bad o b f fields (whole e))
+          (entries_or (length fields - (count + 1)) (drop len tail))
 
-        one : entries_in (length fields - count) (drop at fields) ≡ on_read (λ rest. field_entry a name ∷ rest) (entries_in (length fields - (count + 1)) (drop (at + 2 + len) fields))
-        unfolding name
-        one =
-            let x : length fields - count - 1 ≡ length fields - (count + 1) = omega arith in
-            let y : len ≡ at + 2 + len - (at + 2) = omega arith in
-            ap (λ (k : ℕ). entries_in k (drop at fields)) some_fuel ∙ ap (entries_in _) here
-            ∙ rw (← ea, ← el) (entries_one (length fields - count - 1) a len (drop (at + 2) fields) (rw length-drop m))
-            ∙ ap (λ (k : ℕ). on_read (λ rest. field_entry a (take len (drop (at + 2) fields)) ∷ rest) (entries_in k (drop len (drop (at + 2) fields)))) x
-            ∙ ap (λ (s : List ℕ). on_read (λ rest. field_entry a (take len (drop (at + 2) fields)) ∷ rest) (entries_in (length fields - (count + 1)) s)) (drop-drop len (at + 2) fields)
-            ∙ ap (λ (k : ℕ). on_read (λ rest. field_entry a (take k (drop (at + 2) fields)) ∷ rest) (entries_in (length fields - (count + 1)) (drop (at + 2 + len) fields))) y
+      pub entering_many : count ≡ 8 → Broken fields
+      entering_many c = by_rest (λ more o b f. setup_many o b f _ (omega (arith, length-append (entries_to names lengths analyzers count) (field_entry a (take len tail) ∷ more), E.counted)))
 
-        whole : {r : Read (List FieldEntry)} → entries_in (length fields - (count + 1)) (drop (at + 2 + len) fields) ≡ r
-            → entries_in (length fields) fields ≡ on_read (λ rest. entries_to names lengths analyzers count ++ rest) (on_read (λ rest. field_entry a name ∷ rest) r)
-        whole e =
-            E.reads ∙ ap (on_read (λ rest. entries_to names lengths analyzers count ++ rest)) one
-            ∙ ap (λ (r : Read (List FieldEntry)). on_read (λ rest. entries_to names lengths analyzers count ++ rest) (on_read (λ rest. field_entry a name ∷ rest) r)) e
+      pub entering_broken : (name : List ℕ) → name ≡ take len tail → is_field_entry (field_entry a name) ≡ false → Broken fields
+      entering_broken name en w =
+          let w' : is_field_entry (field_entry a (take len tail)) ≡ false = rw (← en) w in
+          by_rest (λ more o b f. setup_broken o b f _ (all_append is_field_entry (entries_to names lengths analyzers count) (field_entry a (take len tail) ∷ more) E.good ∙ all_two is_field_entry (field_entry a (take len tail)) more w'))
 
-        by_rest : ((rest : List FieldEntry) → (o b : ℕ) (f : List ℕ) → setup_with o b f (entries_to names lengths analyzers count ++ field_entry a name ∷ rest) ≡ refused bad_setup)
-            → Entered fields names lengths analyzers 9
-        unfolding read_setup
-        by_rest g =
-            nine (λ o b f. ⊎_elim
-            (λ (rest, e). rw (whole e) (g rest o b f))
-            (λ e. entries_bad o b f fields (whole e))
-            (entries_or (length fields - (count + 1)) (drop (at + 2 + len) fields)))
+      on_on : (r : Read (List FieldEntry)) → on_read (λ more. entries_to names lengths analyzers count ++ more) (on_read (λ more. field_entry a (take len tail) ∷ more) r)
+          ≡ on_read (λ more. (entries_to names lengths analyzers count ++ (field_entry a (take len tail) ∷ [])) ++ more) r
+      on_on (got more) = ap got (sym (append_assoc (entries_to names lengths analyzers count) (field_entry a (take len tail) ∷ []) more))
+      on_on (refused x) = refl
 
-        pub entering_many : count ≡ 8 → Entered fields names lengths analyzers 9
-        entering_many c = by_rest (λ rest o b f. setup_many o b f _ (omega (arith, length-append (entries_to names lengths analyzers count) (field_entry a name ∷ rest), E.counted)))
+      on_rest : (count ≡ 8 → ⊥) → is_field_entry (field_entry a (take len tail)) ≡ true → len ≤ 32
+          → (row : List ℕ) → length row ≡ 32 → row_text (length (take len tail)) row ≡ take len tail
+          → Entering fields (drop len tail) (set names count row) (set lengths count len) (set analyzers count a) (count + 1)
+      on_rest c w short row full e =
+          let nl : length (take len tail) ≡ len = length-take-le len tail m in
+          let z = set_one names lengths analyzers count row len a (omega (arith, E.few, E.eight.0)) (omega (arith, E.few, E.eight.1)) (omega (arith, E.few, E.eight.2)) short (take len tail) (ap (λ (k : ℕ). row_text k row) (sym nl) ∙ e) in
+          record {
+            twice = omega (arith, E.twice, long, length-drop len tail);
+            few = omega (arith, E.few);
+            reads = E.reads ∙ ap (on_read (λ more. entries_to names lengths analyzers count ++ more)) one ∙ on_on (entries_in (length fields - (count + 1)) (drop len tail)) ∙ ap (λ (x : List FieldEntry). on_read (λ more. x ++ more) (entries_in (length fields - (count + 1)) (drop len tail))) (sym z);
+            good = ap (all is_field_entry) z ∙ all_last is_field_entry (entries_to names lengths analyzers count) (field_entry a (take len tail)) E.good w;
+            counted = ap length z ∙ length-append (entries_to names lengths analyzers count) (field_entry a (take len tail) ∷ []) ∙ omega (arith, E.counted);
+            eight = (rw length-set E.eight.0, rw length-set E.eight.1, rw length-set E.eight.2);
+            rows = λ k h. row_lengths names row count k (omega (arith, E.few, E.eight.0)) full (E.rows k h);
+          }
 
-        pub entering_broken : is_field_entry (field_entry a (take (at + 2 + len - (at + 2)) (drop (at + 2) fields))) ≡ false → Entered fields names lengths analyzers 9
-        unfolding name
-        entering_broken w = by_rest (λ rest o b f. setup_broken o b f _ (all_append is_field_entry (entries_to names lengths analyzers count) (field_entry a name ∷ rest) E.good ∙ all_two is_field_entry (field_entry a name) rest w))
-
-        on_on : (r : Read (List FieldEntry)) → on_read (λ rest. entries_to names lengths analyzers count ++ rest) (on_read (λ rest. field_entry a name ∷ rest) r)
-            ≡ on_read (λ rest. (entries_to names lengths analyzers count ++ (field_entry a name ∷ [])) ++ rest) r
-        on_on (got rest) = ap got (sym (append_assoc (entries_to names lengths analyzers count) (field_entry a name ∷ []) rest))
-        on_on (refused x) = refl
-
-        pub entering_on : (count ≡ 8 → ⊥) → is_field_entry (field_entry a (take (at + 2 + len - (at + 2)) (drop (at + 2) fields))) ≡ true → len ≤ 32
-            → (row : List ℕ) → length row ≡ 32 → row_text (length (take (at + 2 + len - (at + 2)) (drop (at + 2) fields))) row ≡ take (at + 2 + len - (at + 2)) (drop (at + 2) fields)
-            → Entering fields (set names count row) (set lengths count len) (set analyzers count a) (at + 2 + len) (count + 1)
-        unfolding name
-        entering_on c w short row full e =
-            let y : at + 2 + len - (at + 2) ≡ len = omega arith in
-            let nl : length (take (at + 2 + len - (at + 2)) (drop (at + 2) fields)) ≡ len = ap (λ (k : ℕ). length (take k (drop (at + 2) fields))) y ∙ length-take-le len (drop (at + 2) fields) (rw length-drop m) in
-            let z = set_one names lengths analyzers count row len a (omega (arith, E.few, E.eight.0)) (omega (arith, E.few, E.eight.1)) (omega (arith, E.few, E.eight.2)) short name (ap (λ (k : ℕ). row_text k row) (sym nl) ∙ e) in
-            record {
-              within = omega arith;
-              twice = omega (arith, E.twice);
-              few = omega (arith, E.few);
-              reads = E.reads ∙ ap (on_read (λ rest. entries_to names lengths analyzers count ++ rest)) one ∙ on_on (entries_in (length fields - (count + 1)) (drop (at + 2 + len) fields)) ∙ ap (λ (x : List FieldEntry). on_read (λ rest. x ++ rest) (entries_in (length fields - (count + 1)) (drop (at + 2 + len) fields))) (sym z);
-              good = ap (all is_field_entry) z ∙ all_last is_field_entry (entries_to names lengths analyzers count) (field_entry a name) E.good w;
-              counted = ap length z ∙ length-append (entries_to names lengths analyzers count) (field_entry a name ∷ []) ∙ omega (arith, E.counted);
-              eight = (rw length-set E.eight.0, rw length-set E.eight.1, rw length-set E.eight.2);
-              rows = λ k h. row_lengths names row count k (omega (arith, E.few, E.eight.0)) full (E.rows k h);
-            }
-
--- entries that break a rule break it whatever the rows hold
-pub nine_any : {fields : List ℕ} {names names' : List (List ℕ)} {lengths analyzers : List ℕ} → Entered fields names lengths analyzers 9 → Entered fields names' lengths analyzers 9
-nine_any E = record { held = λ few. absurd (omega arith); broken = E.broken }
+      pub entering_on : (name after : List ℕ) → name ≡ take len tail → after ≡ drop len tail → (count ≡ 8 → ⊥) → is_field_entry (field_entry a name) ≡ true → len ≤ 32
+          → (row : List ℕ) → length row ≡ 32 → row_text (length name) row ≡ name
+          → Entering fields after (set names count row) (set lengths count len) (set analyzers count a) (count + 1)
+      entering_on name after en ea c w' short row full e' =
+          let w : is_field_entry (field_entry a (take len tail)) ≡ true = rw (← en) w' in
+          let e : row_text (length (take len tail)) row ≡ take len tail = rw (← en) e' in
+          rw ea (on_rest c w short row full e)
 
 -- ---- an entry by its head and its name
 

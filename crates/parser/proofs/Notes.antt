@@ -1,5 +1,5 @@
 -- The analyzers noted at field names: the row stays as it was laid. Assumes nothing.
-use mathlib.Core.Path.{◌≡◌, refl, sym, ap, subst, ◌∙◌}
+use mathlib.Core.Path.{◌≡◌, sym, ap, subst, ◌∙◌}
 use mathlib.Core.Bool.{Bool, true, false, cond}
 use Prim.Native.Nat.{ℕ, ◌+◌, ◌-◌, ◌≤◌, ◌<◌}
 use mathlib.Core.List.{List, [], ◌∷◌}
@@ -50,12 +50,14 @@ among_analyzers a (field_entry b name ∷ es) f e k =
 
 -- ---- what is no field name
 
-module _ (ts : List Token) (i : ℕ) {r : ℕ} where
-  pub no_colon : r ≡ (token_of ts (i + 1)).kind → (r ≡ 3 → ⊥) → is_named ts i ≡ false
-  no_colon e n = and_no_r (is_at 1 ts i) (ne_eqb _ 3 (λ z. n (e ∙ z)))
+module _ (ts : List Token) (k : ℕ) {r : ℕ} where
+  pub no_colon : 0 < k → r ≡ (token_of ts k).kind → (r ≡ 3 → ⊥) → is_named ts (k - 1) ≡ false
+  no_colon h e n =
+      let x : k - 1 + 1 ≡ k = omega arith in
+      and_no_r (is_at 1 ts (k - 1)) (ap (λ (j : ℕ). is_at 3 ts j) x ∙ ne_eqb _ 3 (λ z. n (e ∙ z)))
 
-  pub no_name : r ≡ (token_of ts i).kind → (r ≡ 1 → ⊥) → is_named ts i ≡ false
-  no_name e n = and_no_l (is_at 3 ts (i + 1)) (ne_eqb _ 1 (λ z. n (e ∙ z)))
+  pub no_name : r ≡ (token_of ts (k - 1)).kind → (r ≡ 1 → ⊥) → is_named ts (k - 1) ≡ false
+  no_name e n = and_no_l (is_at 3 ts (k - 1 + 1)) (ne_eqb _ 1 (λ z. n (e ∙ z)))
 
 -- ---- the loop: what stands before the colons below k is noted
 
@@ -65,9 +67,6 @@ pub record Noting (n : ℕ) (es : List FieldEntry) (default : ℕ) (before : Lis
   pub tokens : tokens_of room n ≡ tokens_of before n
   pub long : length room ≡ length before
   pub notes : (j : ℕ) → j + 1 < k → is_named (tokens_of room n) j ≡ true → note_at room j ≡ analyzer_among default es (text_at (tokens_of room n) j)
-
-pub noting_starts : {n : ℕ} (es : List FieldEntry) (default : ℕ) {room : List ℕ} → Rowed room n → Noting n es default room 1 room
-noting_starts es default R = record { first = omega arith; rowed = R; tokens = refl; long = refl; notes = λ j h. absurd (omega arith) }
 
 module _ {n : ℕ} {es : List FieldEntry} {default : ℕ} {before : List ℕ} {k : ℕ} {room : List ℕ} (N : Noting n es default before k room) where
   pub noting_ends : n ≤ k → Noted n es default before room

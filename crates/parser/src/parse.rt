@@ -12,87 +12,88 @@ ghost use Rattle.clauses.specs.Written.{QueryToWrite};
 
 use crate::setup;
 use clauses::measure::measure_query;
-use clauses::scope::Scope;
+use clauses::scope::{Row, Scope};
 use clauses::write::write_query;
-use counted::{Counted, is_alone, query_len};
 use fields::analyzer_of;
-use lexer::Lexed;
-use names::{
-    BAD_SETUP, END_KIND, ENTRIES_MOST, FIELD_MOST, HEADER, LONG_ANSWER, LONG_TEXT, MATCH_NONE_TAG,
-    NOT_ASCII, PARSE_ROOM, SHORT_ROOM, TEXT_MOST, UNEXPECTED_TOKEN,
-};
+use names::refusal::{Fault, Refusal};
+use names::{END_KIND, ENTRIES_MOST, FIELD_MOST, HEADER, MATCH_NONE_TAG, PARSE_ROOM, TEXT_MOST};
 use parts::write::put_header;
 use row::{kind_at, place_at};
 use stretches::{clear, is_text};
 
-// What a call answers: a refusal by its number and the place of the fault, 0 where it is none of the text's; or how many bytes it wrote.
-#[derive(Drop)]
-pub enum Parsed {
-    Refused(u8, usize),
-    Bytes(usize),
-}
+// What is refused at no place of the text: values of `Fault`, no numbers.
+const BAD_SETUP: Fault = Fault {
+    refusal: Refusal::BadSetup,
+    place: 0,
+};
+
+const LONG_TEXT: Fault = Fault {
+    refusal: Refusal::LongText,
+    place: 0,
+};
+
+const NOT_ASCII: Fault = Fault {
+    refusal: Refusal::NotAscii,
+    place: 0,
+};
+
+const LONG_ANSWER: Fault = Fault {
+    refusal: Refusal::LongAnswer,
+    place: 0,
+};
+
+const SHORT_ROOM: Fault = Fault {
+    refusal: Refusal::ShortRoom,
+    place: 0,
+};
 
 // The query of kept clauses, which has `len` bytes, goes to the output, if it fits; where none is kept, `len` is 0.
-fn write_whole<'a>(
-    room: &'a [u8],
-    field: &'a [u8],
-    p: Scope,
-    alone: bool,
-    len: usize,
-    out: &mut [u8],
-) -> Parsed
-    requires { (Rowed room.now p.n) × (Fielded room.now p.n field.now p.from) × (len ≤ 65000) × ((st : Setup) × (cs : Clauses) × (j : ℕ) × QueryToWrite room.now p.n field.now p.operator p.from p.analyzer p.depth 0 alone len st cs j) × (p.depth ≤ 24) }
-    ensures { (st : Setup) (cs : Clauses) (j : ℕ) → QueryToWrite room.now p.n field.now p.operator p.from p.analyzer p.depth 0 alone len st cs j → Delivers (got (or_match_none (query_of cs))) out.old result out.new }
+fn write_whole(row: &Row, p: Scope, alone: bool, len: usize, out: &mut [u8]) -> Result<usize, Fault>
+    requires { (Fielded row.now.room.now row.now.n row.now.default.now p.from) × (len ≤ 65000) × ((st : Setup) × (cs : Clauses) × (j : ℕ) × QueryToWrite row.now.room.now row.now.n row.now.default.now p.operator p.from p.analyzer p.depth 0 alone len st cs j) × (p.depth ≤ 24) }
+    ensures { (st : Setup) (cs : Clauses) (j : ℕ) → QueryToWrite row.now.room.now row.now.n row.now.default.now p.operator p.from p.analyzer p.depth 0 alone len st cs j → Delivers (got (or_match_none (query_of cs))) out.old result out.new }
 {
     if len == 0 {
         if out.len() < HEADER {
-            return Parsed::Refused(LONG_ANSWER, 0);
+            return Err(LONG_ANSWER);
         }
         put_header(out, 0, MATCH_NONE_TAG, 0);
-        return Parsed::Bytes(HEADER);
+        return Ok(HEADER);
     }
     if out.len() < len {
-        return Parsed::Refused(LONG_ANSWER, 0);
+        return Err(LONG_ANSWER);
     }
-    write_query(room, field, p, 0, alone, &mut out[0..len]);
-    Parsed::Bytes(len)
+    write_query(row, p, 0, alone, &mut out[0..len]);
+    Ok(len)
 }
 
 // The tokens in the room, to their end, in the default field. The text ends at `end`: what is refused there has that place, and any other token
 // its start, which is looked up only then.
-fn parse_tokens<'a>(
+fn parse_tokens(
     operator: u8,
     analyzer: u8,
-    field: &'a [u8],
-    n: usize,
+    row: &Row,
     end: usize,
-    room: &'a [u8],
     out: &mut [u8],
-) -> Parsed
-    requires { (Rowed room.now n) × (end ≤ text_most) × (length field.now ≤ field_most) × ((st : Setup) × Tuned st operator room.now n field.now 0 analyzer × (st.field ≡ field.now)) }
-    ensures { (st : Setup) → Tuned st operator room.now n field.now 0 analyzer → st.field ≡ field.now → Delivers (placed (start_of end (tokens_of room.now n)) (parse_tokens st (tokens_of room.now n))) out.old result out.new }
+) -> Result<usize, Fault>
+    requires { (end ≤ text_most) × (length row.now.default.now ≤ field_most) × ((st : Setup) × Tuned st operator row.now.room.now row.now.n row.now.default.now 0 analyzer × (st.field ≡ row.now.default.now)) }
+    ensures { (st : Setup) → Tuned st operator row.now.room.now row.now.n row.now.default.now 0 analyzer → st.field ≡ row.now.default.now → Delivers (placed (start_of end (tokens_of row.now.room.now row.now.n)) (parse_tokens st (tokens_of row.now.room.now row.now.n))) out.old result out.new }
 {
     let p = Scope {
-        n: n,
         from: 0,
         depth: 0,
-        operator: operator,
-        analyzer: analyzer,
+        operator,
+        analyzer,
     };
-    match measure_query(room, field, p, 0) {
-        Counted::Fault(e, token) => Parsed::Refused(e, place_at(room, n, token, end)),
-        Counted::Clauses {
-            count,
-            tag,
-            bytes,
-            next,
-        } => {
-            if kind_at(room, n, next) == END_KIND {
-                let len = query_len(count, tag, bytes);
-                return write_whole(room, field, p, is_alone(count, tag), len, out);
-            }
-            Parsed::Refused(UNEXPECTED_TOKEN, place_at(room, n, next, end))
-        }
+    match measure_query(row, p, 0) {
+        Err(e) => Err(Fault {
+            place: place_at(row.room, row.n, e.place, end),
+            ..e
+        }),
+        Ok(g) if kind_at(row.room, row.n, g.next) != END_KIND => Err(Fault {
+            refusal: Refusal::UnexpectedToken,
+            place: place_at(row.room, row.n, g.next, end),
+        }),
+        Ok(g) => write_whole(row, p, g.sum.is_alone(), g.sum.query_len(), out),
     }
 }
 
@@ -105,37 +106,38 @@ fn parse_text(
     text: &[u8],
     out: &mut [u8],
     room: &mut [u8],
-) -> Parsed
+) -> Result<usize, Fault>
     requires { room_least ≤ length room.old }
     ensures { Delivers (and_then (read_setup operator analyzer field.now fields.now) (λ st. parse st text.now)) out.old result out.new }
 {
     let mut names = [[0u8; FIELD_MOST]; ENTRIES_MOST];
     let mut lengths = [0u8; ENTRIES_MOST];
     let mut analyzers = [0u8; ENTRIES_MOST];
-    let count = setup::read_entries(fields, &mut names, &mut lengths, &mut analyzers);
-    if ENTRIES_MOST < count {
-        return Parsed::Refused(BAD_SETUP, 0);
-    }
+    let Some(count) = setup::read_entries(fields, &mut names, &mut lengths, &mut analyzers) else {
+        return Err(BAD_SETUP);
+    };
     if !setup::is_plain(operator, analyzer, field) {
-        return Parsed::Refused(BAD_SETUP, 0);
+        return Err(BAD_SETUP);
     }
     if TEXT_MOST < text.len() {
-        return Parsed::Refused(LONG_TEXT, 0);
+        return Err(LONG_TEXT);
     }
     if !is_text(text) {
-        return Parsed::Refused(NOT_ASCII, 0);
+        return Err(NOT_ASCII);
     }
-    match lexer::lex(text, room) {
-        Lexed::Refused(e, place) => Parsed::Refused(e, place),
-        Lexed::Tokens(n) => {
-            setup::note_fields(room, n, &names, &lengths, &analyzers, count, analyzer);
-            let a = analyzer_of(&names, &lengths, &analyzers, count, analyzer, field);
-            parse_tokens(operator, a, field, n, text.len(), room, out)
-        }
-    }
+    let n = lexer::lex(text, room)?;
+    setup::note_fields(room, n, &names, &lengths, &analyzers, count, analyzer);
+    let a = analyzer_of(&names, &lengths, &analyzers, count, analyzer, field);
+    let row = Row {
+        room,
+        n,
+        default: field,
+    };
+    parse_tokens(operator, a, &row, text.len(), out)
 }
 
 // Parses a text under a setup: operator (0 Or, 1 And), default analyzer (1 to 3), default field, and the entries of further fields.
+// It answers how many bytes it wrote, or a refusal and where in the text that is, 0 where it is none of the text's.
 // The answer, the output and the room afterwards are those of the definition, whatever is lent.
 pub fn parse(
     operator: u8,
@@ -145,12 +147,12 @@ pub fn parse(
     text: &[u8],
     out: &mut [u8],
     room: &mut [u8],
-) -> Parsed
+) -> Result<usize, Fault>
     ensures { Parses operator analyzer field.now fields.now text.now out.old room.old out.new room.new result }
 {
     if room.len() < PARSE_ROOM {
         clear(room);
-        return Parsed::Refused(SHORT_ROOM, 0);
+        return Err(SHORT_ROOM);
     }
     let p = parse_text(operator, analyzer, field, fields, text, out, room);
     clear(room);

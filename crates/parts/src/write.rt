@@ -5,19 +5,18 @@ ghost use Rattle.rules.specs.Numbers.{minimum_tag};
 ghost use Rattle.rules.specs.Bytes.{big, part};
 ghost use Rattle.numbers.specs.Laid.{Put, header};
 
-use names::{HEADER, MINIMUM_BYTES, MINIMUM_TAG};
+use names::{MINIMUM_BYTES, MINIMUM_TAG};
 use numbers::put_big2;
 use stretches::copy;
 
+// Stays: out and at go together through every writer, but docs/PROOFS.md names each by its contract, and `Put` speaks of both.
 // The header of a part whose body has n bytes: the body is laid behind it, or stands there already.
 pub fn put_header(out: &mut [u8], at: usize, tag: u8, n: usize) -> usize
     requires { (at + 3 ≤ length out.old) × (n < 65536) }
     ensures { Put out.old at (header tag n) result out.new }
 {
     out[at] = tag;
-    out[at + 1] = (n / 256) as u8;
-    out[at + 2] = (n % 256) as u8;
-    at + HEADER
+    put_big2(out, at + 1, n)
 }
 
 pub fn put_part(out: &mut [u8], at: usize, tag: u8, s: &[u8]) -> usize

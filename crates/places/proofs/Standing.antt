@@ -1,14 +1,13 @@
 -- Stretches of one room: what stands where, before and after bytes are laid.
 use mathlib.Core.Path.{◌≡◌, refl, sym, ap, ◌∙◌}
-use Prim.Native.Nat.{ℕ, zero, suc, ◌+◌, ◌-◌, ◌≤◌, ◌<◌}
+use Prim.Native.Nat.{ℕ, zero, suc, ◌+◌, ◌-◌, ◌≤◌}
 use mathlib.Core.List.{List, [], ◌∷◌, ◌++◌, append_assoc}
 use native.Mathlib.Omega.{arith}
 use native.Mathlib.Nat.{add-sub_cancel_left}
-use native.Mathlib.Numerals.{add-one}
-use lib.ListN.{length, get_or, take, drop, set, length-append, length-take, length-drop, take-append-drop}
-use lib.Seq.{take_at, drop_at, take-add, take-take, drop-cons, drop-drop, drop-length, take-append-add, take-append-le, length-take-le, get_or-take, get_or-drop, paste, drop-paste}
+use lib.ListN.{length, take, drop, length-append, length-take, length-drop, take-append-drop}
+use lib.Seq.{take_at, drop_at, take-add, take-take, drop-drop, take-append-add, take-append-le, length-take-le, paste}
 use Rattle.numbers.specs.Laid.{laid, Put}
-use Rattle.numbers.proofs.Laying.{before_laid, from_laid, drop_laid, length_laid, there_laid, lent, laid_none, laid_sets, copy_turn, copy_end}
+use Rattle.numbers.proofs.Laying.{before_laid, from_laid, drop_laid, length_laid, there_laid, lent}
 use Rattle.places.specs.Within.{within, Stands}
 
 -- ---- rooms that agree on their first bytes
@@ -47,14 +46,11 @@ laid_before room at s t fits =
     ∙ ap {B = List ℕ} (λ l. l ++ r) (append_assoc (take at room) s t)
     ∙ ap {B = List ℕ} (λ i. take at room ++ (s ++ t) ++ drop i room) e
 
--- ---- the loops that move bytes
+-- ---- bytes that were moved
 
 module _ (room : List ℕ) (to from n : ℕ) (here : from + n ≤ length room) (fits : to + n ≤ length room) where
   pub moved_length : length (take n (drop from room)) ≡ n
   moved_length = length-take-le n (drop from room) (simp length-drop (omega arith))
-
-  moved_at : (k : ℕ) → k < n → get_or (take n (drop from room)) k 0 ≡ get_or room (from + k) 0
-  moved_at k h = get_or-take n (drop from room) k 0 h ∙ get_or-drop from room k 0
 
   -- what stands there already
   pub unmoved : to ≡ from → Put room to (take n (drop from room)) (to + n) room
@@ -71,64 +67,13 @@ module _ (room : List ℕ) (to from n : ℕ) (here : from + n ≤ length room) (
             ∙ ap {B = List ℕ} (λ i. take to room ++ take n (drop i room) ++ drop (to + length s) room) e;
       }
 
-  -- the first byte first: one that is still to be read has not been written over
-  down_read : (l : List ℕ) (k : ℕ) → k < n → l ≡ paste room to (take n (drop from room)) k → to ≤ from → get_or l (from + k) 0 ≡ get_or room (from + k) 0
-  down_read l k h e b =
-      let i : from + k ≡ to + k + (from - to) = omega arith in
-      let d : drop (to + k) l ≡ drop (to + k) room =
-      ap (drop (to + k)) e ∙ drop-paste room to (take n (drop from room)) k (omega arith) (omega (arith, moved_length)) in
-      ap (λ (x : ℕ). get_or l x 0) i ∙ sym (get_or-drop (to + k) l (from - to) 0) ∙ ap (λ (m : List ℕ). get_or m (from - to) 0) d
-      ∙ get_or-drop (to + k) room (from - to) 0 ∙ ap (λ (x : ℕ). get_or room x 0) (sym i)
-
-  pub down_turn : (l : List ℕ) (k : ℕ) → k < n → l ≡ paste room to (take n (drop from room)) k → to ≤ from
-      → set l (to + k) (get_or l (from + k) 0) ≡ paste room to (take n (drop from room)) (k + 1)
-  down_turn l k h e a =
-      ap (λ (x : ℕ). set l (to + k) x) (down_read l k h e a ∙ sym (moved_at k h))
-      ∙ copy_turn room l (take n (drop from room)) to k (omega (arith, moved_length)) (omega (arith, moved_length)) e
-
-  pub down_end : (l : List ℕ) (k : ℕ) → k ≤ n → n ≤ k → l ≡ paste room to (take n (drop from room)) k → Put room to (take n (drop from room)) (to + n) l
-  down_end l k h i e = record {
-    place = omega (arith, moved_length);
-    bytes = copy_end room l (take n (drop from room)) to k (omega (arith, moved_length)) (omega (arith, moved_length)) e;
-  }
-
-  -- the last byte first
-  left_length : (k : ℕ) → length (drop k (take n (drop from room))) ≡ n - k
-  left_length k = length-drop k (take n (drop from room)) ∙ ap (λ (i : ℕ). i - k) moved_length
-
-  pub up_start : room ≡ laid room (to + n) (drop n (take n (drop from room)))
-  up_start =
-      let s = take n (drop from room) in
-      sym (ap (laid room (to + n)) (ap (λ (i : ℕ). drop i s) (sym moved_length) ∙ drop-length s) ∙ laid_none room (to + n))
-
-  pub up_turn : (l : List ℕ) (j k : ℕ) → j ≡ k + 1 → j ≤ n → l ≡ laid room (to + j) (drop j (take n (drop from room))) → from ≤ to
-      → set l (to + k) (get_or l (from + k) 0) ≡ laid room (to + k) (drop k (take n (drop from room)))
-  up_turn l j k ej h e b =
-      let s = take n (drop from room) in
-      let x = get_or s k 0 in
-      let nl = left_length j in
-      let f : to + j + length (drop j s) ≤ length room = omega arith in
-      let low : take (to + j) l ≡ take (to + j) room = ap (take (to + j)) e ∙ before_laid room (to + j) (drop j s) f in
-      let read : get_or l (from + k) 0 ≡ x =
-      sym (get_or-take (to + j) l (from + k) 0 (omega arith)) ∙ ap (λ (m : List ℕ). get_or m (from + k) 0) low
-      ∙ get_or-take (to + j) room (from + k) 0 (omega arith) ∙ sym (moved_at k (omega arith)) in
-      let z : to + j ≡ to + k + length (x ∷ []) = omega arith in
-      let long : length l ≡ length room = ap length e ∙ length_laid room (to + j) (drop j s) f in
-      let more : x ∷ drop j s ≡ drop k s = sym (drop-cons s k 0 (omega (arith, moved_length)) ∙ ap (λ (i : ℕ). x ∷ drop i s) (sym (ej ∙ add-one k))) in
-      ap (λ (y : ℕ). set l (to + k) y) read
-      ∙ laid_sets (x ∷ []) l (to + k) (omega arith)
-      ∙ ap (λ (m : List ℕ). laid m (to + k) (x ∷ [])) (e ∙ ap (λ (i : ℕ). laid room i (drop j s)) z)
-      ∙ laid_before room (to + k) (x ∷ []) (drop j s) (omega arith)
-      ∙ ap (laid room (to + k)) more
-
-  pub up_end : (l : List ℕ) (k : ℕ) → k ≤ 0 → l ≡ laid room (to + k) (drop k (take n (drop from room))) → Put room to (take n (drop from room)) (to + n) l
-  up_end l k h e =
-      let z : k ≡ 0 = omega arith in
-      let y : to + 0 ≡ to = omega arith in
-      record {
-        place = omega (arith, moved_length);
-        bytes = e ∙ ap (λ (i : ℕ). laid room (to + i) (drop i (take n (drop from room)))) z ∙ ap (λ (i : ℕ). laid room i (take n (drop from room))) y;
-      }
+  -- what was copied
+  pub copied : {room' : List ℕ} → room' ≡ paste room to (drop from room) (from + n - from) → Put room to (take n (drop from room)) (to + n) room'
+  unfolding laid
+  copied e =
+      let m : from + n - from ≡ n = omega arith in
+      let z : to + n ≡ to + length (take n (drop from room)) = omega (arith, moved_length) in
+      record { place = z; bytes = e ∙ ap (paste room to (drop from room)) m ∙ ap (λ (i : ℕ). take to room ++ take n (drop from room) ++ drop i room) z }
 
 -- ---- stretches one behind the other
 

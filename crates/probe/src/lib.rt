@@ -17,10 +17,9 @@ const UPPER: u64 = 0x1_0000_0000;
 pub extern "C" fn probe_numeral(text: &[u8]) -> u64
     ensures { result ≡ packed (answer_of (numeral_bits text.now)) }
 {
-    let a = boost::numeral::numeral(text);
-    match a {
-        boost::numeral::Answer::Refused(n) => (n as u64) * UPPER,
-        boost::numeral::Answer::Bits(b) => b as u64,
+    match boost::numeral::numeral(text) {
+        Err(refusal) => (refusal as u64) * UPPER,
+        Ok(bits) => bits as u64,
     }
 }
 

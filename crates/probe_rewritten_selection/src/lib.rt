@@ -7,6 +7,7 @@ ghost use Rattle.rewritten_selection.specs.Choice.{left, choice_left};
 use rewritten_selection::rewrite_and_select;
 
 // The refusal's number or 0, the records chosen, the rounds made.
+// Stays: the C interface has the refusal as a number.
 #[repr(C)]
 #[derive(Drop)]
 pub struct Answer {
@@ -26,10 +27,16 @@ pub extern "C" fn probe_rewrite_and_select(
 ) -> Answer
     ensures { left result.refusal result.count result.rounds rows.new held.new room.new ≡ choice_left strict query.now list.now rows.old held.old room.old }
 {
-    let c = rewrite_and_select(strict, query, list, rows, held, room);
-    Answer {
-        refusal: c.refusal as u64,
-        count: c.count as u64,
-        rounds: c.rounds as u64,
+    match rewrite_and_select(strict, query, list, rows, held, room) {
+        Err(e) => Answer {
+            refusal: u64::from(u8::from(e)),
+            count: 0,
+            rounds: 0,
+        },
+        Ok(c) => Answer {
+            refusal: 0,
+            count: c.count as u64,
+            rounds: c.rounds as u64,
+        },
     }
 }

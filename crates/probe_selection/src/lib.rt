@@ -5,7 +5,7 @@ ghost use Rattle.std.specs.Prelude.{◌≡◌};
 ghost use Rattle.rules.specs.Answers.{select_left};
 ghost use Rattle.probe_selection.specs.Probe.{packed, SelectsRows};
 
-use selection::select::{Selected, select, select_bytes};
+use selection::select::{select, select_bytes};
 
 // What one counts in the upper half.
 const UPPER: u64 = 0x1_0000_0000;
@@ -23,8 +23,8 @@ pub extern "C" fn probe_select_bytes(
     ensures room { room.new ≡ (select_left query.now list.now rows.old room.old).room }
 {
     match select_bytes(query, list, rows, room) {
-        Selected::Refused(n) => n as u64 * UPPER,
-        Selected::Chosen(n) => n as u64,
+        Err(r) => u64::from(u8::from(r)) * UPPER,
+        Ok(n) => n as u64,
     }
 }
 
@@ -33,7 +33,7 @@ pub extern "C" fn probe_select_rows(query: &[u8], list: &[u8], rows: &mut [u32])
     ensures { SelectsRows query.now list.now rows.old rows.new result }
 {
     match select(query, list, rows) {
-        Selected::Refused(n) => n as u64 * UPPER,
-        Selected::Chosen(n) => n as u64,
+        Err(r) => u64::from(u8::from(r)) * UPPER,
+        Ok(n) => n as u64,
     }
 }

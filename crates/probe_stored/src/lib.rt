@@ -10,25 +10,35 @@ use lists::check_list;
 use measures::{largest, weight};
 use stored::read::{for_rewriting, for_selection};
 
+// Stays: the C interface has a refusal as a number, here and in the two calls behind it.
 #[unsafe(no_mangle)]
 pub extern "C" fn probe_for_rewriting(s: &[u8]) -> u8
     ensures { result ≡ number_of (read_for_rewriting s.now) }
 {
-    for_rewriting(s)
+    match for_rewriting(s) {
+        Ok(()) => 0,
+        Err(r) => u8::from(r),
+    }
 }
 
 #[unsafe(no_mangle)]
 pub extern "C" fn probe_for_selection(s: &[u8]) -> u8
     ensures { result ≡ number_of (read_for_selection s.now) }
 {
-    for_selection(s)
+    match for_selection(s) {
+        Ok(()) => 0,
+        Err(r) => u8::from(r),
+    }
 }
 
 #[unsafe(no_mangle)]
 pub extern "C" fn probe_list(l: &[u8]) -> u8
     ensures { result ≡ number_of (read_list l.now) }
 {
-    check_list(l)
+    match check_list(l) {
+        Ok(()) => 0,
+        Err(r) => u8::from(r),
+    }
 }
 
 // 0 where selection does not read a query.
@@ -36,18 +46,18 @@ pub extern "C" fn probe_list(l: &[u8]) -> u8
 pub extern "C" fn probe_weight(s: &[u8]) -> usize
     ensures { result ≡ weight_read (read_for_selection s.now) }
 {
-    if for_selection(s) != 0 {
-        return 0;
+    match for_selection(s) {
+        Ok(()) => weight(s),
+        Err(_) => 0,
     }
-    weight(s)
 }
 
 #[unsafe(no_mangle)]
 pub extern "C" fn probe_largest(s: &[u8]) -> usize
     ensures { result ≡ largest_read (read_for_selection s.now) }
 {
-    if for_selection(s) != 0 {
-        return 0;
+    match for_selection(s) {
+        Ok(()) => largest(s),
+        Err(_) => 0,
     }
-    largest(s)
 }

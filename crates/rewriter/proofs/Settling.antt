@@ -1,35 +1,36 @@
 -- The rounds: each is counted, and the last one changes nothing. And the call's answer.
 use mathlib.Core.Path.{◌≡◌, refl, sym, ap, ◌∙◌}
 use mathlib.Core.Logic.{◌⊎◌, inl, inr}
-use Prim.Native.Nat.{ℕ, suc, ◌+◌, ◌-◌, ◌*◌, ◌≤◌, ◌<◌}
+use Prim.Native.Nat.{ℕ, suc, ◌+◌, ◌-◌, ◌≤◌, ◌<◌}
 use mathlib.Core.List.{List, ◌++◌}
-use mathlib.Core.Bool.{Bool, true, false, cond}
+use mathlib.Core.Bool.{Bool}
 use native.Mathlib.Omega.{arith}
-use native.Mathlib.Nat.{add-sub_cancel_left}
-use lib.ListN.{length, take, drop, replicate, length-drop}
-use lib.Dec.{leb}
+use lib.ListN.{length, take, drop, length-drop}
 use borrow.Author.Tests.{le-leb, lt-leb}
-use Rattle.rules.specs.Numbers.{Refusal, number, Read, got, refused, need, on_read, and_then, short_room, rewrite_room, rewriter_bytes, rewriter_depth}
-use Rattle.rules.specs.Bytes.{Bytes, same}
-use Rattle.rules.specs.Query.{Query, equal}
+use Rattle.rules.specs.Numbers.{Refusal, long_text, not_ascii, bad_setup, faulty, long_answer, long_query, malformed_query, deep_query, long_list, malformed_list, many_queries, short_room, Fault, open_quote, nothing_escaped, range_bracket, wildcard, fuzzy_term, sloppy_phrase, unexpected_end, unexpected_token, open_bracket, bad_numeral, no_numeral, long_field, many_brackets, long_numeral, fault_number, number, Read, got, refused, rewrite_room, rewriter_bytes, rewriter_depth}
+use Rattle.names.specs.Refusals.{coded_fault, coded, numbered, checked}
+use Rattle.names.specs.declared.refusal.Refusal.{Refusal as code}
+use Rattle.names.specs.declared.refusal.Refusal.TheVariants.{ShortRoom, LongAnswer}
+use Rattle.rules.specs.Bytes.{Bytes}
+use Rattle.rules.specs.Query.{Query}
 use Rattle.rules.specs.Stored.{encode, Valid}
 use Rattle.rules.specs.Checked.{Is, Stored}
-use Rattle.rules.specs.Reading.{number_of, read_for_rewriting}
+use Rattle.rules.specs.Reading.{read_for_rewriting}
 use Rattle.rules.specs.Rewriting.{weight, rewrite_once, Rewritten, rewritten, one_round_more, rewrite, bulk, result_of, count_of}
-use Rattle.rules.specs.Answers.{zeros, leave, fitting, call, rewritten_reply, rewrite_reply, rewrite_left}
-use Rattle.rules.proofs.Stored.Equal.{equal_eq, equal_bytes, same_eq, same_refl}
-use Rattle.rules.proofs.Stored.Refusals.{number_got, number_not}
+use Rattle.rules.specs.Answers.{zeros, call, rewritten_reply, rewrite_reply, rewrite_left}
 use Rattle.rules.proofs.Stored.Sound.{read_sound}
 use Rattle.rules.proofs.Stored.Parts.{cut_from}
 use Rattle.rules.proofs.Stored.Sizes.{length_encode}
 use Rattle.rules.proofs.Rewriting.Measures.{bulk_is, measured, weight_length}
-use Rattle.rules.proofs.Rewriting.Weights.{valid_once, one_weight, once_lighter, Made, last, more as more-made, made, rewrite_is}
+use Rattle.rules.proofs.Rewriting.Weights.{valid_once, one_weight, once_lighter, last, more as more-made, made, rewrite_is}
 use Rattle.numbers.specs.Laid.{laid, Put}
 use Rattle.numbers.proofs.Laying.{laid_front}
 use Rattle.places.specs.Within.{within, Stands}
 use Rattle.measures.specs.Measure.{Weighs}
 use Rattle.round.specs.Once.{Room}
-use Rattle.rewriter.specs.Rounds.{Settled, left}
+use Rattle.std.specs.Prelude.{Result, Ok, Err}
+use Rattle.rewriter.specs.Rounds.{Settled, Rewrites}
+use Rattle.rewriter.specs.declared.rounds.Rounds.{Rounds}
 use Rattle.places.proofs.Standing.{within_length, stands_put}
 use Rattle.merging.proofs.Forms.{is_same_lem}
 use Rattle.round.proofs.Finishing.{moved}
@@ -186,26 +187,65 @@ module _ {strict : Bool} {at : ℕ} {room₀ room : List ℕ} {t count left : �
 
 -- ---- the call
 
-pub zeroed : (room a b : List ℕ) → b ≡ replicate (length a) 0 → length a ≡ length room → b ≡ zeros room
-zeroed room a b e l = e ∙ ap (λ (n : ℕ). replicate n 0) l
+numbered_fault : (f : Fault) → numbered (coded_fault f) ≡ fault_number f
+numbered_fault open_quote = refl
+numbered_fault nothing_escaped = refl
+numbered_fault range_bracket = refl
+numbered_fault wildcard = refl
+numbered_fault fuzzy_term = refl
+numbered_fault sloppy_phrase = refl
+numbered_fault unexpected_end = refl
+numbered_fault unexpected_token = refl
+numbered_fault open_bracket = refl
+numbered_fault bad_numeral = refl
+numbered_fault no_numeral = refl
+numbered_fault long_field = refl
+numbered_fault many_brackets = refl
+numbered_fault long_numeral = refl
+
+pub numbered_coded : (r : Refusal) → numbered (coded r) ≡ number r
+numbered_coded long_text = refl
+numbered_coded not_ascii = refl
+numbered_coded bad_setup = refl
+numbered_coded (faulty f p) = numbered_fault f
+numbered_coded long_answer = refl
+numbered_coded long_query = refl
+numbered_coded malformed_query = refl
+numbered_coded deep_query = refl
+numbered_coded long_list = refl
+numbered_coded malformed_list = refl
+numbered_coded many_queries = refl
+numbered_coded short_room = refl
+
+is_read : {A : Type 0} (o : Read A) → Ok tt ≡ checked o → (a : A) × (o ≡ got a)
+is_read (got a) e = (a, refl)
+is_read (refused r) e = absurd (cc)
+
+ok_of : (a : Rounds) (n k : ℕ) → a.len ≡ n → a.rounds ≡ k → let T : Result Rounds code → Result Rounds code → Type 0 = λ x y. x ≡ y in T (Ok a) (Ok (record { len = n; rounds = k }))
+ok_of a n k e f = λ i. Ok (record { len = e i; rounds = f i })
 
 module _ (strict : Bool) (s out room : List ℕ) where
-  pub short_room_lem : length room < rewrite_room → left 32 0 0 out (zeros room) ≡ rewrite_left strict s out room
+  abbrev Gives : Result Rounds code → List ℕ → Type 0
+  Gives r out' = Rewrites strict s out room r out' (zeros room)
+
+  pub short_room_lem : length room < rewrite_room → Gives (Err ShortRoom) out
   unfolding rewrite_left call
-  short_room_lem h = rw (lt-leb rewrite_room (length room) h)
+  short_room_lem h = record { answer = rw (lt-leb rewrite_room (length room) h); is = rw (lt-leb rewrite_room (length room) h) }
 
   module _ (h : rewrite_room ≤ length room) where
-    pub refused_left : (r : ℕ) → r ≡ number_of (read_for_rewriting s) → (r ≡ 0 → ⊥) → left r 0 0 out (zeros room) ≡ rewrite_left strict s out room
+    pub refused_left : (e : code) → Err e ≡ checked (read_for_rewriting s) → Gives (Err e) out
     unfolding rewrite_left call rewrite_reply
-    refused_left r e n = let R = number_not (read_for_rewriting s) (λ z. n (e ∙ z)) in go (read_for_rewriting s) R.0 R.1 (e ∙ ap number_of R.1)
+    refused_left e E = go (read_for_rewriting s) refl E
       where
-        go : (o : Read Query) (x : Refusal) → o ≡ refused x → r ≡ number x
-            → left r 0 0 out (zeros room) ≡ leave (need (leb rewrite_room (length room)) short_room (and_then (on_read (λ q. rewritten_reply (rewrite strict q)) o) (fitting (length out)))) out room
-        go o x eo er = rw (eo, er, le-leb rewrite_room (length room) h)
+        go : (o : Read Query) → read_for_rewriting s ≡ o → Err e ≡ checked o → Gives (Err e) out
+        go (got q) eo E = absurd (cc)
+        go (refused x) eo E =
+            let k : e ≡ coded x = cc in
+            record { answer = rw (le-leb rewrite_room (length room) h, eo, k); is = rw (le-leb rewrite_room (length room) h, eo, k, numbered_coded x) }
 
-    module _ (B : Bytes s) (r : ℕ) (e : r ≡ number_of (read_for_rewriting s)) (z : r ≡ 0) where
+    module _ (B : Bytes s) (e : Ok tt ≡ checked (read_for_rewriting s)) where
       read : (q : Query) × (read_for_rewriting s ≡ got q)
-      read = number_got (read_for_rewriting s) (sym e ∙ z)
+      read = is_read (read_for_rewriting s) e
 
       pub query : Query
       query = read.0
@@ -239,39 +279,42 @@ module _ (strict : Bool) (s out room : List ℕ) where
             let f = sizes in
             record { query = query; is = is_there_lem; fits = omega (arith, bulk_is query, ap length is_query_lem.form, room_for); small = f.2 }
 
-        module _ {n k : ℕ} {room₂ : List ℕ}
-            (settled : (q : Query) → Is (drop (length room - length s) room₁) q → Settled (result_of (rewrite strict q)) (count_of (rewrite strict q)) n k room₂) where
-          result : Settled (result_of (rewrite strict query)) (count_of (rewrite strict query)) n k room₂
+        module _ (a : Rounds) {room₂ : List ℕ}
+            (settled : (q : Query) → Is (drop (length room - length s) room₁) q → Settled (result_of (rewrite strict q)) (count_of (rewrite strict q)) a.len a.rounds room₂) where
+          result : Settled (result_of (rewrite strict query)) (count_of (rewrite strict query)) a.len a.rounds room₂
           result = settled query is_there_lem
 
-          pub settled_low : (n ≤ length room₂) × (length (within 0 n room₂) ≡ n)
+          pub settled_low : (a.len ≤ length room₂) × (length (within 0 a.len room₂) ≡ a.len)
           settled_low =
-              let z : n - 0 ≡ n = omega arith in
-              (result.low, within_length room₂ 0 n (omega arith) result.low ∙ z)
+              let z : a.len - 0 ≡ a.len = omega arith in
+              (result.low, within_length room₂ 0 a.len (omega arith) result.low ∙ z)
 
           answer : rewrite_reply strict s ≡ got (rewritten_reply (rewrite strict query))
           unfolding rewrite_reply query
           answer = rw read.1
 
-          n_is : n ≡ length (encode (result_of (rewrite strict query)))
-          n_is = sym (sym (ap length result.here) ∙ within_length room₂ 0 n (omega arith) result.low ∙ minus)
-            where
-              minus : n - 0 ≡ n
-              minus = omega arith
+          long_is : length (encode (result_of (rewrite strict query))) ≡ a.len
+          long_is = sym (ap length result.here) ∙ settled_low.1
 
-          pub long_left : length out < n → left 18 0 0 out (zeros room) ≡ rewrite_left strict s out room
+          pub long_left : length out < a.len → Gives (Err LongAnswer) out
           unfolding rewrite_left call
-          long_left l = rw (le-leb rewrite_room (length room) h, answer) (go (rewrite strict query) (sym n_is))
+          long_left l = go (rewrite strict query) long_is answer
             where
-              go : (w : Rewritten) → length (encode (result_of w)) ≡ n → left 18 0 0 out (zeros room) ≡ leave (fitting (length out) (rewritten_reply w)) out room
-              go (rewritten q j) e = rw (lt-leb (length (encode q)) (length out) (omega arith))
+              go : (w : Rewritten) → length (encode (result_of w)) ≡ a.len → rewrite_reply strict s ≡ got (rewritten_reply w) → Gives (Err LongAnswer) out
+              go (rewritten q j) e r =
+                  let f = lt-leb (length (encode q)) (length out) (omega arith) in
+                  record { answer = rw (le-leb rewrite_room (length room) h, r, f); is = rw (le-leb rewrite_room (length room) h, r, f) }
 
-          pub got_left : n ≤ length out → (p : ℕ) (out' : List ℕ) → Put out 0 (within 0 n room₂) p out' → left 0 n k out' (zeros room) ≡ rewrite_left strict s out room
+          pub got_left : a.len ≤ length out → (p : ℕ) (out' : List ℕ) → Put out 0 (within 0 a.len room₂) p out' → Gives (Ok a) out'
           unfolding rewrite_left call
-          got_left l p out' P = rw (le-leb rewrite_room (length room) h, answer) (go (rewrite strict query) result.here result.rounds (sym n_is))
+          got_left l p out' P = go (rewrite strict query) result.here result.rounds long_is answer
             where
-              go : (w : Rewritten) → within 0 n room₂ ≡ encode (result_of w) → k ≡ count_of w → length (encode (result_of w)) ≡ n
-                  → left 0 n k out' (zeros room) ≡ leave (fitting (length out) (rewritten_reply w)) out room
-              go (rewritten q j) e c f =
+              go : (w : Rewritten) → within 0 a.len room₂ ≡ encode (result_of w) → a.rounds ≡ count_of w → length (encode (result_of w)) ≡ a.len
+                  → rewrite_reply strict s ≡ got (rewritten_reply w) → Gives (Ok a) out'
+              go (rewritten q j) e c n r =
                   let o : out' ≡ encode q ++ drop (length (encode q)) out = P.bytes ∙ ap (laid out 0) e ∙ laid_front out (encode q) in
-                  rw (le-leb (length (encode q)) (length out) (omega arith), o, c, f)
+                  let f = le-leb (length (encode q)) (length out) (omega arith) in
+                  record {
+                    answer = rw (le-leb rewrite_room (length room) h, r, f) (ok_of a (length (encode q)) j (sym n) c);
+                    is = rw (le-leb rewrite_room (length room) h, r, f, o, c, n);
+                  }

@@ -16,7 +16,7 @@ use Rattle.rules.specs.Stored.{encode}
 use Rattle.rules.specs.Reading.{read_for_rewriting}
 use Rattle.rules.specs.Rewriting.{weight, Rewritten, rewritten, rewrite, result_of, count_of}
 use Rattle.rules.specs.Lists.{Entry, read_list}
-use Rattle.rules.specs.Answers.{Reply, Left as CallLeft, zeros, leave as call_leaves, fitting as reply_fitting, call, rewritten_reply, rewrite_reply, rewrite_left, selected}
+use Rattle.rules.specs.Answers.{Reply, Left as CallLeft, zeros, leave as call_leaves, fitting as reply_fitting, met as rewriter_met, call, rewritten_reply, rewrite_reply, rewrite_left, selected}
 use Rattle.rules.specs.Matching.{IsChosen, RisingFrom}
 use Rattle.rules.proofs.Bools.{clash}
 use Rattle.rules.proofs.Stored.Refusals.{got_same, number_some}
@@ -25,17 +25,17 @@ use Rattle.rules.proofs.Choosing.Choices.{chosen_few, selection}
 use Rattle.rules.proofs.Choosing.Demands.{Demand, demand}
 use Rattle.rules.proofs.Rewriting.Rounds.{result_after}
 use Rattle.rules.proofs.Rewriting.Bounds.{length_after}
-use Rattle.rewriter.specs.Rounds.{left as rewriter_left}
-use Rattle.selection.specs.declared.select.Selected.{Selected}
-use Rattle.selection.specs.declared.select.Selected.TheVariants.{Refused, Chosen as Rows}
+use Rattle.rewriter.specs.Rounds.{left as rewriter_left, told as rewriter_told, Rewrites}
+use Rattle.rewriter.specs.declared.rounds.Rounds.{Rounds}
+use Rattle.std.specs.Prelude.{Result, Ok, Err}
+use Rattle.names.specs.Refusals.{coded}
+use Rattle.names.specs.declared.refusal.Refusal.{Refusal as code}
+use Rattle.names.specs.declared.refusal.Refusal.TheVariants.{ShortRoom}
 use Rattle.selection.specs.Select.{within, answer_of, rows_after, Selects}
+use Rattle.selection.proofs.Selections.{numbered_coded}
 use Rattle.selection.proofs.Exactness.{Exactly, selected_exactly}
-use Rattle.rewritten_selection.specs.Choice.{held_room, Chosen, chosen_by, fitting, chosen, Left, left, leave, choice_left, DemandedOf, Demanded}
-
--- the call's numbers by the second call's answer
-abbrev pub answered : Selected → ℕ → List ℕ → List ℕ → List ℕ → Left
-answered (Refused n) made rows held room = left n 0 0 rows held room
-answered (Rows n) made rows held room = left 0 n made rows held room
+use Rattle.rewritten_selection.specs.Choice.{held_room, Chosen, chosen_by, fitting, chosen, Left, left, leave, met, choice_left, refusal_of, count_of as counted_of, rounds_of, left_of, told, Chooses, DemandedOf, Demanded}
+use Rattle.rewritten_selection.specs.declared.Choice.{Choice}
 
 -- ---- what is held is never too short for a rewritten query
 
@@ -57,100 +57,129 @@ reply_fits strict s B n h = go (read_for_rewriting s) refl
 
 -- ---- the answer
 
+-- the whole answer by the second call's, and the rounds
+abbrev pub chosen_as : Result ℕ code → ℕ → Result Choice code
+chosen_as (Err e) made = Err e
+chosen_as (Ok n) made = Ok (record { count = n; rounds = made })
+
 -- o is what the second call read, r its answer and rows' its rows
-record Chooses (o : Read (List ℕ)) (rows rows' : List ℕ) (r : Selected) : Type 0 where
+record Selected (o : Read (List ℕ)) (rows rows' : List ℕ) (r : Result ℕ code) : Type 0 where
   answer : r ≡ answer_of (within (length rows) o)
   rows_left : rows' ≡ rows_after (within (length rows) o) rows
 
-chooses : (rows held room : List ℕ) {rows' room' : List ℕ} {r : Selected} {made k : ℕ} (o : Read (List ℕ)) → Chooses o rows rows' r → made ≡ k → room' ≡ zeros room
-    → answered r made rows' (zeros held) room' ≡ leave (and_then (on_read (λ ns. record { rows = ns; rounds = k }) o) (fitting (length rows))) rows held room
+abbrev Both : List ℕ → List ℕ → List ℕ → ℕ → Result ℕ code → List ℕ → Read Chosen → Type 0
+Both rows held room k r rows' c = (chosen_as r k ≡ told c) × (left_of (chosen_as r k) rows' (zeros held) (zeros room) ≡ leave c rows held room)
+
+chooses : (rows held room : List ℕ) {rows' room' : List ℕ} {r : Result ℕ code} {made k : ℕ} (o : Read (List ℕ)) → Selected o rows rows' r → made ≡ k → room' ≡ zeros room
+    → (chosen_as r made ≡ told (and_then (on_read (λ ns. record { rows = ns; rounds = k }) o) (fitting (length rows))))
+    × (left_of (chosen_as r made) rows' (zeros held) room' ≡ leave (and_then (on_read (λ ns. record { rows = ns; rounds = k }) o) (fitting (length rows))) rows held room)
 chooses rows held room {k = k} o C f g = rw (C.answer, C.rows_left, f, g) (go o)
   where
-    fit : (ns : List ℕ) (b : Bool) → answered (answer_of (need b long_answer (got ns))) k (rows_after (need b long_answer (got ns)) rows) (zeros held) (zeros room)
-        ≡ leave (need b long_answer (got (record { rows = ns; rounds = k }))) rows held room
-    fit ns true = refl
-    fit ns false = refl
+    fit : (ns : List ℕ) (b : Bool)
+        → Both rows held room k (answer_of (need b long_answer (got ns))) (rows_after (need b long_answer (got ns)) rows) (need b long_answer (got (record { rows = ns; rounds = k })))
+    fit ns true = (refl, refl)
+    fit ns false = (refl, refl)
 
-    go : (o : Read (List ℕ)) → answered (answer_of (within (length rows) o)) k (rows_after (within (length rows) o) rows) (zeros held) (zeros room)
-        ≡ leave (and_then (on_read (λ ns. record { rows = ns; rounds = k }) o) (fitting (length rows))) rows held room
-    go (refused r) = refl
+    go : (o : Read (List ℕ))
+        → Both rows held room k (answer_of (within (length rows) o)) (rows_after (within (length rows) o) rows) (and_then (on_read (λ ns. record { rows = ns; rounds = k }) o) (fitting (length rows)))
+    go (refused r) = (refl, ap (λ (n : ℕ). left n 0 0 rows (zeros held) (zeros room)) (numbered_coded r))
     go (got ns) = fit ns (leb (length ns) (length rows))
 
 module _ (strict : Bool) (s l rows held room : List ℕ) where
-  pub short_held : length held < held_room → left 32 0 0 rows (zeros held) (zeros room) ≡ choice_left strict s l rows held room
+  abbrev Gives : Result Choice code → List ℕ → List ℕ → Type 0
+  Gives r rows' room' = Chooses strict s l rows held room r rows' (zeros held) room'
+
+  pub short_held : length held < held_room → Gives (Err ShortRoom) rows (zeros room)
   unfolding choice_left
-  short_held h = rw (lt-leb held_room (length held) h)
+  short_held h = record { answer = rw (lt-leb held_room (length held) h); is = rw (lt-leb held_room (length held) h) }
 
   module _ (B : Bytes s) (h : held_room ≤ length held) where
     -- what the rewriter reads and writes, 32 included
     replied : Read Reply
     replied = need (leb rewrite_room (length room)) short_room (rewrite_reply strict s)
 
-    rewriter_leaves : rewrite_left strict s held room ≡ call_leaves replied held room
-    unfolding rewrite_left call replied
-    rewriter_leaves = rw (reply_fits strict s B (length held) h)
+    rewriter_replies : rewriter_met rewrite_room (rewrite_reply strict s) held room ≡ replied
+    unfolding replied
+    rewriter_replies = rw (reply_fits strict s B (length held) h)
 
-    call_leaves_lem : choice_left strict s l rows held room ≡ leave (and_then (and_then replied (chosen_by l)) (fitting (length rows))) rows held room
-    unfolding choice_left replied
-    call_leaves_lem = rw (le-leb held_room (length held) h) (go (leb rewrite_room (length room)))
+    rewriter_leaves : rewrite_left strict s held room ≡ call_leaves replied held room
+    unfolding rewrite_left call
+    rewriter_leaves = ap (λ (o : Read Reply). call_leaves o held room) rewriter_replies
+
+    -- what becomes of a reply
+    of_reply : Read Reply → Read Chosen
+    of_reply o = and_then (and_then o (chosen_by l)) (fitting (length rows))
+
+    met_is : met strict s l rows held room ≡ of_reply replied
+    unfolding replied of_reply
+    met_is = rw (le-leb held_room (length held) h) (go (leb rewrite_room (length room)))
       where
-        go : (b : Bool) → leave (need b short_room (chosen strict s l (length rows))) rows held room
-            ≡ leave (and_then (and_then (need b short_room (rewrite_reply strict s)) (chosen_by l)) (fitting (length rows))) rows held room
+        go : (b : Bool) → need b short_room (chosen strict s l (length rows)) ≡ and_then (and_then (need b short_room (rewrite_reply strict s)) (chosen_by l)) (fitting (length rows))
         go true = refl
         go false = refl
 
-    module _ {refusal len made : ℕ} {held' room' : List ℕ} (L : rewriter_left refusal len made held' room' ≡ rewrite_left strict s held room) where
-      pub refused_query : (refusal ≡ 0 → ⊥) → left refusal 0 0 rows (zeros held) room' ≡ choice_left strict s l rows held room
-      refused_query n = go replied (L ∙ rewriter_leaves) ∙ sym call_leaves_lem
-        where
-          go : (o : Read Reply) → rewriter_left refusal len made held' room' ≡ call_leaves o held room
-              → left refusal 0 0 rows (zeros held) room' ≡ leave (and_then (and_then o (chosen_by l)) (fitting (length rows))) rows held room
-          go (got a) e = absurd (n (ap (λ (x : CallLeft). x.answer.refusal) e))
-          go (refused r) e = rw (ap (λ (x : CallLeft). x.answer.refusal) e, ap (λ (x : CallLeft). x.room) e)
+    gives : {r : Result Choice code} {rows' room' : List ℕ} (o : Read Chosen) → met strict s l rows held room ≡ o → r ≡ told o
+        → left_of r rows' (zeros held) room' ≡ leave o rows held room → Gives r rows' room'
+    unfolding choice_left
+    gives o e f g = record { answer = f ∙ ap told (sym e); is = g ∙ ap (λ (x : Read Chosen). leave x rows held room) (sym e) }
 
-      module _ (z : refusal ≡ 0) where
+    module _ {r : Result Rounds code} {held' room' : List ℕ} (R : Rewrites strict s held room r held' room') where
+      leaves : {x : Result Rounds code} → r ≡ x → rewriter_left x held' room' ≡ call_leaves replied held room
+      leaves e = ap (λ (x : Result Rounds code). rewriter_left x held' room') (sym e) ∙ R.is ∙ rewriter_leaves
+
+      pub refused_query : (e : code) → r ≡ Err e → Gives (Err e) rows room'
+      unfolding of_reply
+      refused_query e er = go replied refl (sym er ∙ R.answer ∙ ap rewriter_told rewriter_replies) (leaves er)
+        where
+          go : (o : Read Reply) → replied ≡ o → Err e ≡ rewriter_told o → rewriter_left (Err e) held' room' ≡ call_leaves o held room → Gives (Err e) rows room'
+          go (got a) p f g = absurd (cc)
+          go (refused x) p f g =
+              let k : e ≡ coded x = cc in
+              let z : room' ≡ zeros room = ap (λ (y : CallLeft). y.room) g in
+              gives (refused x) (met_is ∙ ap of_reply p) (rw k) (rw (k, z, numbered_coded x))
+
+      module _ (a : Rounds) (ea : r ≡ Ok a) where
         -- the rewriter's reply, as it stands in what is held
         record Written : Type 0 where
           reply : Reply
           is : replied ≡ got reply
-          long : len ≡ length reply.bytes
-          counted : made ≡ reply.rounds
-          here : take len held' ≡ reply.bytes
-          fits : len ≤ length held'
+          long : a.len ≡ length reply.bytes
+          counted : a.rounds ≡ reply.rounds
+          here : take a.len held' ≡ reply.bytes
+          fits : a.len ≤ length held'
           cleared : room' ≡ zeros room
 
         written : Written
-        written = go replied refl (L ∙ rewriter_leaves)
+        written = go replied refl (leaves ea)
           where
-            go : (o : Read Reply) → replied ≡ o → rewriter_left refusal len made held' room' ≡ call_leaves o held room → Written
-            go (got a) p e =
-                let n : len ≡ length a.bytes = ap (λ (x : CallLeft). x.answer.written) e in
-                let o : held' ≡ a.bytes ++ drop (length a.bytes) held = ap (λ (x : CallLeft). x.output) e in
+            go : (o : Read Reply) → replied ≡ o → rewriter_left (Ok a) held' room' ≡ call_leaves o held room → Written
+            go (got b) p e =
+                let n : a.len ≡ length b.bytes = ap (λ (x : CallLeft). x.answer.written) e in
+                let o : held' ≡ b.bytes ++ drop (length b.bytes) held = ap (λ (x : CallLeft). x.output) e in
                 record {
-                  reply = a;
+                  reply = b;
                   is = p;
                   long = n;
                   counted = ap (λ (x : CallLeft). x.answer.rounds) e;
-                  here = ap (take len) o ∙ take_at a.bytes (drop (length a.bytes) held) len (sym n);
-                  fits = omega (arith, ap length o, length-append a.bytes (drop (length a.bytes) held));
+                  here = ap (take a.len) o ∙ take_at b.bytes (drop (length b.bytes) held) a.len (sym n);
+                  fits = omega (arith, ap length o, length-append b.bytes (drop (length b.bytes) held));
                   cleared = ap (λ (x : CallLeft). x.room) e;
                 }
-            go (refused r) p e = absurd (number_some r (sym (ap (λ (x : CallLeft). x.answer.refusal) e) ∙ z))
+            go (refused x) p e = absurd (number_some x (sym (ap (λ (y : CallLeft). y.answer.refusal) e)))
 
-        pub held_long : len ≤ length held'
+        pub held_long : a.len ≤ length held'
         held_long = written.fits
 
         -- the choice of the second call, with the rounds of the first
-        pub selects : {rows' : List ℕ} {r : Selected} → Selects (take (len - 0) (drop 0 held')) l rows rows' r
-            → answered r made rows' (zeros held) room' ≡ choice_left strict s l rows held room
-        selects {rows'} {r} S =
+        pub selects : {rows' : List ℕ} {c : Result ℕ code} → Selects (take (a.len - 0) (drop 0 held')) l rows rows' c → Gives (chosen_as c a.rounds) rows' room'
+        unfolding of_reply
+        selects {rows'} {c} S =
             let W = written in
-            let n : len - 0 ≡ len = omega arith in
-            let here : take (len - 0) (drop 0 held') ≡ W.reply.bytes = ap (λ (k : ℕ). take k held') n ∙ W.here in
-            let same : choice_left strict s l rows held room ≡ leave (and_then (chosen_by l W.reply) (fitting (length rows))) rows held room =
-            call_leaves_lem ∙ ap (λ (x : Read Reply). leave (and_then (and_then x (chosen_by l)) (fitting (length rows))) rows held room) W.is in
-            chooses rows held room (selected W.reply.bytes l) (subst (λ (t : List ℕ). Chooses (selected t l) rows rows' r) here (record { answer = S.answer; rows_left = S.rows }))
-            W.counted W.cleared ∙ sym same
+            let n : a.len - 0 ≡ a.len = omega arith in
+            let here : take (a.len - 0) (drop 0 held') ≡ W.reply.bytes = ap (λ (k : ℕ). take k held') n ∙ W.here in
+            let D = chooses rows held room (selected W.reply.bytes l)
+            (subst (λ (t : List ℕ). Selected (selected t l) rows rows' c) here (record { answer = S.answer; rows_left = S.rows })) W.counted W.cleared in
+            gives (and_then (chosen_by l W.reply) (fitting (length rows))) (met_is ∙ ap of_reply W.is) D.0 D.1
 
 -- the rows that were written
 rows_are : (rows held room : List ℕ) {refusal count rounds k : ℕ} {rows' held' room' : List ℕ} (ns : List ℕ)
@@ -266,10 +295,6 @@ module _ (strict : Bool) (s l rows held room : List ℕ) (B : Bytes s) {refusal 
   unfolding Demanded
   demanded q rs read small list = demanded_of q rs (demand s B q read strict small l rs list) list
 
--- the whole contract, from the numbers and rooms that the code has
-pub concluded : (strict : Bool) (s l rows held room : List ℕ) → Bytes s → {refusal count rounds n m k : ℕ} {rows' held' held'' room' room'' : List ℕ}
-    → refusal ≡ n → count ≡ m → rounds ≡ k → held' ≡ held'' → room' ≡ room'' → left n m k rows' held'' room'' ≡ choice_left strict s l rows held room
-    → (left refusal count rounds rows' held' room' ≡ choice_left strict s l rows held room) × Demanded strict s l rows held room refusal count rounds rows'
-concluded strict s l rows held room B {refusal} {count} {rounds} {rows' = rows'} {held' = held'} {room' = room'} e f g h i E =
-    let F : left refusal count rounds rows' held' room' ≡ choice_left strict s l rows held room = rw (e, f, g, h, i) E in
-    (F, demanded strict s l rows held room B F)
+pub demanded_of_answer : {strict : Bool} {s l rows held room : List ℕ} {r : Result Choice code} {rows' held' room' : List ℕ} → Bytes s → Chooses strict s l rows held room r rows' held' room'
+    → Demanded strict s l rows held room (refusal_of r) (counted_of r) (rounds_of r) rows'
+demanded_of_answer {strict} {s} {l} {rows} {held} {room} B C = demanded strict s l rows held room B C.is

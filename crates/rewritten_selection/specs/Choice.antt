@@ -1,5 +1,5 @@
 -- Rewriting and then selecting, as one answer; and demand 3 of it, which speaks of the query as it was written.
-use Rattle.std.specs.Prelude.{◌≡◌, ◌↔◌, ℕ, ◌≤◌, Bool, length, take, drop, leb}
+use Rattle.std.specs.Prelude.{◌≡◌, ◌↔◌, ℕ, ◌≤◌, Bool, length, take, drop, leb, Result, Ok, Err}
 use mathlib.Core.List.{List, ◌++◌, Memᴰ}
 use Rattle.rules.specs.Numbers.{number, Read, got, refused, need, on_read, and_then, long_answer, short_room, rewrite_room}
 use Rattle.rules.specs.Query.{Query}
@@ -8,6 +8,9 @@ use Rattle.rules.specs.Rewriting.{weight, largest, Fair}
 use Rattle.rules.specs.Lists.{Entry, read_list}
 use Rattle.rules.specs.Answers.{Reply, zeros, rewrite_reply, selected}
 use Rattle.rules.specs.Matching.{IsChosen, RisingFrom}
+use Rattle.names.specs.Refusals.{numbered, answered}
+use Rattle.names.specs.declared.refusal.Refusal.{Refusal}
+use Rattle.rewritten_selection.specs.declared.Choice.{Choice}
 
 -- room for what the rewriter makes of any query: no round passes it
 abbrev pub held_room : ℕ
@@ -49,9 +52,36 @@ leave (refused r) rows held room = left (number r) 0 0 rows (zeros held) (zeros 
 leave (got c) rows held room = left 0 (length c.rows) c.rounds (c.rows ++ drop (length c.rows) rows) (zeros held) (zeros room)
 
 -- 32 before all else
+abbrev pub met : Bool → List ℕ → List ℕ → List ℕ → List ℕ → List ℕ → Read Chosen
+met strict s l rows held room = need (leb held_room (length held)) short_room (need (leb rewrite_room (length room)) short_room (chosen strict s l (length rows)))
+
 unfoldable pub choice_left : Bool → List ℕ → List ℕ → List ℕ → List ℕ → List ℕ → Left
-choice_left strict s l rows held room =
-    leave (need (leb held_room (length held)) short_room (need (leb rewrite_room (length room)) short_room (chosen strict s l (length rows)))) rows held room
+choice_left strict s l rows held room = leave (met strict s l rows held room) rows held room
+
+-- the answer's numbers, and what the call leaves by them
+abbrev pub refusal_of : Result Choice Refusal → ℕ
+refusal_of (Ok c) = 0
+refusal_of (Err e) = numbered e
+
+abbrev pub count_of : Result Choice Refusal → ℕ
+count_of (Ok c) = c.count
+count_of (Err e) = 0
+
+abbrev pub rounds_of : Result Choice Refusal → ℕ
+rounds_of (Ok c) = c.rounds
+rounds_of (Err e) = 0
+
+abbrev pub left_of : Result Choice Refusal → List ℕ → List ℕ → List ℕ → Left
+left_of r rows held room = left (refusal_of r) (count_of r) (rounds_of r) rows held room
+
+-- what the call answers of what was read
+abbrev pub told : Read Chosen → Result Choice Refusal
+told o = answered (λ c. record { count = length c.rows; rounds = c.rounds }) o
+
+-- the whole answer of the call, and what it leaves
+pub record Chooses (strict : Bool) (s l rows held room : List ℕ) (r : Result Choice Refusal) (rows' held' room' : List ℕ) : Type 0 where
+  pub answer : r ≡ told (met strict s l rows held room)
+  pub is : left_of r rows' held' room' ≡ choice_left strict s l rows held room
 
 -- ---- demand 3
 

@@ -2,36 +2,47 @@
 // a room of its own, since two parts of one slice cannot be lent for writing at the same time.
 #![tactic(auto)]
 
-ghost use Rattle.std.specs.Prelude.{◌≡◌};
-ghost use Rattle.rewritten_selection.specs.Choice.{left, choice_left, Demanded};
+ghost use Rattle.std.specs.Prelude.{◌≤◌, length};
+ghost use Rattle.rules.specs.Answers.{zeros};
+ghost use Rattle.rewritten_selection.specs.Choice.{held_room, refusal_of, count_of, rounds_of, Chooses, Demanded};
 
-use names::SHORT_ROOM;
+use names::refusal::Refusal;
 use rewriter::rounds::rewrite;
-use selection::select::{Selected, select};
+use selection::select::select;
 use stretches::clear;
 
 // What a rewritten query can take, as `specs/Choice` says.
 pub const HELD_ROOM: usize = 38229;
 
-#[derive(Drop)]
+// How many records were chosen, and the rounds that the rewriting took.
+#[derive(Clone, Copy)]
 pub struct Choice {
-    pub refusal: u8,
     pub count: usize,
     pub rounds: usize,
 }
 
-fn refuse(n: u8) -> Choice
-    ensures { (result.refusal ≡ n) × (result.count ≡ 0) × (result.rounds ≡ 0) }
+// The two calls, one after the other: the room that holds the rewritten query is still to be cleared.
+fn select_rewritten(
+    strict: bool,
+    query: &[u8],
+    list: &[u8],
+    rows: &mut [u32],
+    held: &mut [u8],
+    room: &mut [u8],
+) -> Result<Choice, Refusal>
+    requires { held_room ≤ length held.old }
+    ensures { Chooses strict query.now list.now rows.old held.old room.old result rows.new (zeros held.old) room.new }
 {
-    Choice {
-        refusal: n,
-        count: 0,
-        rounds: 0,
-    }
+    let a = rewrite(strict, query, held, room)?;
+    let count = select(&held[0..a.len], list, rows)?;
+    Ok(Choice {
+        count,
+        rounds: a.rounds,
+    })
 }
 
-// The rewriting is strict or as the original's. Refuses as the two calls do, one after the other: SHORT_ROOM for either room, then what the rewriter refuses in the query, what selection refuses in the list,
-// and LONG_ANSWER where the rows are too short. A refusal leaves the rows; both rooms end all zeros.
+// The rewriting is strict or as the original's. Refuses as the two calls do, one after the other: ShortRoom for either room, then what the rewriter refuses in the query, what selection refuses in the list,
+// and LongAnswer where the rows are too short. A refusal leaves the rows; both rooms end all zeros.
 pub fn rewrite_and_select(
     strict: bool,
     query: &[u8],
@@ -39,31 +50,17 @@ pub fn rewrite_and_select(
     rows: &mut [u32],
     held: &mut [u8],
     room: &mut [u8],
-) -> Choice
-    ensures answer { left result.refusal result.count result.rounds rows.new held.new room.new
-        ≡ choice_left strict query.now list.now rows.old held.old room.old }
+) -> Result<Choice, Refusal>
+    ensures answer { Chooses strict query.now list.now rows.old held.old room.old result rows.new held.new room.new }
     ensures demand { Demanded strict query.now list.now rows.old held.old room.old
-        result.refusal result.count result.rounds rows.new }
+        (refusal_of result) (count_of result) (rounds_of result) rows.new }
 {
     if held.len() < HELD_ROOM {
         clear(held);
         clear(room);
-        return refuse(SHORT_ROOM);
+        return Err(Refusal::ShortRoom);
     }
-    let a = rewrite(strict, query, held, room);
-    if a.refusal != 0 {
-        clear(held);
-        return refuse(a.refusal);
-    }
-    let n = a.len;
-    let c = select(&held[0..n], list, rows);
+    let answer = select_rewritten(strict, query, list, rows, held, room);
     clear(held);
-    match c {
-        Selected::Refused(k) => refuse(k),
-        Selected::Chosen(k) => Choice {
-            refusal: 0,
-            count: k,
-            rounds: a.rounds,
-        },
-    }
+    answer
 }

@@ -220,7 +220,7 @@ module _ {strict : Bool} {at : ℕ} {room₀ room : List ℕ} {t w : ℕ} (g : R
 
         -- it is kept
         pub child_keep : (get_or room₁ (w + 3) 0 ≡ 7 → ⊥) → (k : ℕ) → k ≡ get_or room t 0 → {p : ℕ} {room₂ : List ℕ} → Put room₁ w (header k n) p room₂
-            → Rewriting strict at room₀ room₂ e (w + 3 + n)
+            → Rewriting strict at room₀ room₂ e (w + (3 + n))
         child_keep nh k ek {p} {room₂} P =
             let q = rewrite_once strict here.query in
             let l = child_low in
@@ -231,8 +231,8 @@ module _ {strict : Bool} {at : ℕ} {room₀ room : List ℕ} {t w : ℕ} (g : R
             let T : Stands w room (3 + n) (header k n ++ encode q) room₂ = rw P.bytes (stands_before w (header k n) S (omega arith) (omega (arith, S.long))) in
             let bytes : header k n ++ encode q ≡ part (kind_tag here.kind) (encode q) =
             ap (λ (j : ℕ). header j n ++ encode q) (ek ∙ here.part.tag) ∙ ap (λ (m : ℕ). header (kind_tag here.kind) m ++ encode q) S.size in
-            let z : w + 3 + n - w ≡ 3 + n = omega arith in
-            let new : within w (w + 3 + n) room₂ ≡ part (kind_tag here.kind) (encode q) = ap (λ (i : ℕ). take i (drop w room₂)) z ∙ T.there ∙ bytes in
+            let z : w + (3 + n) - w ≡ 3 + n = omega arith in
+            let new : within w (w + (3 + n)) room₂ ≡ part (kind_tag here.kind) (encode q) = ap (λ (i : ℕ). take i (drop w room₂)) z ∙ T.there ∙ bytes in
             let a = are₁ in
             let up : within e (length room) room₂ ≡ within e (length room) room₁ =
             ap (within e (length room)) P.bytes ∙ behind_laid room₁ (header k n) e (length room) w (omega arith) (omega (arith, S.long)) in
@@ -246,8 +246,8 @@ module _ {strict : Bool} {at : ℕ} {room₀ room : List ℕ} {t w : ℕ} (g : R
               done = snoc g.done here.kind q;
               place = omega (arith, g.place, S.size, length_snoc g.done here.kind q);
               there =
-                  sym (joined room₂ 0 w (w + 3 + n) (omega arith) (omega arith))
-                  ∙ ap {B = List ℕ} (λ l. l ++ within w (w + 3 + n) room₂) (within_same room₂ room 0 w w (omega arith) (omega arith) T.kept ∙ g.there)
+                  sym (joined room₂ 0 w (w + (3 + n)) (omega arith) (omega arith))
+                  ∙ ap {B = List ℕ} (λ l. l ++ within w (w + (3 + n)) room₂) (within_same room₂ room 0 w w (omega arith) (omega arith) T.kept ∙ g.there)
                   ∙ ap {B = List ℕ} (λ l. encodes g.done ++ l) new ∙ sym (encodes_snoc g.done here.kind q);
               dead = g.dead ∙ unroll_dead ∙ rw stays (or_away (is_needed here.kind) (is_dead (rewrite_each strict here.others)));
               whole = join_snoc g.done here.kind q (live (rewrite_each strict here.others)) ∙ ap (join g.done) (sym (unroll_live ∙ rw stays)) ∙ g.whole;

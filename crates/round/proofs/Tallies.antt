@@ -1,13 +1,14 @@
 -- The loops over clauses that ask for their kinds: are all MustNot, how many are Should, is it one alone.
 use mathlib.Core.Path.{◌≡◌, refl, sym, ap, ◌∙◌}
-use Prim.Native.Nat.{ℕ, ◌+◌, ◌-◌, ◌≤◌, ◌<◌}
+use Prim.Native.Nat.{ℕ, ◌+◌, ◌≤◌, ◌<◌}
 use mathlib.Core.List.{List}
-use mathlib.Core.Bool.{true, false}
+use mathlib.Core.Bool.{Bool, true, false}
 use native.Mathlib.Omega.{arith}
 use lib.ListN.{length, get_or}
 use lib.Dec.{eqb}
+use mir.Val.{bool_byte}
 use borrow.Author.Tests.{eq-eqb, ne_eqb}
-use Rattle.rules.specs.Bytes.{rest_of, same}
+use Rattle.rules.specs.Bytes.{rest_of}
 use Rattle.rules.specs.Query.{Kind, must, should, must_not, filter, Query, Clauses, none, clause}
 use Rattle.rules.specs.Stored.{kind_tag, encodes}
 use Rattle.rules.specs.Checked.{Are, StoredClauses}
@@ -61,6 +62,15 @@ module _ {s t : List ℕ} (g : Negative s t) where
 
 -- ---- how many are Should
 
+should_bit : (k : Kind) → if_should k ≡ bool_byte (eqb (kind_tag k) 0x21)
+should_bit must = refl
+should_bit should = refl
+should_bit must_not = refl
+should_bit filter = refl
+
+pub one_most : (n : ℕ) (b : Bool) → n ≡ bool_byte b → n ≤ 1
+one_most n b e = rw e (elim b as (λ v. bool_byte v ≤ 1) [ true ↦ omega arith | false ↦ omega arith ])
+
 pub record Counting (s t : List ℕ) (n : ℕ) : Type 0 where
   pub all : StoredClauses s
   pub left : StoredClauses t
@@ -71,17 +81,16 @@ module _ {s t : List ℕ} {n : ℕ} (g : Counting s t n) where
   pub counting_front : 0 < length t → Front t g.left.clauses
   counting_front p = front g.left.are p
 
-  pub counting_next : (p : 0 < length t) (v : ℕ) → ((j : Kind) → kind_tag j ≡ get_or t 0 0 → v ≡ n + if_should j) → v ≤ n + 1
-      → (u : List ℕ) → u ≡ rest_of t → length u < length t → Counting s u v
+  pub counting_next : (p : 0 < length t) (b : ℕ) → b ≡ bool_byte (eqb (get_or t 0 0) 0x21) → (u : List ℕ) → u ≡ rest_of t → length u < length t → Counting s u (n + b)
   unfolding should_count
-  counting_next p v h l u eu lu =
+  counting_next p b eb u eu lu =
       let f = counting_front p in
       let z : should_count g.left.clauses ≡ if_should f.kind + should_count f.others = ap should_count f.split in
       record {
         all = g.all;
         left = record { clauses = f.others; are = rw eu (front_are f) };
-        count = omega (arith, g.count, h f.kind (sym f.tag));
-        few = omega (arith, g.few);
+        count = omega (arith, g.count, should_bit f.kind, eb ∙ ap (λ (k : ℕ). bool_byte (eqb k 0x21)) f.tag);
+        few = omega (arith, g.few, one_most b (eqb (get_or t 0 0) 0x21) eb);
       }
 
   pub counting_end : length t ≤ 0 → (cs : Clauses) → Are s cs → n ≡ should_count cs

@@ -1,12 +1,10 @@
 -- What one round asks for and leaves: a query at the end of the room, its rewriting at the front.
-use Rattle.std.specs.Prelude.{◌≡◌, ℕ, ◌≤◌, ◌<◌, List, Bool, true, false, length, drop}
+use Rattle.std.specs.Prelude.{◌≡◌, ℕ, ◌≤◌, ◌<◌, List, Bool, true, false, Option, Some, None, length, drop}
 use Rattle.rules.specs.Query.{Query, Clauses}
 use Rattle.rules.specs.Stored.{encodes}
 use Rattle.rules.specs.Checked.{Is, Are}
 use Rattle.rules.specs.Rewriting.{is_dead, live, rewrite_each, clause_count, clause_counts, bulk, bulks}
 use Rattle.places.specs.Within.{Stands}
-use Rattle.round.specs.declared.once.Kept.{Kept}
-use Rattle.round.specs.declared.once.Kept.TheVariants.{Dead, Upto}
 
 -- the query from `at` on, and a byte of space before it for each of its clauses
 pub record Room (at : ℕ) (room : List ℕ) : Type 0 where
@@ -28,6 +26,6 @@ pub record Went (strict : Bool) (w : ℕ) (room room' : List ℕ) (cs : Clauses)
   pub stands : Stands 0 room w (encodes (live (rewrite_each strict cs))) room'
   pub alive : is_dead (rewrite_each strict cs) ≡ false
 
-abbrev pub Rewritten : Bool → List ℕ → Kept → List ℕ → Clauses → Type 0
-Rewritten strict room Dead room' cs = is_dead (rewrite_each strict cs) ≡ true
-Rewritten strict room (Upto w) room' cs = Went strict w room room' cs
+abbrev pub Rewritten : Bool → List ℕ → Option ℕ → List ℕ → Clauses → Type 0
+Rewritten strict room None room' cs = is_dead (rewrite_each strict cs) ≡ true
+Rewritten strict room (Some w) room' cs = Went strict w room room' cs

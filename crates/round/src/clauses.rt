@@ -12,21 +12,21 @@ use parts::part::rest;
 pub fn is_needed(k: u8) -> bool
     ensures { (j : Kind) → kind_tag j ≡ k → result ≡ is_needed j }
 {
-    if k == MUST_TAG { true } else { k == FILTER_TAG }
+    k == MUST_TAG || k == FILTER_TAG
 }
 
 // Are all the clauses MustNot?
+// Stays: `StoredClauses` is clauses with their proof; a ghost field that holds them wants a law that two such proofs are one, longer than these three clauses.
 pub fn only_must_not(s: &[u8]) -> bool
     requires { StoredClauses s.now }
     ensures { (cs : Clauses) → Are s.now cs → result ≡ only_must_not cs }
 {
     let mut t = s;
-    while t.len() > 0 {
+    while !t.is_empty() {
         if t[0] != MUST_NOT_TAG {
             return false;
         }
-        let u = rest(t);
-        t = u;
+        t = rest(t);
     }
     true
 }
@@ -36,21 +36,14 @@ pub fn should_count(s: &[u8]) -> usize
     requires { StoredClauses s.now }
     ensures { ((cs : Clauses) → Are s.now cs → result ≡ should_count cs) × (result ≤ length s.now) }
 {
+    // Stays: no index is counted: n is the answer, and a clause ends where its header says.
     let mut t = s;
     let mut n: usize = 0;
-    while t.len() > 0 {
-        n = counted(t[0], n);
-        let u = rest(t);
-        t = u;
+    while !t.is_empty() {
+        n += usize::from(t[0] == SHOULD_TAG);
+        t = rest(t);
     }
     n
-}
-
-fn counted(k: u8, n: usize) -> usize
-    requires { n < 18446744073709551615 }
-    ensures { ((j : Kind) → kind_tag j ≡ k → result ≡ n + if_should j) × (result ≤ n + 1) }
-{
-    if k == SHOULD_TAG { n + 1 } else { n }
 }
 
 // Is it one clause?
@@ -58,8 +51,5 @@ pub fn is_single(s: &[u8]) -> bool
     requires { StoredClauses s.now }
     ensures { (cs : Clauses) → Are s.now cs → result ≡ is_one_clause cs }
 {
-    if s.len() == 0 {
-        return false;
-    }
-    rest(s).len() == 0
+    !s.is_empty() && rest(s).is_empty()
 }

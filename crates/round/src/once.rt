@@ -23,35 +23,28 @@ use places::place::shift;
 // Where a Boolean's minimum stands.
 const LEAST: usize = HEADER + HEADER;
 
-#[derive(Drop)]
-enum Kept {
-    Dead,
-    Upto(usize),
-}
-
-// The clauses from `at` on, each after its own round, without those that are MatchNone.
+// The clauses from `at` on, each after its own round, without those that are MatchNone: where they end, or none where one ends the Boolean.
 #[cycle(rewrite_clauses_rewrite_once)]
-fn rewrite_clauses(room: &mut [u8], at: usize, strict: bool) -> Kept
+fn rewrite_clauses(room: &mut [u8], at: usize, strict: bool) -> Option<usize>
     requires { Rooms at room.old }
     ensures { (cs : Clauses) → Are (drop at room.old) cs → Rewritten strict room.old result room.new cs }
 {
+    // Stays: the clauses stand in the room that is written, so that no iterator can lend them; each ends where its header says.
     let mut t = at;
     let mut w = 0;
     while t < room.len() {
         let k = room[t];
         let e = end_of(room, t);
         let n = rewrite_once(&mut room[w + HEADER..e], t - w, strict);
-        if room[w + HEADER] == MATCH_NONE_TAG {
-            if is_needed(k) {
-                return Kept::Dead;
-            }
-        } else {
+        if room[w + HEADER] != MATCH_NONE_TAG {
             put_header(room, w, k, n);
-            w = w + HEADER + n;
+            w += HEADER + n;
+        } else if is_needed(k) {
+            return None;
         }
         t = e;
     }
-    Kept::Upto(w)
+    Some(w)
 }
 
 // The query from `at` on.
@@ -60,15 +53,13 @@ pub fn rewrite_once(room: &mut [u8], at: usize, strict: bool) -> usize
     requires { Room at room.old }
     ensures { (q : Query) → Is (drop at room.old) q → Stands 0 room.old result (encode (rewrite_once strict q)) room.new }
 {
-    let tag = room[at];
-    match tag {
+    match room[at] {
         PHRASE_TAG => phrase_over(room, at),
         BOOLEAN_TAG => {
             let least = big2(&room[at + LEAST..]);
-            let r = rewrite_clauses(&mut room[BOOLEAN_FRONT..], at, strict);
-            match r {
-                Kept::Dead => put_none(room),
-                Kept::Upto(w) => rewrite_boolean(room, BOOLEAN_FRONT + w, least, strict),
+            match rewrite_clauses(&mut room[BOOLEAN_FRONT..], at, strict) {
+                Some(w) => rewrite_boolean(room, BOOLEAN_FRONT + w, least, strict),
+                None => put_none(room),
             }
         }
         BOOST_TAG => {

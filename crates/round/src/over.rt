@@ -50,19 +50,20 @@ fn boost_over(room: &mut [u8], n: usize, b: u32) -> usize
     requires { Inner 7 n room.old }
     ensures { (q : Query) → Is (take n (drop 7 room.old)) q → Stands 0 room.old result (encode (boosted b q)) room.new }
 {
-    let tag = room[BOOST_FRONT];
-    if tag == MATCH_NONE_TAG {
-        return put_none(room);
+    match room[BOOST_FRONT] {
+        MATCH_NONE_TAG => put_none(room),
+        BOOST_TAG => {
+            let c = big4(&room[INNER_BITS..]);
+            shift(room, 0, BOOST_FRONT, n);
+            put_big4(room, HEADER, product(c, b));
+            n
+        }
+        _ => {
+            let p = put_header(room, 0, BOOST_TAG, BOOST_BYTES + n);
+            put_big4(room, p, b);
+            BOOST_FRONT + n
+        }
     }
-    if tag == BOOST_TAG {
-        let c = big4(&room[INNER_BITS..]);
-        shift(room, 0, BOOST_FRONT, n);
-        put_big4(room, HEADER, product(c, b));
-        return n;
-    }
-    let p = put_header(room, 0, BOOST_TAG, BOOST_BYTES + n);
-    put_big4(room, p, b);
-    BOOST_FRONT + n
 }
 
 // What a boost b comes to, over the query of n bytes at 7: a boost of 1 goes.
@@ -82,21 +83,22 @@ pub fn score_over(room: &mut [u8], n: usize) -> usize
     requires { Inner 3 n room.old }
     ensures { (q : Query) → Is (take n (drop 3 room.old)) q → Stands 0 room.old result (encode (scored q)) room.new }
 {
-    let tag = room[HEADER];
-    if tag == MATCH_NONE_TAG {
-        return put_none(room);
+    match room[HEADER] {
+        MATCH_NONE_TAG => put_none(room),
+        CONSTANT_SCORE_TAG => {
+            shift(room, 0, HEADER, n);
+            n
+        }
+        BOOST_TAG => {
+            shift(room, HEADER, INNER_BITS, n - BOOST_FRONT);
+            put_header(room, 0, CONSTANT_SCORE_TAG, n - BOOST_FRONT);
+            n - BOOST_BYTES
+        }
+        _ => {
+            put_header(room, 0, CONSTANT_SCORE_TAG, n);
+            HEADER + n
+        }
     }
-    if tag == CONSTANT_SCORE_TAG {
-        shift(room, 0, HEADER, n);
-        return n;
-    }
-    if tag == BOOST_TAG {
-        shift(room, HEADER, INNER_BITS, n - BOOST_FRONT);
-        put_header(room, 0, CONSTANT_SCORE_TAG, n - BOOST_FRONT);
-        return n - BOOST_BYTES;
-    }
-    put_header(room, 0, CONSTANT_SCORE_TAG, n);
-    HEADER + n
 }
 
 // The term with the field part from `field` up to `word`, and the text of the word that stands from there up to the end.
@@ -136,20 +138,21 @@ fn put_lone(room: &mut [u8], end: usize) -> usize
     requires { Lone end room.old }
     ensures { (k : Kind) (q : Query) → Are (within 8 end room.old) (clause k q none) → Stands 0 room.old result (encode (lone k q)) room.new }
 {
-    let k = room[BOOLEAN_FRONT];
     let n = end - LONE_FRONT;
-    if k == MUST_NOT_TAG {
-        return put_none(room);
+    match room[BOOLEAN_FRONT] {
+        MUST_NOT_TAG => put_none(room),
+        FILTER_TAG => {
+            shift(room, SCORED_FRONT, LONE_FRONT, n);
+            put_header(room, BOOST_FRONT, CONSTANT_SCORE_TAG, n);
+            put_big4(room, HEADER, 0);
+            put_header(room, 0, BOOST_TAG, BOOST_FRONT + n);
+            SCORED_FRONT + n
+        }
+        _ => {
+            shift(room, 0, LONE_FRONT, n);
+            n
+        }
     }
-    if k == FILTER_TAG {
-        shift(room, SCORED_FRONT, LONE_FRONT, n);
-        put_header(room, BOOST_FRONT, CONSTANT_SCORE_TAG, n);
-        put_big4(room, HEADER, 0);
-        put_header(room, 0, BOOST_TAG, BOOST_FRONT + n);
-        return SCORED_FRONT + n;
-    }
-    shift(room, 0, LONE_FRONT, n);
-    n
 }
 
 fn put_merged_boolean(room: &mut [u8], end: usize, least: usize, strict: bool) -> usize
@@ -172,16 +175,11 @@ pub fn rewrite_boolean(room: &mut [u8], end: usize, least: usize, strict: bool) 
     requires { Live end least room.old }
     ensures { (cs : Clauses) → Are (within 8 end room.old) cs → Stands 0 room.old result (encode (of_live strict least cs)) room.new }
 {
-    if only_must_not(&room[BOOLEAN_FRONT..end]) {
+    let clauses = &room[BOOLEAN_FRONT..end];
+    if only_must_not(clauses) || should_count(clauses) < least {
         return put_none(room);
     }
-    if should_count(&room[BOOLEAN_FRONT..end]) < least {
-        return put_none(room);
-    }
-    if least > 1 {
-        return put_merged_boolean(room, end, least, strict);
-    }
-    if is_single(&room[BOOLEAN_FRONT..end]) {
+    if least <= 1 && is_single(clauses) {
         return put_lone(room, end);
     }
     put_merged_boolean(room, end, least, strict)

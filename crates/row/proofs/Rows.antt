@@ -1,13 +1,13 @@
 -- The row of tokens: what is read back, what a part of the room that is left as it was keeps, and what one more token adds.
 use mathlib.Core.Path.{◌≡◌, refl, sym, ap, ◌∙◌}
 use Prim.Native.Nat.{ℕ, zero, suc, ◌+◌, ◌-◌, ◌*◌, ◌/◌, ◌%◌, ◌≤◌, ◌<◌}
-use mathlib.Core.List.{List, [], ◌∷◌, ◌++◌, append_assoc}
+use mathlib.Core.List.{List, [], ◌∷◌, ◌++◌}
 use native.Mathlib.Omega.{arith}
 use native.Mathlib.Nat.{zero-add, suc-add, add-zero}
-use native.Mathlib.Numerals.{add-one, add-two, add-three}
+use native.Mathlib.Numerals.{add-one}
 use native.Mathlib.Decide.{dec_lt}
-use lib.ListN.{length, get_or, take, drop, set, length-append, get_or-append, get_or-eq_default}
-use lib.Seq.{take-nil, take-take, take_at, get_or-take, get_or-drop, get_or_at, get_or-append-add, length-take-le, sets-eq}
+use lib.ListN.{length, get_or, take, drop, length-append, get_or-append, get_or-eq_default}
+use lib.Seq.{take-nil, take-take, take_at, get_or-take, get_or-drop, get_or_at, get_or-append-add, length-take-le}
 use Rattle.rules.specs.Numbers.{text_most}
 use Rattle.rules.specs.Lexing.{Token}
 use Rattle.row.specs.Row.{room_least, entry_at, kind_in, note_in, place_in, size_in, token_at, tokens_of, Below, LaidBelow, Laid, entry, name_from, word_note, Worded, Kept}
@@ -126,13 +126,6 @@ module _ (b a : List ℕ) (n : ℕ) (e : take room_least a ≡ take room_least b
   first_worded = worded_kept a b n text_most first_bytes first_texts laid
 
 -- ---- one more token
-
--- four stores in a row
-pub four : (l : List ℕ) (at a b c d : ℕ) → at + 4 ≤ length l
-    → set (set (set (set l at a) (at + 1) b) (at + 2) c) (at + 3) d ≡ take at l ++ ((a ∷ b ∷ c ∷ d ∷ []) ++ drop (at + 4) l)
-four l at a b c d k =
-    let vs : List ℕ = a ∷ b ∷ c ∷ d ∷ [] in
-    rw (add-one, add-two, add-three) (sets-eq vs l at k ∙ append_assoc (take at l) vs (drop (at + 4) l))
 
 -- note, place and length, read back from the bytes that hold them
 note_back : (a p : ℕ) → p < 1024 → (a * 32 + p / 32) / 32 ≡ a

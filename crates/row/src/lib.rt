@@ -31,7 +31,7 @@ fn start_at(room: &[u8], i: usize) -> usize
     ensures { result ≡ place_in room.now i }
 {
     let at = TEXT_MOST + ENTRY * i;
-    room[at + 1] as usize % PLACE_HALF * PLACE_HALF + room[at + 2] as usize / ABOVE_SIZE
+    usize::from(room[at + 1]) % PLACE_HALF * PLACE_HALF + usize::from(room[at + 2]) / ABOVE_SIZE
 }
 
 // How long its text is.
@@ -40,9 +40,10 @@ fn size_at(room: &[u8], i: usize) -> usize
     ensures { result ≡ size_in room.now i }
 {
     let at = TEXT_MOST + ENTRY * i;
-    room[at + 2] as usize % ABOVE_SIZE * SIZE_BYTE + room[at + 3] as usize
+    usize::from(room[at + 2]) % ABOVE_SIZE * SIZE_BYTE + usize::from(room[at + 3])
 }
 
+// Stays: each public function requires the room's length and the index itself, since docs/ANSWERS.md names it, and the parser lends it its room as a slice.
 // The kind of the token at i of n, and the end's past the last.
 pub fn kind_at(room: &[u8], n: usize, i: usize) -> u8
     requires { (n ≤ text_most) × (room_least ≤ length room.now) }
@@ -97,7 +98,7 @@ pub fn is_word_at(room: &[u8], i: usize) -> bool
     requires { (i < text_most) × (room_least ≤ length room.now) }
     ensures { result ≡ eqb (note_in room.now i) word_note }
 {
-    room[TEXT_MOST + ENTRY * i + 1] / ABOVE_PLACE == WORD_NOTE
+    note_at(room, i) == WORD_NOTE
 }
 
 // Notes a at the token at i. Its place, in the same byte, stays.

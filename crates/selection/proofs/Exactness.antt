@@ -17,7 +17,8 @@ use Rattle.rules.specs.Lists.{Entry, read_list}
 use Rattle.rules.specs.Answers.{selected, row_bytes, select_left, call}
 use Rattle.rules.specs.Matching.{IsChosen, RisingFrom}
 use Rattle.rules.proofs.Choosing.Choices.{exact, rising, alone, selection}
-use Rattle.selection.specs.declared.select.Selected.TheVariants.{Refused, Chosen}
+use Rattle.std.specs.Prelude.{Result, Ok, Err}
+use Rattle.names.specs.declared.refusal.Refusal.{Refusal}
 use Rattle.selection.specs.Select.{within, answer_of, rows_after, Selects, SelectsBytes}
 use Rattle.selection.proofs.Selections.{length_rows, fits_bytes}
 
@@ -51,38 +52,38 @@ record Answered (s l : List ℕ) (m k : ℕ) : Type 0 where
   many : length numbers ≡ k
   fits : leb (length numbers) m ≡ true
 
-same_count : {m k : ℕ} → Chosen m ≡ Chosen k → m ≡ k
+same_count : {m k : ℕ} → ◌≡◌ {A = Result ℕ Refusal} (Ok m) (Ok k) → m ≡ k
 same_count h = cc
 
-not_refused : {A : Type 0} {n k : ℕ} → Chosen k ≡ Refused n → A
-not_refused h = absurd (let z : ◌≡◌ {A = ℕ} 0 1 = cc in omega arith)
+not_refused : {A : Type 0} {r : Refusal} {k : ℕ} → ◌≡◌ {A = Result ℕ Refusal} (Ok k) (Err r) → A
+not_refused h = cc
 
-answered : (s l : List ℕ) (m k : ℕ) → Chosen k ≡ answer_of (within m (selected s l)) → Answered s l m k
+answered : (s l : List ℕ) (m k : ℕ) → Ok k ≡ answer_of (within m (selected s l)) → Answered s l m k
 answered s l m k e = go (selected s l) refl e
   where
-    fit : (ns : List ℕ) → selected s l ≡ got ns → (b : Bool) → leb (length ns) m ≡ b → Chosen k ≡ answer_of (need b long_answer (got ns)) → Answered s l m k
+    fit : (ns : List ℕ) → selected s l ≡ got ns → (b : Bool) → leb (length ns) m ≡ b → Ok k ≡ answer_of (need b long_answer (got ns)) → Answered s l m k
     fit ns f true g h = record { numbers = ns; are = f; many = sym (same_count h); fits = g }
     fit ns f false g h = not_refused h
 
-    go : (o : Read (List ℕ)) → selected s l ≡ o → Chosen k ≡ answer_of (within m o) → Answered s l m k
+    go : (o : Read (List ℕ)) → selected s l ≡ o → Ok k ≡ answer_of (within m o) → Answered s l m k
     go (refused r) f h = not_refused h
     go (got ns) f h = fit ns f (leb (length ns) m) refl h
 
 -- ---- rows of numbers
 
-rows_first : {s l before after : List ℕ} {k : ℕ} → Selects s l before after (Chosen k) → selected s l ≡ got (take k after)
+rows_first : {s l before after : List ℕ} {k : ℕ} → Selects s l before after (Ok k) → selected s l ≡ got (take k after)
 rows_first {s} {l} {before} {after} {k} S =
     let A = answered s l (length before) k S.answer in
     let w : within (length before) (selected s l) ≡ got A.numbers = ap (within (length before)) A.are ∙ rw A.fits in
     let e = S.rows ∙ ap (λ (o : Read (List ℕ)). rows_after o before) w in
     A.are ∙ ap got (sym (ap (take k) e ∙ take_at A.numbers (drop (length A.numbers) before) k A.many))
 
-pub selects_exactly : {s l before after : List ℕ} {k : ℕ} → Selects s l before after (Chosen k) → Exactly s l (take k after)
+pub selects_exactly : {s l before after : List ℕ} {k : ℕ} → Selects s l before after (Ok k) → Exactly s l (take k after)
 selects_exactly {s} {l} {after = after} {k} S = selected_exactly s l (take k after) (rows_first S)
 
 -- two lists that hold the same record, at i of the one and at j of the other
 pub selects_alone : {s l m before after before' after' : List ℕ} {k n : ℕ}
-    → Selects s l before after (Chosen k) → Selects s m before' after' (Chosen n)
+    → Selects s l before after (Ok k) → Selects s m before' after' (Ok n)
     → (rs ts : List (List Entry)) (i j : ℕ) → read_list l ≡ got rs → read_list m ≡ got ts → i < length rs → j < length ts → get_or rs i [] ≡ get_or ts j []
     → Memᴰ i (take k after) ↔ Memᴰ j (take n after')
 selects_alone {s} {l} {m} {after = after} {after' = after'} {k} {n} S T rs ts i j =
@@ -97,7 +98,7 @@ pub record ExactlyBytes (s l after : List ℕ) (k : ℕ) : Type 0 where
   pub written : take (4 * k) after ≡ row_bytes numbers
   pub exactly : Exactly s l numbers
 
-pub selects_bytes_exactly : {s l rows room after room' : List ℕ} {k : ℕ} → SelectsBytes s l rows room after room' (Chosen k) → ExactlyBytes s l after k
+pub selects_bytes_exactly : {s l rows room after room' : List ℕ} {k : ℕ} → SelectsBytes s l rows room after room' (Ok k) → ExactlyBytes s l after k
 unfolding select_left call
 selects_bytes_exactly {s} {l} {rows} {room} {after} {k = k} S =
     let A = answered s l (length rows / 4) k S.is in

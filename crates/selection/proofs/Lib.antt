@@ -1,2 +1,3 @@
 pub mod Selections
 pub mod Exactness
+pub mod Records

@@ -1,5 +1,5 @@
 -- From what selection's parts say to its own contracts: what was checked, one record after the other, and rows as they fill.
-use mathlib.Core.Path.{◌≡◌, refl, sym, ap, ◌∙◌}
+use mathlib.Core.Path.{◌≡◌, refl, sym, ap, ◌∙◌, subst}
 use Prim.Native.Nat.{ℕ, zero, suc, ◌+◌, ◌-◌, ◌*◌, ◌/◌, ◌≤◌, ◌<◌}
 use mathlib.Core.List.{List, [], ◌∷◌, ◌++◌, append-nil, append_assoc}
 use mathlib.Core.Bool.{Bool, true, false, cond}
@@ -9,7 +9,7 @@ use lib.ListN.{length, get_or, take, drop, set, replicate, length-append, length
 use lib.Seq.{take_at, drop_at, drop-drop, set_split}
 use lib.Dec.{leb}
 use borrow.Author.Tests.{le-leb, leb-true}
-use Rattle.rules.specs.Numbers.{record_tag, list_most, long_answer, selection_bytes, selection_depth, Read, got, refused, number, on_read, and_then}
+use Rattle.rules.specs.Numbers.{record_tag, list_most, selection_bytes, selection_depth, Fault, open_quote, nothing_escaped, range_bracket, wildcard, fuzzy_term, sloppy_phrase, unexpected_end, unexpected_token, open_bracket, bad_numeral, no_numeral, long_field, many_brackets, long_numeral, fault_number, Refusal, long_text, not_ascii, bad_setup, faulty, long_answer, long_query, malformed_query, deep_query, long_list, malformed_list, many_queries, short_room, Read, got, refused, number, on_read, and_then}
 use Rattle.rules.specs.Bytes.{Bytes, big, body_of, rest_of, whole_of, is_part, every, each, some}
 use Rattle.rules.specs.Query.{Query}
 use Rattle.rules.specs.Reading.{number_of, read_for_selection}
@@ -18,20 +18,27 @@ use Rattle.rules.specs.Lists.{Entry, is_entry, entry_of, is_record, record_of, r
 use Rattle.rules.specs.Matching.{bit, matches, chosen_from, chosen}
 use Rattle.rules.specs.Answers.{Left, zeros, leave, fitting, call, selected, row_bytes, rows_reply, select_left}
 use Rattle.rules.proofs.Bools.{alike, and_l, and_r}
-use Rattle.rules.proofs.Stored.Refusals.{number_got, number_not, number_some, on_number}
+use Rattle.rules.proofs.Stored.Refusals.{number_got, number_some}
 use Rattle.rules.proofs.Stored.Bigs.{length_big}
 use Rattle.rules.proofs.Stored.Parts.{part_is, less_empty, more_empty, rest_shorter, length_whole}
 use Rattle.rules.proofs.Stored.Rows.{first, others, each_done, each_next, Row, done, next, row}
 use Rattle.rules.proofs.Stored.Accepted.{Accepted, accepted, Listed, listed as list_accepted}
 use Rattle.rules.proofs.Choosing.Choices.{selection, selected_is, chosen_few}
 use Rattle.numbers.specs.Laid.{laid, Put}
-use Rattle.selection.specs.declared.select.Selected.TheVariants.{Refused, Chosen}
+use Rattle.std.specs.Int.{from_bool as bool_byte}
+use Rattle.std.specs.Prelude.{Result, Ok, Err, Option, Some, None}
+use Rattle.selection.specs.declared.ask.Plan.{Plan}
+use Rattle.names.specs.Refusals.{numbered, coded as code_of, coded_fault, checked}
+use Rattle.names.specs.declared.refusal.Refusal.{Refusal as Code}
+use Rattle.names.specs.declared.refusal.Refusal.TheVariants as code
+use Rattle.selection.specs.declared.ask.Question.{Question}
+use Rattle.selection.specs.Ask.{Planned, Prepared, Begun, Asked, Ready as RecordReady}
 use Rattle.entries.specs.Slots.{slots_many, hash_of, Before}
 use Rattle.wanted.specs.Wanted.{calls_by}
 use Rattle.wanted.specs.Marks.{is_marked, Marks}
 use Rattle.wanted.proofs.Occurring.{unwanted_empty}
 use Rattle.matching.specs.Truth.{Truth, StoredFor}
-use Rattle.selection.specs.Select.{listed, within, coded, rows_of, answer_of, rows_after, Selects, told, SelectsBytes}
+use Rattle.selection.specs.Select.{listed, within, coded, rows_of, answer_of, rows_after, Selects, SelectsBytes}
 
 -- ---- what was checked
 
@@ -55,22 +62,77 @@ module _ {s l : List ℕ} (R : Ready s l) where
   pub numbers : listed (selected s l) ≡ chosen R.query.query (each record_of l)
   numbers = ap listed R.picks
 
+-- a refusal has the number that the rules give it
+numbered_fault : (f : Fault) → numbered (coded_fault f) ≡ fault_number f
+numbered_fault open_quote = refl
+numbered_fault nothing_escaped = refl
+numbered_fault range_bracket = refl
+numbered_fault wildcard = refl
+numbered_fault fuzzy_term = refl
+numbered_fault sloppy_phrase = refl
+numbered_fault unexpected_end = refl
+numbered_fault unexpected_token = refl
+numbered_fault open_bracket = refl
+numbered_fault bad_numeral = refl
+numbered_fault no_numeral = refl
+numbered_fault long_field = refl
+numbered_fault many_brackets = refl
+numbered_fault long_numeral = refl
+
+pub numbered_coded : (r : Refusal) → numbered (code_of r) ≡ number r
+numbered_coded long_text = refl
+numbered_coded not_ascii = refl
+numbered_coded bad_setup = refl
+numbered_coded (faulty f p) = numbered_fault f
+numbered_coded long_answer = refl
+numbered_coded long_query = refl
+numbered_coded malformed_query = refl
+numbered_coded deep_query = refl
+numbered_coded long_list = refl
+numbered_coded malformed_list = refl
+numbered_coded many_queries = refl
+numbered_coded short_room = refl
+
+ok_same : {m n : ℕ} → m ≡ n → ◌≡◌ {A = Result ℕ Code} (Ok m) (Ok n)
+ok_same e = cc
+
+err_same : {c d : Code} → c ≡ d → ◌≡◌ {A = Result ℕ Code} (Err c) (Err d)
+err_same e = cc
+
+-- what a check says
+module _ {A : Type 0} where
+  pub sound : (o : Read A) {u : Unit {0}} → Ok u ≡ checked o → number_of o ≡ 0
+  sound (got a) e = refl
+  sound (refused r) e = cc
+
+  pub passes : (o : Read A) → number_of o ≡ 0 → checked o ≡ Ok tt
+  passes (got a) e = refl
+  passes (refused r) e = absurd (number_some r e)
+
+  pub unsound : (o : Read A) {c : Code} → Err c ≡ checked o → (r : Refusal) × (o ≡ refused r) × (c ≡ code_of r)
+  unsound (got a) e = cc
+  unsound (refused r) e = (r, refl, cc)
+
 -- the order of the refusals
-pub no_query : (s l : List ℕ) (n : ℕ) → n ≡ number_of (read_for_selection s) → (n ≡ 0 → ⊥) → n ≡ number_of (selected s l)
+pub no_query : (s l : List ℕ) {c : Code} → Err c ≡ checked (read_for_selection s) → Err c ≡ checked (selected s l)
 unfolding selected
-no_query s l n e h = go (read_for_selection s) e
+no_query s l e = go (read_for_selection s) e
   where
-    go : (o : Read Query) → n ≡ number_of o → n ≡ number_of (and_then o (λ q. on_read (chosen q) (read_list l)))
-    go (got q) e = absurd (h e)
+    go : (o : Read Query) {c : Code} → Err c ≡ checked o → Err c ≡ checked (and_then o (λ q. on_read (chosen q) (read_list l)))
+    go (got q) e = cc
     go (refused r) e = e
 
-pub then_list : (s l : List ℕ) (n m : ℕ) → n ≡ number_of (read_for_selection s) → n ≡ 0 → m ≡ number_of (read_list l) → m ≡ number_of (selected s l)
+pub then_list : (s l : List ℕ) {u : Unit {0}} {x : Result (Unit {0}) Code} → Ok u ≡ checked (read_for_selection s) → x ≡ checked (read_list l) → x ≡ checked (selected s l)
 unfolding selected
-then_list s l n m e h k = go (read_for_selection s) e
+then_list s l {x = x} e k = go (read_for_selection s) e
   where
-    go : (o : Read Query) → n ≡ number_of o → m ≡ number_of (and_then o (λ q. on_read (chosen q) (read_list l)))
-    go (got q) e = k ∙ sym (on_number (chosen q) (read_list l))
-    go (refused r) e = absurd (number_some r (sym e ∙ h))
+    listing : (q : Query) (o : Read (List (List Entry))) → checked (on_read (chosen q) o) ≡ checked o
+    listing q (got rs) = refl
+    listing q (refused r) = refl
+
+    go : (o : Read Query) {u : Unit {0}} → Ok u ≡ checked o → x ≡ checked (and_then o (λ q. on_read (chosen q) (read_list l)))
+    go (got q) e = k ∙ sym (listing q (read_list l))
+    go (refused r) e = cc
 
 -- ---- one record after the other
 
@@ -157,7 +219,54 @@ module _ (l t : List ℕ) {b : List ℕ} (eb : b ≡ body_of t) (w : whole_of t 
   pub before_next : {slots u : List ℕ} → u ≡ rest_of t → Before slots (front l t + length b) → Before slots (front l u)
   before_next eu B = let k = ap length eb in let j = ap length eu in before_more B (omega (arith, length_whole t w))
 
+planned_same : {p q : Plan} → Some p ≡ Some q → p ≡ q
+planned_same h = cc
+
+pub planned_some : {s w : List ℕ} (p : Plan) → Marks s w p.ranges → Truth s [] p.bare → length w ≡ slots_many → Planned s w (Some p)
+planned_some {s} {w} p M T h = record {
+  many = h;
+  marks = λ q e. subst (λ (x : Plan). Marks s w x.ranges) (planned_same e) M;
+  bare = λ q e. subst (λ (x : Plan). Truth s [] x.bare) (planned_same e) T;
+}
+
+pub planned_none : {s w : List ℕ} {o : Option Plan} → o ≡ None → length w ≡ slots_many → Planned s w o
+planned_none e h = rw e (record { many = h; marks = λ p z. cc; bare = λ p z. cc })
+
+-- a query that is asked from record to record: the entries of the next one begin at n
+pub record Going (s : List ℕ) (n : ℕ) (q : Question) : Type 0 where
+  pub prepared : Prepared q
+  pub query : q.query.now ≡ s
+  pub before : Before q.slots n
+
+pub going_start : (l : List ℕ) {s : List ℕ} {q : Question} → Begun s q → Going s (front l l) q
+going_start l B = record { prepared = B.prepared; query = B.query; before = rw B.zeros (before_all l) }
+
+module _ {s rec : List ℕ} {n : ℕ} {q new : Question} {y : Bool} (G : Going s n q) (A : Asked q rec n new y) where
+  pub going_truth : Truth s (each entry_of rec) y
+  going_truth = rw G.query at A.truth
+
+  pub going_next : {m : ℕ} → (Before new.slots (n + length rec) → Before new.slots m) → Going s m new
+  going_next h = record { prepared = A.prepared; query = A.query ∙ G.query; before = h A.before }
+
+-- the record at t in the list
+pub ready_record : {s l : List ℕ} (t : List ℕ) {b slots : List ℕ} → Ready s l → 0 < length t → every is_record t ≡ true → b ≡ body_of t → length t ≤ length l → Before slots (front l t)
+    → RecordReady slots b (front l t)
+ready_record {l = l} t R more h eb w B = record {
+  entries = rw eb (record_entries t (first_record t more h));
+  fits = record_fits l t eb (record_whole t (first_record t more h)) w R.list.long;
+  before = B;
+}
+
 -- ---- counting
+
+-- a Boolean as a number
+pub byte_bit : (y : Bool) {k : ℕ} → k ≡ bool_byte y → k ≡ bit y
+byte_bit true e = e
+byte_bit false e = e
+
+pub byte_few : (y : Bool) {k : ℕ} → k ≡ bool_byte y → k ≤ 1
+byte_few true e = omega arith
+byte_few false e = omega arith
 
 pub count_next : (n N i : ℕ) (y : Bool) {k : ℕ} (all more : List ℕ) → all ≡ cond y (i ∷ more) more → k ≡ bit y → n + length all ≡ N → n + k + length more ≡ N
 count_next n N i true all more e f h = let l = ap length e in omega arith
@@ -311,11 +420,11 @@ one_put out w i h = record {
 -- ---- the answers
 
 module _ (s l : List ℕ) where
-  pub refuse : (before : List ℕ) (n : ℕ) → n ≡ number_of (selected s l) → (n ≡ 0 → ⊥) → Selects s l before before (Refused n)
-  refuse before n e h =
-      let r = number_not (selected s l) (λ z. h (e ∙ z)) in
+  pub refuse : (before : List ℕ) {c : Code} → Err c ≡ checked (selected s l) → Selects s l before before (Err c)
+  refuse before {c} e =
+      let r = unsound (selected s l) e in
       record {
-        answer = ap Refused (e ∙ ap number_of r.1) ∙ sym (ap (λ (o : Read (List ℕ)). answer_of (within (length before) o)) r.1);
+        answer = err_same r.2 ∙ sym (ap (λ (o : Read (List ℕ)). answer_of (within (length before) o)) r.1);
         rows = sym (ap (λ (o : Read (List ℕ)). rows_after (within (length before) o) before) r.1);
       }
 
@@ -329,15 +438,15 @@ module _ (s l : List ℕ) where
     within_no : (n : ℕ) → leb (length (listed (selected s l))) n ≡ false → within n (selected s l) ≡ refused long_answer
     within_no n h = ap (within n) is_got ∙ rw h
 
-    pub no_room : (before : List ℕ) → leb (length (listed (selected s l))) (length before) ≡ false → Selects s l before before (Refused (number long_answer))
+    pub no_room : (before : List ℕ) → leb (length (listed (selected s l))) (length before) ≡ false → Selects s l before before (Err code.LongAnswer)
     no_room before h = let e = within_no (length before) h in record { answer = sym (ap answer_of e); rows = sym (ap (λ (o : Read (List ℕ)). rows_after o before) e) }
 
     pub choose : (before after : List ℕ) (n : ℕ) → leb (length (listed (selected s l))) (length before) ≡ true → n ≡ length (listed (selected s l))
-        → after ≡ listed (selected s l) ++ drop n before → Selects s l before after (Chosen n)
+        → after ≡ listed (selected s l) ++ drop n before → Selects s l before after (Ok n)
     choose before after n h en ea =
         let e = within_yes (length before) h in
         record {
-          answer = ap Chosen en ∙ sym (ap answer_of e);
+          answer = ok_same en ∙ sym (ap answer_of e);
           rows = ea ∙ ap {B = List ℕ} (λ k. listed (selected s l) ++ drop k before) en ∙ sym (ap (λ (o : Read (List ℕ)). rows_after o before) e);
         }
 
@@ -366,14 +475,14 @@ module _ (s l rows room : List ℕ) where
   left_by o e = no_room_asked ∙ ap (λ (o : Read (List ℕ)). leave (and_then (on_read rows_reply o) (fitting (length rows))) rows room) e
 
   module _ {after : List ℕ} (clean : after ≡ zeros room) where
-    pub refuse_bytes : (n : ℕ) → n ≡ number_of (selected s l) → (n ≡ 0 → ⊥) → SelectsBytes s l rows room rows after (Refused n)
-    refuse_bytes n e h =
-        let r = number_not (selected s l) (λ z. h (e ∙ z)) in
+    pub refuse_bytes : {c : Code} → Err c ≡ checked (selected s l) → SelectsBytes s l rows room rows after (Err c)
+    refuse_bytes {c} e =
+        let r = unsound (selected s l) e in
         let L = left_by (refused r.0) r.1 in
-        let k : n ≡ number r.0 = e ∙ ap number_of r.1 in
+        let k : numbered c ≡ number r.0 = ap numbered r.2 ∙ numbered_coded r.0 in
         record {
-          is = ap Refused k ∙ sym (ap (λ (o : Read (List ℕ)). answer_of (within (length rows / 4) o)) r.1);
-          answer = ap (λ (m : ℕ). told (Refused m)) k ∙ sym (ap (λ (x : Left). x.answer) L);
+          is = err_same r.2 ∙ sym (ap (λ (o : Read (List ℕ)). answer_of (within (length rows / 4) o)) r.1);
+          answer = rw k (sym (ap (λ (x : Left). x.answer) L));
           output = sym (ap (λ (x : Left). x.output) L);
           cleared = clean ∙ sym (ap (λ (x : Left). x.room) L);
           few = omega arith;
@@ -383,7 +492,7 @@ module _ (s l rows room : List ℕ) where
       left_got : select_left s l rows room ≡ leave (fitting (length rows) (rows_reply (listed (selected s l)))) rows room
       left_got = left_by (got (listed (selected s l))) (is_got s l z)
 
-      pub no_room_bytes : leb (length (listed (selected s l))) (length rows / 4) ≡ false → SelectsBytes s l rows room rows after (Refused (number long_answer))
+      pub no_room_bytes : leb (length (listed (selected s l))) (length rows / 4) ≡ false → SelectsBytes s l rows room rows after (Err code.LongAnswer)
       no_room_bytes h =
           let L : select_left s l rows room ≡ leave (refused long_answer) rows room = left_got ∙ rw (fits_alike (listed (selected s l)) (length rows), h) in
           record {
@@ -396,14 +505,14 @@ module _ (s l rows room : List ℕ) where
 
       pub choose_bytes : (new : List ℕ) (w : ℕ) → leb (length (listed (selected s l))) (length rows / 4) ≡ true → length (listed (selected s l)) ≤ list_most
           → w ≡ length (row_bytes (listed (selected s l))) → new ≡ row_bytes (listed (selected s l)) ++ drop w rows
-          → SelectsBytes s l rows room new after (Chosen (w / 4))
+          → SelectsBytes s l rows room new after (Ok (w / 4))
       choose_bytes new w h f ew en =
           let ns = listed (selected s l) in
           let n : w / 4 ≡ length ns = omega (arith, length_rows ns) in
           let m : 4 * length ns ≡ length (row_bytes ns) = sym (length_rows ns) in
           let L : select_left s l rows room ≡ leave (got (rows_reply ns)) rows room = left_got ∙ rw (fits_alike ns (length rows), h) in
           record {
-            is = ap Chosen n ∙ sym (ap answer_of (within_yes s l z (length rows / 4) h));
+            is = ok_same n ∙ sym (ap answer_of (within_yes s l z (length rows / 4) h));
             answer = rw (n, m) (sym (ap (λ (x : Left). x.answer) L));
             output = en ∙ ap {B = List ℕ} (λ k. row_bytes ns ++ drop k rows) ew ∙ sym (ap (λ (x : Left). x.output) L);
             cleared = clean ∙ sym (ap (λ (x : Left). x.room) L);

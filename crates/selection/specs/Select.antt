@@ -1,10 +1,10 @@
 -- What a selection answers, and what it leaves in the rows and in the room.
-use Rattle.std.specs.Prelude.{◌≡◌, ℕ, ◌*◌, ◌/◌, ◌≤◌, Bool, cond, List, [], ◌∷◌, ◌++◌, length, drop, leb}
-use Rattle.rules.specs.Numbers.{list_most, long_answer, number, Read, got, refused, need, and_then}
+use Rattle.std.specs.Prelude.{◌≡◌, ℕ, ◌*◌, ◌/◌, ◌≤◌, Bool, cond, List, [], ◌∷◌, ◌++◌, length, drop, leb, Result, Ok, Err}
+use Rattle.rules.specs.Numbers.{list_most, long_answer, Read, got, refused, need, and_then}
 use Rattle.rules.specs.Bytes.{big}
 use Rattle.rules.specs.Answers.{Answer, selected, row_bytes, select_left}
-use Rattle.selection.specs.declared.select.Selected.{Selected}
-use Rattle.selection.specs.declared.select.Selected.TheVariants.{Refused, Chosen}
+use Rattle.names.specs.Refusals.{numbered, answered}
+use Rattle.names.specs.declared.refusal.Refusal.{Refusal}
 
 -- the numbers that were selected; none where the selection is refused
 abbrev pub listed : Read (List ℕ) → List ℕ
@@ -30,27 +30,26 @@ filled in_bytes rows bytes = cond in_bytes bytes rows
 
 -- ---- rows of numbers
 
-abbrev pub answer_of : Read (List ℕ) → Selected
-answer_of (refused r) = Refused (number r)
-answer_of (got ns) = Chosen (length ns)
+abbrev pub answer_of : Read (List ℕ) → Result ℕ Refusal
+answer_of o = answered length o
 
 abbrev pub rows_after : Read (List ℕ) → List ℕ → List ℕ
 rows_after (refused r) before = before
 rows_after (got ns) before = ns ++ drop (length ns) before
 
-pub record Selects (s l before after : List ℕ) (r : Selected) : Type 0 where
+pub record Selects (s l before after : List ℕ) (r : Result ℕ Refusal) : Type 0 where
   pub answer : r ≡ answer_of (within (length before) (selected s l))
   pub rows : after ≡ rows_after (within (length before) (selected s l)) before
 
 -- ---- rows of bytes
 
 -- the paper's number and values for each case of the answer
-abbrev pub told : Selected → Answer
-told (Refused r) = record { refusal = r; written = 0; count = 0; rounds = 0; place = 0 }
-told (Chosen n) = record { refusal = 0; written = 4 * n; count = n; rounds = 0; place = 0 }
+abbrev pub told : Result ℕ Refusal → Answer
+told (Err r) = record { refusal = numbered r; written = 0; count = 0; rounds = 0; place = 0 }
+told (Ok n) = record { refusal = 0; written = 4 * n; count = n; rounds = 0; place = 0 }
 
 -- the answer's case, its numbers, what the rows and the room hold afterwards; and a bound on the count, for a caller that narrows it
-pub record SelectsBytes (s l rows room rows-after room_after : List ℕ) (r : Selected) : Type 0 where
+pub record SelectsBytes (s l rows room rows-after room_after : List ℕ) (r : Result ℕ Refusal) : Type 0 where
   pub is : r ≡ answer_of (within (length rows / 4) (selected s l))
   pub answer : told r ≡ (select_left s l rows room).answer
   pub output : rows-after ≡ (select_left s l rows room).output

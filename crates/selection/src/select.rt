@@ -1,41 +1,32 @@
 // Selection: the numbers, from 0, of the records that a query is true of, into rows that the caller lends. The query and the list are checked
 // once. Whether the rows are long enough is known at once where they hold every record; only else is it counted before anything is written.
-ghost use Rattle.std.specs.Prelude.{◌≡◌, ◌+◌, ◌≤◌, true, cond, [], ◌++◌, leb, length, drop};
-ghost use Rattle.rules.specs.Bytes.{every, each};
+ghost use Rattle.std.specs.Prelude.{◌≡◌, ◌+◌, ◌≤◌, true, ◌++◌, leb, length, drop};
+ghost use Rattle.rules.specs.Bytes.{Bytes, every, each};
+ghost use Rattle.names.specs.Refusals.{checked};
 ghost use Rattle.rules.specs.Reading.{number_of};
 ghost use Rattle.rules.specs.Lists.{is_record, record_of};
-ghost use Rattle.rules.specs.Matching.{bit};
 ghost use Rattle.rules.specs.Answers.{selected};
 ghost use Rattle.numbers.specs.Laid.{Put};
 ghost use Rattle.selection.specs.Select.{listed, coded, rows_of, filled, Selects, SelectsBytes};
 
-use super::ask::{is_chosen, prepare};
-use entries::slots::SLOTS;
+use super::ask::Question;
 use lists::check_list;
-use names::{HEADER, LONG_ANSWER, SELECTION_DEPTH};
+use names::HEADER;
+use names::refusal::Refusal;
 use numbers::put_big4;
 use parts::part::{body, rest};
 use stored::read::for_selection;
 use stretches::clear;
 
-// A refusal by its number, or how many records were chosen.
-#[derive(Clone, Copy)]
-pub enum Selected {
-    Refused(u8),
-    Chosen(usize),
-}
-
-// 0 where both are sound.
-fn checked(query: &[u8], list: &[u8]) -> u8
-    ensures { result ≡ number_of (selected query.now list.now) }
+// That both are sound, or what is wrong first.
+fn check(query: &[u8], list: &[u8]) -> Result<(), Refusal>
+    ensures { result ≡ checked (selected query.now list.now) }
 {
-    let fault = for_selection(query);
-    if fault != 0 {
-        return fault;
-    }
+    for_selection(query)?;
     check_list(list)
 }
 
+// Stays: how many there are is known only at the end, so that there is no range to go over.
 pub fn records(list: &[u8]) -> usize
     requires { every is_record list.now ≡ true }
     ensures { result ≡ length (each record_of list.now) }
@@ -44,62 +35,20 @@ pub fn records(list: &[u8]) -> usize
     let mut t = list;
     while t.len() > 0 {
         n += 1;
-        let u = rest(t);
-        t = u;
+        t = rest(t);
     }
     n
-}
-
-fn one(y: bool) -> usize
-    ensures { (result ≡ bit y) × (result ≤ 1) }
-{
-    if y { 1 } else { 0 }
-}
-
-fn count(query: &[u8], list: &[u8]) -> usize
-    requires { number_of (selected query.now list.now) ≡ 0 }
-    ensures { result ≡ length (listed (selected query.now list.now)) }
-{
-    let mut row = [0u64; SELECTION_DEPTH];
-    let mut slots = [0u16; SLOTS];
-    let mut wanted = [0u8; SLOTS];
-    let plan = prepare(query, &mut wanted, &slots, &mut row);
-    let mut n: usize = 0;
-    let mut t = list;
-    while t.len() > 0 {
-        let from = list.len() - t.len() + HEADER;
-        n += one(is_chosen(query, body(t), from, plan, &wanted, &mut slots, &mut row));
-        let u = rest(t);
-        t = u;
-    }
-    n
-}
-
-// Whether n numbers are room enough.
-fn fits(query: &[u8], list: &[u8], n: usize) -> bool
-    requires { number_of (selected query.now list.now) ≡ 0 }
-    ensures { result ≡ leb (length (listed (selected query.now list.now))) n }
-{
-    if records(list) <= n {
-        return true;
-    }
-    count(query, list) <= n
 }
 
 // The number of a list's first record.
 const FIRST: u32 = 0;
 
-// ---- rows of either kind: `in_bytes` says which of the two are filled, and the caller lends empty ones for the others
-
-// The number i goes to w where y is true; the answer is where the next one goes.
-fn put(rows: &mut [u32], bytes: &mut [u8], in_bytes: bool, w: usize, i: u32, y: bool) -> usize
-    requires { w + length (cond y (coded in_bytes i) []) ≤ length (filled in_bytes rows.old bytes.old) }
-    ensures { Put (filled in_bytes rows.old bytes.old) w (cond y (coded in_bytes i) []) result
-        (filled in_bytes rows.new bytes.new) }
+// Stays: a function over the kind of row wants bytes laid in rows of any type, and `numbers::specs::Laid`, which the theorems name, speaks of numbers alone.
+// The number i goes to w, in rows of either kind; the answer is where the next one goes.
+fn put(rows: &mut [u32], bytes: &mut [u8], in_bytes: bool, w: usize, i: u32) -> usize
+    requires { w + length (coded in_bytes i) ≤ length (filled in_bytes rows.old bytes.old) }
+    ensures { Put (filled in_bytes rows.old bytes.old) w (coded in_bytes i) result (filled in_bytes rows.new bytes.new) }
 {
-    if !y {
-        return w;
-    }
     if in_bytes {
         return put_big4(bytes, w, i);
     }
@@ -107,63 +56,106 @@ fn put(rows: &mut [u32], bytes: &mut [u8], in_bytes: bool, w: usize, i: u32, y: 
     w + 1
 }
 
-fn fill(query: &[u8], list: &[u8], rows: &mut [u32], bytes: &mut [u8], in_bytes: bool) -> usize
-    requires { (number_of (selected query.now list.now) ≡ 0)
-        × (length (rows_of in_bytes (listed (selected query.now list.now))) ≤ length (filled in_bytes rows.old bytes.old)) }
-    ensures { (result ≡ length (rows_of in_bytes (listed (selected query.now list.now))))
-        × (filled in_bytes rows.new bytes.new
-        ≡ rows_of in_bytes (listed (selected query.now list.now)) ++ drop result (filled in_bytes rows.old bytes.old)) }
-{
-    let mut row = [0u64; SELECTION_DEPTH];
-    let mut slots = [0u16; SLOTS];
-    let mut wanted = [0u8; SLOTS];
-    let plan = prepare(query, &mut wanted, &slots, &mut row);
-    let mut w: usize = 0;
-    let mut i = FIRST;
-    let mut t = list;
-    while t.len() > 0 {
-        let from = list.len() - t.len() + HEADER;
-        let y = is_chosen(query, body(t), from, plan, &wanted, &mut slots, &mut row);
-        w = put(rows, bytes, in_bytes, w, i, y);
-        i += 1;
-        let u = rest(t);
-        t = u;
+// A query and a list that are sound, and how many records the list has.
+#[derive(Clone, Copy)]
+struct Checked<'a> {
+    query: &'a [u8],
+    list: &'a [u8],
+    records: usize,
+    ghost sound: { number_of (selected query.now list.now) ≡ 0 },
+    ghost all: { records ≡ length (each record_of list.now) },
+}
+
+impl Checked<'_> {
+    // Not inlined: the rows of a question would stand twice on the stack.
+    #[inline(never)]
+    fn count(&self) -> usize
+        requires { Bytes self.now.query.now }
+        ensures { result ≡ length (listed (selected self.now.query.now self.now.list.now)) }
+    {
+        let mut question = Question::new(self.query);
+        question.prepare();
+        let mut n: usize = 0;
+        let mut t = self.list;
+        for _i in 0..self.records {
+            let from = self.list.len() - t.len() + HEADER;
+            n += usize::from(question.is_chosen(body(t), from));
+            t = rest(t);
+        }
+        n
     }
-    w
+
+    // Whether n numbers are room enough.
+    fn fits(&self, n: usize) -> bool
+        requires { Bytes self.now.query.now }
+        ensures { result ≡ leb (length (listed (selected self.now.query.now self.now.list.now))) n }
+    {
+        self.records <= n || self.count() <= n
+    }
+
+    // Into rows of either kind: `in_bytes` says which of the two are filled, and the caller lends empty ones for the others. Not inlined, as `count` is not.
+    #[inline(never)]
+    fn fill(&self, rows: &mut [u32], bytes: &mut [u8], in_bytes: bool) -> usize
+        requires { Bytes self.now.query.now
+            × (length (rows_of in_bytes (listed (selected self.now.query.now self.now.list.now))) ≤ length (filled in_bytes rows.old bytes.old)) }
+        ensures { (result ≡ length (rows_of in_bytes (listed (selected self.now.query.now self.now.list.now))))
+            × (filled in_bytes rows.new bytes.new
+            ≡ rows_of in_bytes (listed (selected self.now.query.now self.now.list.now)) ++ drop result (filled in_bytes rows.old bytes.old)) }
+    {
+        let mut question = Question::new(self.query);
+        question.prepare();
+        let mut w: usize = 0;
+        let mut t = self.list;
+        for i in 0..self.records {
+            let from = self.list.len() - t.len() + HEADER;
+            if question.is_chosen(body(t), from) {
+                w = put(rows, bytes, in_bytes, w, FIRST + i as u32);
+            }
+            t = rest(t);
+        }
+        w
+    }
 }
 
 // ---- rows of 32-bit numbers
 
-pub fn select(query: &[u8], list: &[u8], rows: &mut [u32]) -> Selected
+pub fn select(query: &[u8], list: &[u8], rows: &mut [u32]) -> Result<usize, Refusal>
     ensures { Selects query.now list.now rows.old rows.new result }
 {
-    let n = checked(query, list);
-    if n != 0 {
-        return Selected::Refused(n);
+    check(query, list)?;
+    let records = records(list);
+    let checked = Checked {
+        query,
+        list,
+        records,
+    };
+    if !checked.fits(rows.len()) {
+        return Err(Refusal::LongAnswer);
     }
-    if !fits(query, list, rows.len()) {
-        return Selected::Refused(LONG_ANSWER);
-    }
-    let mut none = [0u8; 0];
-    let k = fill(query, list, rows, &mut none, false);
-    Selected::Chosen(k)
+    Ok(checked.fill(rows, &mut [], false))
 }
 
 // ---- rows of bytes: four for each number, big-endian, as everything stored is
 
 // The call of programs in other languages. It needs no room, and clears what it is lent.
-pub fn select_bytes(query: &[u8], list: &[u8], rows: &mut [u8], room: &mut [u8]) -> Selected
+pub fn select_bytes(
+    query: &[u8],
+    list: &[u8],
+    rows: &mut [u8],
+    room: &mut [u8],
+) -> Result<usize, Refusal>
     ensures { SelectsBytes query.now list.now rows.old room.old rows.new room.new result }
 {
     clear(room);
-    let n = checked(query, list);
-    if n != 0 {
-        return Selected::Refused(n);
+    check(query, list)?;
+    let records = records(list);
+    let checked = Checked {
+        query,
+        list,
+        records,
+    };
+    if !checked.fits(rows.len() / 4) {
+        return Err(Refusal::LongAnswer);
     }
-    if !fits(query, list, rows.len() / 4) {
-        return Selected::Refused(LONG_ANSWER);
-    }
-    let mut none = [0u32; 0];
-    let w = fill(query, list, &mut none, rows, true);
-    Selected::Chosen(w / 4)
+    Ok(checked.fill(&mut [], rows, true) / 4)
 }

@@ -30,15 +30,17 @@ use Rattle.rules.proofs.Rewriting.Bounds.{within_bytes}
 use Rattle.numbers.specs.Laid.{laid}
 use Rattle.numbers.proofs.Laying.{laid_front}
 use Rattle.parser.specs.Parsed.{left_of as parsed_left}
-use Rattle.parser.specs.declared.parse.Parsed.{Parsed as parsed-type}
-use Rattle.parser.specs.declared.parse.Parsed.TheVariants as parsed
-use Rattle.rewriter.specs.Rounds.{left}
+use Rattle.std.specs.Prelude.{Result, Ok, Err}
+use Rattle.names.specs.Refusals.{numbered}
+use Rattle.names.specs.declared.refusal.Fault.{Fault}
+use Rattle.rewriter.specs.Rounds.{left as rewriter_left, Rewrites}
+use Rattle.rewriter.specs.declared.rounds.Rounds.{Rounds}
+use Rattle.names.specs.declared.refusal.Refusal.{Refusal as code}
+use Rattle.names.specs.declared.refusal.Refusal.TheVariants.{LongAnswer, ShortRoom}
 use Rattle.show.specs.Lays.{Lays, place_most}
 use Rattle.show.specs.Lines.{written_in}
 use Rattle.show.specs.Node.{query_in}
 use Rattle.show.specs.Answer.{shown_refusal, refusal_text, answer_text, ToSay, Makes, text_reply, show_left, delivered, left_of}
-use Rattle.show.specs.declared.call.Shown.{Shown}
-use Rattle.show.specs.declared.call.Shown.TheVariants as shown
 use Rattle.show.proofs.Decimals.{decimal_long}
 use Rattle.show.proofs.Nodes.{query_in_lem}
 use Rattle.show.proofs.Lengths.{show_length}
@@ -77,6 +79,14 @@ module _ {s : List ℕ} {r p : ℕ} (n : r ≡ 0 → ⊥) (e : refusal_text r p 
     text = rw (ne_eqb r 0 n) e;
   }
 
+-- nothing that stands in the stretches is shown of it
+pub makes_none : {s : List ℕ} {r p w : ℕ} {first : List ℕ} {v : ℕ} {second : List ℕ} {n : ℕ} → Makes s r p w first v second n → (r ≡ 0 → ⊥) → {r' p' : ℕ} → r' ≡ r → p' ≡ p
+    → Makes s r' p' 0 first 0 second 0
+unfolding answer_text
+makes_none {s} {r} {p} {w} {first} {v} {second} {n} M z d c =
+    let e : answer_text r p (take w first) (take v second) n ≡ refusal_text r p = rw (ne_eqb r 0 z) in
+    rw (d, c) (makes_refused z (sym e ∙ M.text) M.to_say.near first second 0 0 0 (omega arith) (omega arith) (omega arith) (omega arith) (omega arith))
+
 -- ---- what parsing answered
 
 leave_room : (w : Refusal → ℕ) (o : Read Reply) (out room : List ℕ) → (leave_with w o out room).room ≡ zeros room
@@ -100,20 +110,20 @@ module _ (X : Read Query) (first room : List ℕ) (h : parse_room ≤ length roo
   as_long : {q : Query} → X ≡ got q → length first < length (encode q) → whole ≡ leave_at (refused long_answer) first room
   as_long {q} e l = called ∙ rw (e, lt-leb (length (encode q)) (length first) l)
 
-  pub parse_room_lem : (p : parsed-type) (first' room' : List ℕ) → parsed_left p first' room' ≡ whole → room' ≡ zeros room
+  pub parse_room_lem : (p : Result ℕ Fault) (first' room' : List ℕ) → parsed_left p first' room' ≡ whole → room' ≡ zeros room
   parse_room_lem p first' room' E = ap (λ (l : Left). l.room) (E ∙ called) ∙ leave_room place_of (and_then (on_read stored_reply X) (fitting (length first))) first room
 
   abbrev pub Unparsed : ℕ → ℕ → Type 0
   Unparsed e w =
       ((x : Refusal) × (X ≡ refused x) × (e ≡ number x) × (w ≡ place_of x)) ⊎ ((q : Query) × (X ≡ got q) × (length first < length (encode q)) × (e ≡ 18) × (w ≡ 0))
 
-  pub parse_refused : (e w : ℕ) (first' room' : List ℕ) {p : parsed-type} → p ≡ parsed.Refused e w → parsed_left p first' room' ≡ whole → Unparsed e w
-  parse_refused e w first' room' ep Ep = by X refl
+  pub parse_refused : (f : Fault) (first' room' : List ℕ) {p : Result ℕ Fault} → p ≡ Err f → parsed_left p first' room' ≡ whole → Unparsed (numbered f.refusal) f.place
+  parse_refused f first' room' ep Ep = by X refl
     where
-      E : parsed_left (parsed.Refused e w) first' room' ≡ whole
-      E = ap (λ (p : parsed-type). parsed_left p first' room') (sym ep) ∙ Ep
+      E : parsed_left (Err f) first' room' ≡ whole
+      E = ap (λ (p : Result ℕ Fault). parsed_left p first' room') (sym ep) ∙ Ep
 
-      fits : (q : Query) → X ≡ got q → (b : Bool) → leb (length (encode q)) (length first) ≡ b → Unparsed e w
+      fits : (q : Query) → X ≡ got q → (b : Bool) → leb (length (encode q)) (length first) ≡ b → Unparsed (numbered f.refusal) f.place
       fits q eX true t =
           let z : 0 ≡ length (encode q) = ap (λ (l : Left). l.answer.written) (E ∙ as_fitting eX (leb-true (length (encode q)) (length first) t)) in
           absurd (omega (arith, length_encode q))
@@ -122,7 +132,7 @@ module _ (X : Read Query) (first room : List ℕ) (h : parse_room ≤ length roo
           let F = E ∙ as_long eX l in
           inr (q, eX, l, ap (λ (l : Left). l.answer.refusal) F, ap (λ (l : Left). l.answer.place) F)
 
-      by : (o : Read Query) → X ≡ o → Unparsed e w
+      by : (o : Read Query) → X ≡ o → Unparsed (numbered f.refusal) f.place
       by (refused x) eX =
           let F = E ∙ as_refused eX in
           inl (x, eX, ap (λ (l : Left). l.answer.refusal) F, ap (λ (l : Left). l.answer.place) F)
@@ -135,11 +145,11 @@ module _ (X : Read Query) (first room : List ℕ) (h : parse_room ≤ length roo
     pub fits : n ≤ length first
     pub there : first' ≡ encode query ++ drop n first
 
-  pub parse_bytes : (n : ℕ) (first' room' : List ℕ) {p : parsed-type} → p ≡ parsed.Bytes n → parsed_left p first' room' ≡ whole → Parsed n first'
+  pub parse_bytes : (n : ℕ) (first' room' : List ℕ) {p : Result ℕ Fault} → p ≡ Ok n → parsed_left p first' room' ≡ whole → Parsed n first'
   parse_bytes n first' room' ep Ep = by X refl
     where
-      E : parsed_left (parsed.Bytes n) first' room' ≡ whole
-      E = ap (λ (p : parsed-type). parsed_left p first' room') (sym ep) ∙ Ep
+      E : parsed_left (Ok n) first' room' ≡ whole
+      E = ap (λ (p : Result ℕ Fault). parsed_left p first' room') (sym ep) ∙ Ep
 
       fits : (q : Query) → X ≡ got q → (b : Bool) → leb (length (encode q)) (length first) ≡ b → Parsed n first'
       fits q eX true t =
@@ -179,6 +189,24 @@ unparsed s first room h {e} {w} {r} {p} lf (inr (q, eX, l, ee, ew)) er ep =
     ((λ z. omega arith), ap (λ (k : ℕ). refusal_text k p) n ∙ ap (refusal_text 19) (ep ∙ ew) ∙ sym (written_text s ∙ rw (eX, read_long rewriter_bytes rewriter_depth (encode q) (omega arith))))
 
 -- ---- what rewriting answered
+
+-- by its numbers
+abbrev left : ℕ → ℕ → ℕ → List ℕ → List ℕ → Left
+left refusal len made output room = record {
+  answer = record { refusal = refusal; written = len; count = 0; rounds = made; place = 0 };
+  output = output;
+  room = room;
+}
+
+module _ {strict : Bool} {s out room out' room' : List ℕ} {r : Result Rounds code} (R : Rewrites strict s out room r out' room') where
+  rewritten_is : {x : Result Rounds code} → r ≡ x → rewriter_left x out' room' ≡ rewrite_left strict s out room
+  rewritten_is e = ap (λ (x : Result Rounds code). rewriter_left x out' room') (sym e) ∙ R.is
+
+  pub rewritten_bytes : {a : Rounds} → r ≡ Ok a → left 0 a.len a.rounds out' room' ≡ rewrite_left strict s out room
+  rewritten_bytes e = rewritten_is e
+
+  pub rewritten_refused : {e : code} → r ≡ Err e → left (numbered e) 0 0 out' room' ≡ rewrite_left strict s out room
+  rewritten_refused e = rewritten_is e
 
 module _ (s : List ℕ) {q : Query} (eX : written_in s ≡ got q) (w second room : List ℕ) (e : w ≡ encode q) (hr : rewrite_room ≤ length room) (hs : selection_bytes ≤ length second) where
   text_is : show_text s ≡ or_refusal (on_read (λ p. show_rewritten p (rewrite original p)) (read_for_rewriting w))
@@ -272,12 +300,12 @@ answer_length {r} {p} {w} {v} {n} T h = by (eqb r 0) refl
 
 -- ---- delivery
 
-pub too_long : (t out last : List ℕ) → length last ≡ 0 → length out < length t → left_of (shown.Refused 18) (last ++ out) [] ≡ delivered t out []
+pub too_long : (t out last : List ℕ) → length last ≡ 0 → length out < length t → left_of (Err LongAnswer) (last ++ out) [] ≡ delivered t out []
 unfolding delivered call
 too_long t out last z h = rw (lt-leb (length t) (length out) h, empty_nil last (none_empty last z))
 
 pub fits : (t out last : List ℕ) {out' : List ℕ} (n : ℕ) {next : ℕ} → length last ≡ 0 → 0 + length t ≤ place_most → n ≡ 0 + length t → n ≤ length (last ++ out)
-    → Lays (last ++ out) 0 t next out' → left_of (shown.Bytes n) out' [] ≡ delivered t out []
+    → Lays (last ++ out) 0 t next out' → left_of (Ok n) out' [] ≡ delivered t out []
 unfolding delivered call
 fits t out last {out'} n z far e h L =
     let m : n ≡ length t = omega arith in
@@ -305,27 +333,24 @@ cleared s out room h = rw (le-leb rewrite_room (length room) h) (by (leb (length
 abbrev told : Left → List ℕ → Left
 told l u = record { answer = l.answer; output = l.output; room = u }
 
-pub whole_left : (s out room : List ℕ) → rewrite_room ≤ length room → (r : Shown) (t out' room' : List ℕ) → left_of r out' [] ≡ delivered t out [] → t ≡ show_text s
+pub whole_left : (s out room : List ℕ) → rewrite_room ≤ length room → (r : Result ℕ code) (t out' room' : List ℕ) → left_of r out' [] ≡ delivered t out [] → t ≡ show_text s
     → room' ≡ zeros room → left_of r out' room' ≡ show_left s out room
 whole_left s out room h r t out' room' D e z =
     ap (λ (l : Left). told l room') D ∙ ap (λ (u : List ℕ). told (delivered u out []) room') e
     ∙ ap (told (delivered (show_text s) out [])) z ∙ cleared s out room h
 
-pub short_left : (s out room room' : List ℕ) → length room < rewrite_room → room' ≡ zeros room → left_of (shown.Refused 32) out room' ≡ show_left s out room
+pub short_left : (s out room room' : List ℕ) → length room < rewrite_room → room' ≡ zeros room → left_of (Err ShortRoom) out room' ≡ show_left s out room
 unfolding show_left call
 short_left s out room room' h z = rw (lt-leb rewrite_room (length room) h, z)
 
-pub rewrite_room_lem : (w out room : List ℕ) {r len k : ℕ} {out' room' : List ℕ} → left r len k out' room' ≡ rewrite_left original w out room → room' ≡ zeros room
+pub rewrite_room_lem : (w out room : List ℕ) {r : Result Rounds code} {out' room' : List ℕ} → Rewrites original w out room r out' room' → room' ≡ zeros room
 unfolding rewrite_left call
-rewrite_room_lem w out room E = ap (λ (l : Left). l.room) E ∙ leave_room (λ x. 0) (need (leb rewrite_room (length room)) short_room (and_then (rewrite_reply original w) (fitting (length out)))) out room
+rewrite_room_lem w out room R = ap (λ (l : Left). l.room) R.is ∙ leave_room (λ x. 0) (need (leb rewrite_room (length room)) short_room (and_then (rewrite_reply original w) (fitting (length out)))) out room
 
 -- what was made, however code cuts its stretches
 module _ {s : List ℕ} {r p w : ℕ} {first : List ℕ} {v : ℕ} {second : List ℕ} {n : ℕ} (M : Makes s r p w first v second n) where
   cut : (k : ℕ) → k - 0 ≡ k
   cut k = omega arith
-
-  pub made_to_say : ToSay r p (take (w - 0) first) (take (v - 0) second) n
-  made_to_say = rw (cut w, cut v) M.to_say
 
   pub made_text : answer_text r p (take (w - 0) first) (take (v - 0) second) n ≡ show_text s
   made_text = rw (cut w, cut v) M.text

@@ -17,8 +17,10 @@ use Rattle.rules.specs.Answers.{Left}
 use Rattle.rules.proofs.Answers.{Telling, call_telling, of_answer, refusal_told, same_answer}
 use Rattle.rules.proofs.Stored.Refusals.{got_same}
 use Rattle.show.specs.Answer.{text_reply, show_left, answer_of, left_of}
-use Rattle.show.specs.declared.call.Shown.{Shown}
-use Rattle.show.specs.declared.call.Shown.TheVariants.{Refused, Bytes}
+use Rattle.std.specs.Prelude.{Result, Ok, Err}
+use Rattle.names.specs.Refusals.{numbered}
+use Rattle.names.specs.declared.refusal.Refusal.{Refusal}
+use Rattle.show.proofs.Refusals.{with_number, back}
 
 rewritten_some : (q : Query) (r : Rewritten) → 0 < length (show_rewritten q r)
 unfolding show_rewritten ascii
@@ -44,17 +46,17 @@ text_some s = by (show_setup (first_line s))
     by (got st) = then (parse st (second_line s))
     by (refused x) = omega arith
 
-told : (p : Shown) → Telling (answer_of p) → of_answer (λ n w. Refused n) Bytes (answer_of p) ≡ p
-told (Refused n) t = refusal_told (λ n w. Refused n) Bytes n 0 t
-told (Bytes n) t = refl
+told : (p : Result ℕ Refusal) → Telling (answer_of p) → of_answer (λ n w. Err (with_number n)) Ok (answer_of p) ≡ p
+told (Err r) t = refusal_told (λ n w. Err (with_number n)) Ok (numbered r) 0 t ∙ ap Err (back r)
+told (Ok n) t = refl
 
-module _ (s out room : List ℕ) {out' room' out'' room'' : List ℕ} {p q : Shown} where
+module _ (s out room : List ℕ) {out' room' out'' room'' : List ℕ} {p q : Result ℕ Refusal} where
   pub no_second_show : left_of p out' room' ≡ show_left s out room → left_of q out'' room'' ≡ show_left s out room → (p ≡ q) × (out' ≡ out'') × (room' ≡ room'')
   unfolding show_left
   no_second_show P Q =
       let e = P ∙ sym Q in
       let t = call_telling rewrite_room (got (text_reply (show_text s))) out room (λ a h. subst (λ b. 0 < length b.bytes) (got_same h) (text_some s)) in (
-        same_answer answer_of (of_answer (λ n w. Refused n) Bytes) told p q (ap (λ (x : Left). x.answer) e) (subst Telling (sym (ap (λ (x : Left). x.answer) P)) t),
+        same_answer answer_of (of_answer (λ n w. Err (with_number n)) Ok) told p q (ap (λ (x : Left). x.answer) e) (subst Telling (sym (ap (λ (x : Left). x.answer) P)) t),
         ap (λ (x : Left). x.output) e,
         ap (λ (x : Left). x.room) e,
       )

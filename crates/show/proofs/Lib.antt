@@ -6,6 +6,8 @@ pub mod Queries
 pub mod Cutting
 pub mod Lows
 pub mod Lengths
+pub mod Refusals
+pub mod Mapped
 pub mod Answering
 pub mod Answers
 pub mod Prefixes

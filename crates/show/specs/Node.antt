@@ -2,7 +2,7 @@
 use Rattle.std.specs.Prelude.{◌≡◌, ℕ, ◌+◌, ◌≤◌, List, [], ◌++◌, true, cond, length, take, drop, eqb}
 use Rattle.rules.specs.Numbers.{Read, got, refused, must_tag, should_tag, must_not_tag, filter_tag, text_tag, minimum_tag, whole_range_tag}
 use Rattle.rules.specs.Bytes.{ascii, big, of_big, body_of, rest_of, is_part, is_field_part, every, each}
-use Rattle.rules.specs.Query.{must, should, filter, whole, float, Query, term, phrase, boolean, boost, constant_score, match_all, match_none, range, Clauses, none}
+use Rattle.rules.specs.Query.{whole, float, Query, term, phrase, boolean, boost, constant_score, match_all, match_none, range, Clauses, none}
 use Rattle.rules.specs.Reading.{is_word, word_of, is_bound, bound_of, decode, clauses_in}
 use Rattle.rules.specs.Checked.{Stored, StoredClauses}
 use Rattle.rules.specs.Show.{decimal, hex, shown, shown_field, shown_words, shown_numbers, shown_bound, no_kind, show, show_clauses}

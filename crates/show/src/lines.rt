@@ -6,22 +6,21 @@ ghost use Rattle.rules.specs.Answers.{call_at, stored_reply};
 ghost use Rattle.parser.specs.Parsed.{answer_of, left_of};
 ghost use Rattle.show.specs.Lines.{other, operator_number, line_operator, written_in};
 
+use names::refusal::Fault;
 use names::{AND_OPERATOR, OR_OPERATOR, SIMPLE_ANALYZER};
-use parser::parse::{Parsed, parse};
+use parser::parse::parse;
 use stretches::same;
 
 // Where the first byte b is, or the end.
 fn find(s: &[u8], b: u8) -> usize
     ensures { result ≡ length (front (other b) s.now) }
 {
-    let mut i = 0;
-    while i < s.len() {
-        if s[i] == b {
+    for (i, c) in s.iter().enumerate() {
+        if *c == b {
             return i;
         }
-        i += 1;
     }
-    i
+    s.len()
 }
 
 fn before(s: &[u8], b: u8) -> &[u8]
@@ -43,6 +42,7 @@ fn behind(s: &[u8], b: u8) -> &[u8]
 }
 
 // What stands for an operator that is none: no setup has it.
+// Stays: `parse` takes any byte, as C hands it over, and refuses this one with BadSetup; of an Option, None would be turned into it.
 const NO_OPERATOR: u8 = 2;
 
 // The operator's number; NO_OPERATOR for any other word.
@@ -69,7 +69,7 @@ fn line_operator(line: &[u8]) -> u8
     NO_OPERATOR
 }
 
-pub fn parse_lines(input: &[u8], out: &mut [u8], room: &mut [u8]) -> Parsed
+pub fn parse_lines(input: &[u8], out: &mut [u8], room: &mut [u8]) -> Result<usize, Fault>
     ensures is { left_of result out.new room.new ≡ call_at parse_room (on_read stored_reply (written_in input.now)) out.old room.old }
     ensures near { (answer_of result).place ≤ text_most }
 {

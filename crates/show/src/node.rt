@@ -16,6 +16,7 @@ use names::{
 use numbers::{big2, big4};
 use parts::part::{body, rest, tag_of};
 
+// Stays: `out` and `at` travel together as in `put`, and `b` is each writer's own body.
 fn put_term(out: &mut [u8], at: usize, b: &[u8]) -> usize
     requires { HoldsTerm b.now }
     ensures { Lays out.old at (term_text b.now) result out.new }

@@ -12,6 +12,7 @@ use names::{
 };
 use parts::part::{body, rest, tag_of};
 
+// Stays: the kind is a stored tag's byte or NO_TAG, and an Option is no plainer: None would be shown as any byte that is no kind, as `-`.
 fn put_kind(out: &mut [u8], at: usize, kind: u8) -> usize
     ensures { Lays out.old at (kind_text kind) result out.new }
 {
@@ -24,6 +25,7 @@ fn put_kind(out: &mut [u8], at: usize, kind: u8) -> usize
     }
 }
 
+// Stays: `out` and `at` travel together as in `put`, and the depth is another one in each call.
 fn put_line(out: &mut [u8], at: usize, d: usize, kind: u8, s: &[u8]) -> usize
     requires { Stored s.now }
     ensures { Lays out.old at (line d (kind_text kind) (node (query_in s.now))) result out.new }

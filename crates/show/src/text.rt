@@ -15,11 +15,9 @@ fn put_hex_byte(out: &mut [u8], at: usize, c: u8) -> usize
 pub fn put_hex(out: &mut [u8], at: usize, s: &[u8]) -> usize
     ensures { Lays out.old at (hex s.now) result out.new }
 {
-    let mut k = 0;
     let mut a = at;
-    while k < s.len() {
-        a = put_hex_byte(out, a, s[k]);
-        k += 1;
+    for c in s {
+        a = put_hex_byte(out, a, *c);
     }
     a
 }
@@ -28,16 +26,7 @@ pub fn put_hex(out: &mut [u8], at: usize, s: &[u8]) -> usize
 fn is_plain(c: u8) -> bool
     ensures { result ≡ is_plain c }
 {
-    if c < b'!' {
-        return false;
-    }
-    if b'~' < c {
-        return false;
-    }
-    if c == b'\\' {
-        return false;
-    }
-    c != b':'
+    c.is_ascii_graphic() && c != b'\\' && c != b':'
 }
 
 fn put_shown_byte(out: &mut [u8], at: usize, c: u8) -> usize
@@ -53,11 +42,9 @@ fn put_shown_byte(out: &mut [u8], at: usize, c: u8) -> usize
 pub fn put_shown(out: &mut [u8], at: usize, s: &[u8]) -> usize
     ensures { Lays out.old at (shown s.now) result out.new }
 {
-    let mut k = 0;
     let mut a = at;
-    while k < s.len() {
-        a = put_shown_byte(out, a, s[k]);
-        k += 1;
+    for c in s {
+        a = put_shown_byte(out, a, *c);
     }
     a
 }
@@ -65,7 +52,7 @@ pub fn put_shown(out: &mut [u8], at: usize, s: &[u8]) -> usize
 pub fn put_field(out: &mut [u8], at: usize, f: &[u8]) -> usize
     ensures { Lays out.old at (shown_field f.now) result out.new }
 {
-    if f.len() == 0 {
+    if f.is_empty() {
         return put(out, at, b"\\");
     }
     put_shown(out, at, f)

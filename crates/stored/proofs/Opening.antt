@@ -9,7 +9,10 @@ use lib.ListN.{length, take, drop, length-drop}
 use lib.Seq.{take-take, drop-drop, take_all, take-nil, length-take-le}
 use lib.Dec.{leb, eqb}
 use borrow.Author.Tests.{eq-eqb, ne_eqb, eqb-true, leb-true}
-use Rattle.rules.specs.Numbers.{boolean_tag, boost_tag, constant_score_tag, minimum_tag, malformed_query, deep_query, number, Read}
+use Rattle.std.specs.Prelude.{Ok, Err}
+use Rattle.names.specs.declared.refusal.Refusal.{Refusal}
+use Rattle.names.specs.declared.refusal.Refusal.TheVariants.{MalformedQuery, DeepQuery}
+use Rattle.rules.specs.Numbers.{boolean_tag, boost_tag, constant_score_tag, minimum_tag, Read}
 use Rattle.rules.specs.Bytes.{of_big, is_empty, tag_of, size_of, body_of, rest_of, whole_of, is_part}
 use Rattle.rules.specs.Query.{Query}
 use Rattle.rules.specs.Stored.{is_boost}
@@ -17,9 +20,9 @@ use Rattle.rules.specs.Reading.{is_query, body_in, decode}
 use Rattle.rules.proofs.Bools.{and_l, and_r, alike}
 use Rattle.rules.proofs.Chains.{nothing}
 use Rattle.rules.proofs.Stored.Parts.{part_is, whole_le, length_body, length_rest}
-use Rattle.rules.proofs.Stored.Refusals.{number_some}
 use Rattle.rules.proofs.Stored.Steps.{in_boolean, in_boost, in_constant_score}
-use Rattle.stored.specs.Read.{verdict, said, is_leaf, is_minimum, is_record, is_boosted, cut, row_of, closed_at, IsFault, Within, HoldsRow, HoldsQuery, IsLeafRecord}
+use Rattle.stored.specs.declared.read.Held.{Held}
+use Rattle.stored.specs.Read.{Verdict, verdict, bad, said_as, said, is_leaf, is_minimum, is_record, is_boosted, cut, row_of, held, behind, closed_at, IsFault, Within, HoldsRow, HoldsQuery, IsLeafRecord}
 use Rattle.stored.proofs.Reader.{inside_leaf, constant_verdict, boost_is_bad, boost_verdict, boolean_is_bad, boolean_verdict, record_bad, record_deep, record_in}
 
 -- ---- stretches
@@ -53,7 +56,7 @@ drop_cut a e k s =
 -- ---- where a record ends
 
 -- nothing behind it, or something: a record in a record ends there exactly if both do
-pub closed_in : (at end e : ℕ) (s : List ℕ) (g : ℕ) → at ≤ end → end ≤ length s → e ≤ end - at
+pub closed_in : (at end e : ℕ) (s : List ℕ) (g : Verdict) → at ≤ end → end ≤ length s → e ≤ end - at
     → closed_at e (cut at end s) (closed_at end s g) ≡ closed_at (at + e) s g
 closed_in at end e s g h k l = go (ℕ_discrete e (end - at))
   where
@@ -69,7 +72,7 @@ closed_in at end e s g h k l = go (ℕ_discrete e (end - at))
         rw (eq-eqb e q (f ∙ sym lq), n)
     go (no f) = rw (ne_eqb e q (λ z. f (z ∙ lq)), ne_eqb (at + e) (length s) (λ z. omega (arith, f)))
 
-closed_all : (s : List ℕ) (g : ℕ) → closed_at (length s) s g ≡ g
+closed_all : (s : List ℕ) (g : Verdict) → closed_at (length s) s g ≡ g
 closed_all s g = rw (eq-eqb (length s) (length s) refl)
 
 ends_at : (q : List ℕ) (e : ℕ) → whole_of q ≡ true → e ≡ 3 + size_of q → eqb e (length q) ≡ is_empty (rest_of q)
@@ -95,11 +98,25 @@ boosted_long b h = leb-true 4 (length b) (and_l (leb 4 (length b)) (is_boost (of
 
 -- ---- a record: code has its end e and its body b
 
-pub fault_bad : (d : ℕ) (s : List ℕ) → is_record s ≡ false → IsFault (decode d s) (number malformed_query)
-fault_bad d s h = record { some = number_some malformed_query; is = λ g. record_bad g d s h }
+pub passed : {t b : Bool} {u : Unit {0}} → t ≡ b → Ok u ≡ said t → b ≡ true
+passed {t} {b} e s = sym e ∙ go t s
+  where
+    go : (t : Bool) {u : Unit {0}} → Ok u ≡ said t → t ≡ true
+    go true s = refl
+    go false s = cc
 
-pub fault_deep : (d : ℕ) (s : List ℕ) → d ≡ 0 → is_record s ≡ true → IsFault (decode d s) (number deep_query)
-fault_deep d s z h = record { some = number_some deep_query; is = λ g. record_deep g d s z h }
+pub failed : {t b : Bool} {r : Refusal} → t ≡ b → Err r ≡ said t → (b ≡ false) × (r ≡ MalformedQuery)
+failed {t} {b} {r} e s = go t s e
+  where
+    go : (t : Bool) → Err r ≡ said t → t ≡ b → (b ≡ false) × (r ≡ MalformedQuery)
+    go true s e = cc
+    go false s e = (sym e, cc)
+
+pub fault_bad : (d : ℕ) (s : List ℕ) → is_record s ≡ false → IsFault (decode d s) MalformedQuery
+fault_bad d s h g = record_bad g d s h
+
+pub fault_deep : (d : ℕ) (s : List ℕ) → d ≡ 0 → is_record s ≡ true → IsFault (decode d s) DeepQuery
+fault_deep d s z h g = record_deep g d s z h
 
 module _ (d : ℕ) (q b : List ℕ) (e : ℕ) (n : d ≡ 0 → ⊥) (ok : is_record q ≡ true) (ee : e ≡ 3 + size_of q) (le : size_of q < 65536) (eb : b ≡ body_of q) where
   abbrev sub : List ℕ → Read Query
@@ -111,54 +128,57 @@ module _ (d : ℕ) (q b : List ℕ) (e : ℕ) (n : d ≡ 0 → ⊥) (ok : is_rec
   long : length b ≡ size_of q
   long = ap length eb ∙ length_body q w
 
-  by_body : (g : ℕ) → verdict g (decode d q) ≡ verdict (closed_at e q g) (body_in sub (tag_of q) b)
-  by_body g = record_in g d q n ok ∙ ap (λ (t : Bool). verdict (said t g) (body_in sub (tag_of q) (body_of q))) (sym (ends_at q e w ee)) ∙ rw eb
+  by_body : (g : Verdict) → verdict g (decode d q) ≡ verdict (closed_at e q g) (body_in sub (tag_of q) b)
+  by_body g = record_in g d q n ok ∙ ap (λ (t : Bool). verdict (said_as t g) (body_in sub (tag_of q) (body_of q))) (sym (ends_at q e w ee)) ∙ rw eb
+
+  abbrev from_body : ℕ → Held
+  from_body k = record { from = 3 + k; to = e; left = d - 1 }
 
   -- what stands behind the first k bytes of the body
-  behind : (k : ℕ) → drop k b ≡ cut (3 + k) e q
+  body_from : (k : ℕ) → drop k b ≡ held (from_body k) q
   unfolding body_of
-  behind k =
+  body_from k =
       let m : size_of q - k ≡ e - (3 + k) = omega arith in
       ap (drop k) eb ∙ drop_take k (size_of q) (drop 3 q) ∙ ap (take (size_of q - k)) (drop-drop k 3 q) ∙ ap (λ (i : ℕ). take i (drop (3 + k) q)) m
 
-  within : (k : ℕ) → k ≤ length b → Within q (3 + k) e
+  within : (k : ℕ) → k ≤ length b → Within q (from_body k)
   within k h =
       let l = whole_le q w in
       record { some = omega arith; order = omega (arith, long); end = omega arith; short = omega arith }
 
-  pub record_fault : ((g : ℕ) → verdict g (body_in sub (tag_of q) b) ≡ number malformed_query) → IsFault (decode d q) (number malformed_query)
-  record_fault f = record { some = number_some malformed_query; is = λ g. by_body g ∙ f (closed_at e q g) }
+  record_fault : ((g : Verdict) → verdict g (body_in sub (tag_of q) b) ≡ bad) → IsFault (decode d q) MalformedQuery
+  record_fault f g = by_body g ∙ f (closed_at e q g)
 
-  pub boolean_row : tag_of q ≡ boolean_tag → is_minimum b ≡ true → HoldsRow d q 8 e (d - 1)
+  pub boolean_row : tag_of q ≡ boolean_tag → is_minimum b ≡ true → HoldsRow d q (from_body 5)
   boolean_row t h =
       let m = minimum_is b h in
       record {
         at = within 5 m.0;
         less = omega (arith, n);
         is = λ g. by_body g ∙ ap (verdict (closed_at e q g)) (in_boolean sub b (tag_of q) t) ∙ boolean_verdict (closed_at e q g) sub b h
-            ∙ ap (λ (l : List ℕ). verdict (closed_at e q g) (row_of (d - 1) l)) (m.1 ∙ behind 5);
+            ∙ ap (λ (l : List ℕ). verdict (closed_at e q g) (row_of (d - 1) l)) (m.1 ∙ body_from 5);
       }
 
-  pub boolean_fault : tag_of q ≡ boolean_tag → is_minimum b ≡ false → IsFault (decode d q) (number malformed_query)
+  pub boolean_fault : tag_of q ≡ boolean_tag → is_minimum b ≡ false → IsFault (decode d q) MalformedQuery
   boolean_fault t h = record_fault (λ g. ap (verdict g) (in_boolean sub b (tag_of q) t) ∙ boolean_is_bad g sub b h)
 
-  pub boost_query : tag_of q ≡ boost_tag → is_boosted b ≡ true → HoldsQuery d q 7 e
+  pub boost_query : tag_of q ≡ boost_tag → is_boosted b ≡ true → HoldsQuery d q (from_body 4)
   boost_query t h = record {
     at = within 4 (boosted_long b h);
     less = omega (arith, n);
     is = λ g. by_body g ∙ ap (verdict (closed_at e q g)) (in_boost sub b (tag_of q) t) ∙ boost_verdict (closed_at e q g) sub b h
-        ∙ ap (λ (l : List ℕ). verdict (closed_at e q g) (sub l)) (behind 4);
+        ∙ ap (λ (l : List ℕ). verdict (closed_at e q g) (sub l)) (body_from 4);
   }
 
-  pub boost_fault : tag_of q ≡ boost_tag → is_boosted b ≡ false → IsFault (decode d q) (number malformed_query)
+  pub boost_fault : tag_of q ≡ boost_tag → is_boosted b ≡ false → IsFault (decode d q) MalformedQuery
   boost_fault t h = record_fault (λ g. ap (verdict g) (in_boost sub b (tag_of q) t) ∙ boost_is_bad g sub b h)
 
-  pub constant_query : tag_of q ≡ constant_score_tag → HoldsQuery d q 3 e
+  pub constant_query : tag_of q ≡ constant_score_tag → HoldsQuery d q (from_body 0)
   constant_query t = record {
     at = within 0 (omega arith);
     less = omega (arith, n);
     is = λ g. by_body g ∙ ap (verdict (closed_at e q g)) (in_constant_score sub b (tag_of q) t) ∙ constant_verdict (closed_at e q g) sub b
-        ∙ ap (λ (l : List ℕ). verdict (closed_at e q g) (sub l)) (behind 0);
+        ∙ ap (λ (l : List ℕ). verdict (closed_at e q g) (sub l)) (body_from 0);
   }
 
   module _ (x : tag_of q ≡ boolean_tag → ⊥) (y : tag_of q ≡ boost_tag → ⊥) (z : tag_of q ≡ constant_score_tag → ⊥) where
@@ -168,84 +188,77 @@ module _ (d : ℕ) (q b : List ℕ) (e : ℕ) (n : d ≡ 0 → ⊥) (ok : is_rec
       is = λ g. by_body g ∙ sym (inside_leaf (closed_at e q g) sub (tag_of q) b x y z) ∙ rw h;
     }
 
-    pub leaf_fault_lem : is_leaf (tag_of q) b ≡ false → IsFault (decode d q) (number malformed_query)
+    pub leaf_fault_lem : is_leaf (tag_of q) b ≡ false → IsFault (decode d q) MalformedQuery
     leaf_fault_lem h = record_fault (λ g. sym (inside_leaf g sub (tag_of q) b x y z) ∙ rw h)
-
--- where there is something inside, there is depth left for it
-pub row_some : (d : ℕ) (q : List ℕ) (a e : ℕ) → HoldsRow d q a e (d - 1) → 1 ≤ d
-row_some d q a e R = omega (arith, R.less)
-
-pub query_some : (d : ℕ) (q : List ℕ) (a e : ℕ) → HoldsQuery d q a e → 1 ≤ d
-query_some d q a e Q = Q.less
 
 -- ---- through the records that hold one query
 
-pub record Opening (d : ℕ) (s : List ℕ) (at end left : ℕ) : Type 0 where
-  pub order : at ≤ end
-  pub within : end ≤ length s
-  pub less : left ≤ d
-  pub is : (g : ℕ) → verdict g (decode d s) ≡ verdict (closed_at end s g) (decode left (cut at end s))
+pub record Opening (d : ℕ) (s : List ℕ) (at : Held) : Type 0 where
+  pub order : at.from ≤ at.to
+  pub within : at.to ≤ length s
+  pub less : at.left ≤ d
+  pub is : (g : Verdict) → verdict g (decode d s) ≡ verdict (closed_at at.to s g) (decode at.left (held at s))
 
-pub opening : (d : ℕ) (s : List ℕ) → Opening d s 0 (length s) d
+pub opening : (d : ℕ) (s : List ℕ) → Opening d s (record { from = 0; to = length s; left = d })
 opening d s = record {
   order = omega arith;
   within = omega arith;
   less = omega arith;
-  is = λ g. sym (ap (λ (x : ℕ). verdict x (decode d (cut 0 (length s) s))) (closed_all s g) ∙ ap (λ (l : List ℕ). verdict g (decode d l)) (cut_all s));
+  is = λ g. sym (ap (λ (x : Verdict). verdict x (decode d (cut 0 (length s) s))) (closed_all s g) ∙ ap (λ (l : List ℕ). verdict g (decode d l)) (cut_all s));
 }
 
-module _ (d : ℕ) (s : List ℕ) (at end left : ℕ) (O : Opening d s at end left) where
+module _ {d : ℕ} {s : List ℕ} {at : Held} (O : Opening d s at) where
   abbrev front : List ℕ
-  front = cut at end s
+  front = held at s
 
-  lf : length front ≡ end - at
-  lf = length_cut at end s O.within
+  lf : length front ≡ at.to - at.from
+  lf = length_cut at.from at.to s O.within
 
-  shifted : (a e : ℕ) → Within front a e → Within s (at + a) (at + e)
-  shifted a e W = record {
+  shifted : (h : Held) → Within front h → Within s (behind at.from h)
+  shifted h W = record {
     some = omega (arith, W.some);
     order = omega (arith, W.order);
     end = omega (arith, lf, W.end, O.order, O.within);
     short = omega (arith, W.short);
   }
 
-  within_end : (e : ℕ) → e ≤ length front → e ≤ end - at
+  within_end : (e : ℕ) → e ≤ length front → e ≤ at.to - at.from
   within_end e h = omega (arith, lf)
 
-  pub opened_fault : (r : ℕ) → IsFault (decode left front) r → IsFault (decode d s) r
-  opened_fault r F = record { some = F.some; is = λ g. O.is g ∙ F.is (closed_at end s g) }
+  pub opened_fault : (r : Refusal) → IsFault (decode at.left front) r → IsFault (decode d s) r
+  opened_fault r F g = O.is g ∙ F (closed_at at.to s g)
 
-  pub opened_leaf : (e : ℕ) → IsLeafRecord left front e → IsLeafRecord d s (at + e)
+  pub opened_leaf : (e : ℕ) → IsLeafRecord at.left front e → IsLeafRecord d s (at.from + e)
   opened_leaf e L =
       let h = within_end e L.end in
       record {
         end = omega (arith, O.order, O.within);
-        is = λ g. O.is g ∙ L.is (closed_at end s g) ∙ closed_in at end e s g O.order O.within h;
+        is = λ g. O.is g ∙ L.is (closed_at at.to s g) ∙ closed_in at.from at.to e s g O.order O.within h;
       }
 
-  pub opened_row : (a e l : ℕ) → HoldsRow left front a e l → HoldsRow d s (at + a) (at + e) l
-  opened_row a e l R =
-      let h = within_end e R.at.end in
+  pub opened_row : (h : Held) → HoldsRow at.left front h → HoldsRow d s (behind at.from h)
+  opened_row h R =
+      let k = within_end h.to R.at.end in
       record {
-        at = shifted a e R.at;
+        at = shifted h R.at;
         less = omega (arith, R.less, O.less);
-        is = λ g. O.is g ∙ R.is (closed_at end s g)
-            ∙ ap (λ (x : ℕ). verdict x (row_of l (cut a e front))) (closed_in at end e s g O.order O.within h)
-            ∙ ap (λ (m : List ℕ). verdict (closed_at (at + e) s g) (row_of l m)) (cut_cut at end a e s h);
+        is = λ g. O.is g ∙ R.is (closed_at at.to s g)
+            ∙ ap (λ (x : Verdict). verdict x (row_of h.left (held h front))) (closed_in at.from at.to h.to s g O.order O.within k)
+            ∙ ap (λ (m : List ℕ). verdict (closed_at (at.from + h.to) s g) (row_of h.left m)) (cut_cut at.from at.to h.from h.to s k);
       }
 
-  pub opened_query : (a e : ℕ) → HoldsQuery left front a e → Opening d s (at + a) (at + e) (left - 1)
-  opened_query a e Q =
-      let h = within_end e Q.at.end in
-      let W = shifted a e Q.at in
+  pub opened_query : (h : Held) → HoldsQuery at.left front h → Opening d s (behind at.from h)
+  opened_query h Q =
+      let k = within_end h.to Q.at.end in
+      let W = shifted h Q.at in
       record {
         order = W.order;
         within = W.end;
-        less = omega (arith, O.less);
-        is = λ g. O.is g ∙ Q.is (closed_at end s g)
-            ∙ ap (λ (x : ℕ). verdict x (decode (left - 1) (cut a e front))) (closed_in at end e s g O.order O.within h)
-            ∙ ap (λ (m : List ℕ). verdict (closed_at (at + e) s g) (decode (left - 1) m)) (cut_cut at end a e s h);
+        less = omega (arith, O.less, Q.less);
+        is = λ g. O.is g ∙ Q.is (closed_at at.to s g)
+            ∙ ap (λ (x : Verdict). verdict x (decode h.left (held h front))) (closed_in at.from at.to h.to s g O.order O.within k)
+            ∙ ap (λ (m : List ℕ). verdict (closed_at (at.from + h.to) s g) (decode h.left m)) (cut_cut at.from at.to h.from h.to s k);
       }
 
-  pub opened_less : (a e : ℕ) → HoldsQuery left front a e → at + e - (at + a) < end - at
-  opened_less a e Q = omega (arith, lf, Q.at.some, Q.at.order, Q.at.end)
+  pub opened_less : (h : Held) → HoldsQuery at.left front h → at.from + h.to - (at.from + h.from) < at.to - at.from
+  opened_less h Q = omega (arith, lf, Q.at.some, Q.at.order, Q.at.end)

@@ -1,10 +1,16 @@
--- What the reader's functions say: the tests of `rules`, each by a name, and a number that is `good` where the reading succeeds.
-use Rattle.std.specs.Prelude.{◌≡◌, ℕ, zero, suc, ◌-◌, ◌≤◌, ◌<◌, List, Bool, not, ◌&&◌, cond, length, take, drop, leb, eqb}
-use Rattle.rules.specs.Numbers.{term_tag, phrase_tag, match_all_tag, match_none_tag, text_tag, minimum_tag, number, malformed_query, Read, got, refused}
+-- What the reader's functions say: the tests of `rules`, each by a name, and a verdict that is `good` where the reading succeeds.
+use Rattle.std.specs.Prelude.{◌≡◌, ℕ, ◌+◌, ◌-◌, ◌≤◌, ◌<◌, List, Bool, not, ◌&&◌, cond, length, take, drop, leb, eqb, set, get_or, suc, Result, Ok, Err, Option, Some, None}
+use Rattle.names.specs.Refusals.{coded}
+use Rattle.names.specs.declared.refusal.Refusal.{Refusal}
+use Rattle.names.specs.declared.refusal.Refusal.TheVariants.{MalformedQuery}
+use Rattle.rules.specs.Numbers.{term_tag, phrase_tag, match_all_tag, match_none_tag, text_tag, minimum_tag, Read, got, refused}
 use Rattle.rules.specs.Bytes.{of_big, is_empty, is_text, tag_of, body_of, rest_of, whole_of, is_part, is_field_part, every}
 use Rattle.rules.specs.Query.{Clauses}
 use Rattle.rules.specs.Stored.{is_boost}
 use Rattle.rules.specs.Reading.{is_word, is_bound, is_kind, is_query, clauses_in, decode}
+use Rattle.stored.specs.declared.read.Around.{Around}
+use Rattle.stored.specs.declared.read.Held.{Held}
+use Rattle.stored.specs.declared.read.Outer.{Outer}
 use Rattle.stored.specs.declared.read.Front.{Front}
 use Rattle.stored.specs.declared.read.Front.TheVariants as front
 use Rattle.stored.specs.declared.read.Opened.{Opened}
@@ -12,12 +18,22 @@ use Rattle.stored.specs.declared.read.Opened.TheVariants as opened
 use Rattle.stored.specs.declared.read.Next.{Next}
 use Rattle.stored.specs.declared.read.Next.TheVariants as next
 
-abbrev pub verdict : {A : Type 0} → ℕ → Read A → ℕ
-verdict good (got a) = good
-verdict good (refused r) = number r
+abbrev pub Verdict : Type 0
+Verdict = Result (Unit {0}) Refusal
 
-abbrev pub said : Bool → ℕ → ℕ
-said ok good = cond ok good (number malformed_query)
+abbrev pub verdict : {A : Type 0} → Verdict → Read A → Verdict
+verdict good (got a) = good
+verdict good (refused r) = Err (coded r)
+
+abbrev pub bad : Verdict
+bad = Err MalformedQuery
+
+-- what is said of sound bytes, if a test passes
+abbrev pub said_as : Bool → Verdict → Verdict
+said_as ok good = cond ok good bad
+
+abbrev pub said : Bool → Verdict
+said ok = said_as ok (Ok tt)
 
 -- ---- bodies that hold no query
 
@@ -66,69 +82,87 @@ cut a e s = take (e - a) (drop a s)
 abbrev pub row_of : ℕ → List ℕ → Read Clauses
 row_of d t = clauses_in (decode d) (length t) t
 
+-- what a record holds
+abbrev pub held : Held → List ℕ → List ℕ
+held h s = cut h.from h.to s
+
+-- the same in bytes that have n more in front
+abbrev pub behind : ℕ → Held → Held
+behind n h = record { from = n + h.from; to = n + h.to; left = h.left }
+
+-- a row kept with those around it, above the others; and one taken from there
+abbrev pub pushed : Held → Around → Around
+pushed h a = record { rows = set a.rows a.n (record { end = h.to; left = h.left }); n = a.n + 1 }
+
+abbrev pub no_row : Outer
+no_row = record { end = 0; left = 0 }
+
+abbrev pub Popped : Around → Around → Option Outer → Type 0
+Popped a b None = (a.n ≡ 0) × (b ≡ a)
+Popped a b (Some r) = (a.n ≡ suc b.n) × (b.rows ≡ a.rows) × (r ≡ get_or a.rows b.n no_row)
+
 -- what is said of a record that ends at e, or holds what ends there: sound only if nothing is left over behind it
-abbrev pub closed_at : ℕ → List ℕ → ℕ → ℕ
-closed_at e s good = said (eqb e (length s)) good
+abbrev pub closed_at : ℕ → List ℕ → Verdict → Verdict
+closed_at e s good = said_as (eqb e (length s)) good
 
 -- a fault, whatever is said of sound bytes
-pub record IsFault {A : Type 0} (o : Read A) (r : ℕ) : Type 0 where
-  pub some : r ≡ 0 → ⊥
-  pub is : (g : ℕ) → verdict g o ≡ r
+abbrev pub IsFault : {A : Type 0} → Read A → Refusal → Type 0
+IsFault o r = (g : Verdict) → verdict g o ≡ Err r
 
--- a stretch of s from a to e, behind a header
-pub record Within (s : List ℕ) (a e : ℕ) : Type 0 where
-  pub some : 3 ≤ a
-  pub order : a ≤ e
-  pub end : e ≤ length s
-  pub short : e - a < 65536
+-- a stretch of s behind a header
+pub record Within (s : List ℕ) (h : Held) : Type 0 where
+  pub some : 3 ≤ h.from
+  pub order : h.from ≤ h.to
+  pub end : h.to ≤ length s
+  pub short : h.to - h.from < 65536
 
-pub record HoldsRow (d : ℕ) (s : List ℕ) (a e l : ℕ) : Type 0 where
-  pub at : Within s a e
-  pub less : l < d
-  pub is : (g : ℕ) → verdict g (decode d s) ≡ verdict (closed_at e s g) (row_of l (cut a e s))
+pub record HoldsRow (d : ℕ) (s : List ℕ) (h : Held) : Type 0 where
+  pub at : Within s h
+  pub less : h.left < d
+  pub is : (g : Verdict) → verdict g (decode d s) ≡ verdict (closed_at h.to s g) (row_of h.left (held h s))
 
-pub record HoldsQuery (d : ℕ) (s : List ℕ) (a e : ℕ) : Type 0 where
-  pub at : Within s a e
-  pub less : 0 < d
-  pub is : (g : ℕ) → verdict g (decode d s) ≡ verdict (closed_at e s g) (decode (d - 1) (cut a e s))
+pub record HoldsQuery (d : ℕ) (s : List ℕ) (h : Held) : Type 0 where
+  pub at : Within s h
+  pub less : h.left < d
+  pub is : (g : Verdict) → verdict g (decode d s) ≡ verdict (closed_at h.to s g) (decode h.left (held h s))
 
 pub record IsLeafRecord (d : ℕ) (s : List ℕ) (e : ℕ) : Type 0 where
   pub end : e ≤ length s
-  pub is : (g : ℕ) → verdict g (decode d s) ≡ closed_at e s g
+  pub is : (g : Verdict) → verdict g (decode d s) ≡ closed_at e s g
 
-abbrev pub OfFront : ℕ → List ℕ → Front → Type 0
-OfFront d s (front.Fault r) = IsFault (decode d s) r
-OfFront d s (front.Leaf e) = IsLeafRecord d s e
-OfFront d s (front.Row a e) = HoldsRow d s a e (d - 1)
-OfFront d s (front.Inner a e) = HoldsQuery d s a e
+abbrev pub OfFront : ℕ → List ℕ → Result Front Refusal → Type 0
+OfFront d s (Err r) = IsFault (decode d s) r
+OfFront d s (Ok (front.Leaf e)) = IsLeafRecord d s e
+OfFront d s (Ok (front.Row h)) = HoldsRow d s h
+OfFront d s (Ok (front.Inner h)) = HoldsQuery d s h
 
-abbrev pub OfOpened : ℕ → List ℕ → Opened → Type 0
-OfOpened d s (opened.Fault r) = IsFault (decode d s) r
-OfOpened d s (opened.Leaf e) = IsLeafRecord d s e
-OfOpened d s (opened.Row a e l) = HoldsRow d s a e l
+abbrev pub OfOpened : ℕ → List ℕ → Result Opened Refusal → Type 0
+OfOpened d s (Err r) = IsFault (decode d s) r
+OfOpened d s (Ok (opened.Leaf e)) = IsLeafRecord d s e
+OfOpened d s (Ok (opened.Row h)) = HoldsRow d s h
 
--- a number that is said first, and x where it is 0
-abbrev pub after : ℕ → ℕ → ℕ
-after zero x = x
-after (suc r) x = suc r
+-- what is said first, and x where that is sound
+abbrev pub after : Verdict → Verdict → Verdict
+after (Ok u) x = x
+after (Err r) x = Err r
 
 pub record PastClause (d : ℕ) (t : List ℕ) (k : ℕ) : Type 0 where
   pub some : 3 ≤ k
   pub end : k ≤ length t
-  pub is : (g : ℕ) → verdict g (row_of d t) ≡ verdict g (row_of d (drop k t))
+  pub is : (g : Verdict) → verdict g (row_of d t) ≡ verdict g (row_of d (drop k t))
 
-pub record IntoClause (d : ℕ) (t : List ℕ) (a e l : ℕ) : Type 0 where
-  pub at : Within t a e
-  pub less : l < d
-  pub is : (g : ℕ) → verdict g (row_of d t) ≡ after (verdict 0 (row_of l (cut a e t))) (verdict g (row_of d (drop e t)))
+pub record IntoClause (d : ℕ) (t : List ℕ) (h : Held) : Type 0 where
+  pub at : Within t h
+  pub less : h.left < d
+  pub is : (g : Verdict) → verdict g (row_of d t) ≡ after (verdict (Ok tt) (row_of h.left (held h t))) (verdict g (row_of d (drop h.to t)))
 
-pub record LastClause (d : ℕ) (t : List ℕ) (a e l : ℕ) : Type 0 where
-  pub at : Within t a e
-  pub less : l < d
-  pub is : (g : ℕ) → verdict g (row_of d t) ≡ verdict (number malformed_query) (row_of l (cut a e t))
+pub record LastClause (d : ℕ) (t : List ℕ) (h : Held) : Type 0 where
+  pub at : Within t h
+  pub less : h.left < d
+  pub is : (g : Verdict) → verdict g (row_of d t) ≡ verdict bad (row_of h.left (held h t))
 
-abbrev pub OfNext : ℕ → List ℕ → Next → Type 0
-OfNext d t (next.Fault r) = IsFault (row_of d t) r
-OfNext d t (next.Past k) = PastClause d t k
-OfNext d t (next.Into a e l) = IntoClause d t a e l
-OfNext d t (next.Last a e l) = LastClause d t a e l
+abbrev pub OfNext : ℕ → List ℕ → Result Next Refusal → Type 0
+OfNext d t (Err r) = IsFault (row_of d t) r
+OfNext d t (Ok (next.Past k)) = PastClause d t k
+OfNext d t (Ok (next.Into h)) = IntoClause d t h
+OfNext d t (Ok (next.Last h)) = LastClause d t h

@@ -1,27 +1,18 @@
-// Stretches of bytes: texts and fields, comparison, copy, clear. Short ones are tested in words that may overlap, the last one first;
-// longer ones go by a loop without a way out before its end, which a compiler widens.
+// Stretches of bytes: texts and fields, comparison, copy, clear.
 #![tactic(auto)]
 
-ghost use Rattle.std.specs.Prelude.{◌≡◌, ◌+◌, ◌≤◌, ◌<◌, length, take, replicate, eqb};
+ghost use Rattle.std.specs.Prelude.{◌≡◌, ◌≤◌, ◌<◌, length, take, replicate, eqb};
 ghost use Rattle.rules.specs.Bytes.{is_text, is_field, same};
-ghost use Rattle.numbers.specs.Laid.{Put};
 
-use names::{ASCII_MOST, FIELD_MOST};
+use names::FIELD_MOST;
 use numbers::{big4, big8};
-
-// How long a stretch is that two pairs of words cover.
-pub const MIDDLE_LEAST: usize = 8;
-
-pub const MIDDLE_MOST: usize = 32;
 
 // ---- texts
 
 // The top bit of each byte of a word.
 const TOPS8: u64 = 0x8080_8080_8080_8080;
 
-const TOPS4: u32 = 0x8080_8080;
-
-// The top bits of the first eight bytes and of the first four: 0 exactly where these bytes are ASCII.
+// The top bits of the first eight bytes: 0 exactly where these bytes are ASCII.
 pub fn tops8(s: &[u8]) -> u64
     requires { 8 ≤ length s.now }
     ensures { eqb result 0 ≡ is_text (take 8 s.now) }
@@ -29,101 +20,24 @@ pub fn tops8(s: &[u8]) -> u64
     big8(s) & TOPS8
 }
 
-fn tops4(s: &[u8]) -> u32
-    requires { 4 ≤ length s.now }
-    ensures { eqb result 0 ≡ is_text (take 4 s.now) }
-{
-    big4(s) & TOPS4
-}
-
-// Most texts are short: two words of four bytes that may overlap, or the first, the middle and the last byte.
-fn is_short_text(s: &[u8]) -> bool
-    requires { length s.now < 8 }
-    ensures { result ≡ is_text s.now }
-{
-    let n = s.len();
-    if n >= 4 {
-        let e = n - 4;
-        if tops4(&s[e..]) != 0 {
-            return false;
-        }
-        return tops4(s) == 0;
-    }
-    if n == 0 {
-        return true;
-    }
-    (s[0] | s[n / 2] | s[n - 1]) <= ASCII_MOST
-}
-
-fn is_long_text(s: &[u8]) -> bool
-    ensures { result ≡ is_text s.now }
-{
-    let mut seen: u8 = 0;
-    let mut i = 0;
-    while i < s.len() {
-        seen = seen | s[i];
-        i += 1;
-    }
-    seen <= ASCII_MOST
-}
-
-// From eight to sixteen bytes.
-fn is_pair_text(s: &[u8]) -> bool
-    requires { (8 ≤ length s.now) × (length s.now ≤ 16) }
-    ensures { result ≡ is_text s.now }
-{
-    let e = s.len() - 8;
-    if tops8(&s[e..]) != 0 {
-        return false;
-    }
-    tops8(s) == 0
-}
-
-// From eight to thirty-two bytes.
-pub fn is_middle_text(s: &[u8]) -> bool
-    requires { (8 ≤ length s.now) × (length s.now ≤ 32) }
-    ensures { result ≡ is_text s.now }
-{
-    if s.len() <= 16 {
-        return is_pair_text(s);
-    }
-    let e = s.len() - 16;
-    if !is_pair_text(&s[e..]) {
-        return false;
-    }
-    is_pair_text(&s[0..16])
-}
-
-fn is_longer_text(s: &[u8]) -> bool
-    requires { 8 ≤ length s.now }
-    ensures { result ≡ is_text s.now }
-{
-    if s.len() <= MIDDLE_MOST {
-        return is_middle_text(s);
-    }
-    is_long_text(s)
-}
-
 // Whether every byte is ASCII.
+#[tactic(auto, using(crate::proofs::Joining::ascii_text))]
 pub fn is_text(s: &[u8]) -> bool
     ensures { result ≡ is_text s.now }
 {
-    if s.len() < MIDDLE_LEAST {
-        return is_short_text(s);
-    }
-    is_longer_text(s)
+    s.is_ascii()
 }
 
 pub fn is_field(s: &[u8]) -> bool
     ensures { result ≡ is_field s.now }
 {
-    if s.len() > FIELD_MOST {
-        return false;
-    }
-    is_text(s)
+    s.len() <= FIELD_MOST && is_text(s)
 }
 
 // ---- comparison
+
+// Stays: terms and fields are short, and the library's `==` goes byte by byte: with it a selection takes 10 to 22 % longer.
+// So the ends are compared as words that may overlap, one width for 4 to 7 bytes and one for 8 to 16.
 
 // What the first eight bytes of two stretches differ by, and the first four.
 fn differ8(a: &[u8], b: &[u8]) -> u64
@@ -160,26 +74,14 @@ fn same_short(a: &[u8], b: &[u8]) -> bool
     ((a[0] ^ b[0]) | (a[m] ^ b[m]) | (a[l] ^ b[l])) == 0
 }
 
-fn same_long(a: &[u8], b: &[u8]) -> bool
-    requires { length a.now ≡ length b.now }
-    ensures { result ≡ same a.now b.now }
-{
-    let mut seen: u8 = 0;
-    let mut i = 0;
-    while i < a.len() {
-        seen = seen | (a[i] ^ b[i]);
-        i += 1;
-    }
-    seen == 0
-}
-
+#[tactic(auto, using(crate::proofs::Joining::equal_same))]
 fn same_longer(a: &[u8], b: &[u8]) -> bool
     requires { (length a.now ≡ length b.now) × (8 ≤ length a.now) }
     ensures { result ≡ same a.now b.now }
 {
     let n = a.len();
     if n > 16 {
-        return same_long(a, b);
+        return a == b;
     }
     let e = n - 8;
     if differ8(&a[e..], &b[e..]) != 0 {
@@ -203,25 +105,10 @@ pub fn same(a: &[u8], b: &[u8]) -> bool
 
 // ---- copy and clear
 
-// Lays the bytes of s at a place of out, and gives the place behind them.
-pub fn copy(out: &mut [u8], at: usize, s: &[u8]) -> usize
-    requires { at + length s.now ≤ length out.old }
-    ensures { Put out.old at s.now result out.new }
-{
-    let mut k = 0;
-    while k < s.len() {
-        out[at + k] = s[k];
-        k += 1;
-    }
-    at + s.len()
-}
+pub use numbers::copy;
 
 pub fn clear(room: &mut [u8])
     ensures { room.new ≡ replicate (length room.old) 0 }
 {
-    let mut k = 0;
-    while k < room.len() {
-        room[k] = 0;
-        k += 1;
-    }
+    room.fill(0);
 }

@@ -6,7 +6,7 @@ use mathlib.Core.List.{List, [], ◌∷◌}
 use native.Mathlib.Omega.{arith}
 use lib.Dec.{T, leb, ltb, eqb, eqb→eq}
 use lib.ListN.{get_or}
-use borrow.Author.Tests.{eq-eqb, ne_eqb, eqb-true, leb-true, le-ltb}
+use borrow.Author.Tests.{eq-eqb, ne_eqb, eqb-true, leb-true, le-leb, le-ltb}
 use Rattle.rules.specs.Bytes.{is_text}
 use Rattle.rules.specs.Analysis.{is_space, ends_term, is_letter, class_of, classes}
 use Rattle.rules.proofs.Bools.{fails, clash, and_l, and_r}
@@ -33,20 +33,28 @@ letter_highest c h l =
     let t : T (eqb (get_or classes c 0) 64) = rw (le-ltb (get_or classes c 0) 64 l) at (at_each highest classes highest_each c (rw entries h)) in
     eqb→eq (get_or classes c 0) 64 t
 
+-- a letter does not end a term
+pub letter_goes_on : (c : ℕ) → c < 128 → is_letter c ≡ true → ends_term c ≡ false
+letter_goes_on c h l =
+    let x : class_of c ≡ get_or classes c 0 = sym (class_within c h) in
+    let high : leb 64 (class_of c) ≡ true = letter_flag c ∙ l in
+    let is : class_of c ≡ 64 = x ∙ letter_highest c h (leb-true 64 (get_or classes c 0) (rw x at high)) in
+    sym (end_flag c) ∙ ap (λ (y : ℕ). eqb (y / 2 % 2) 1) is
+
 -- ---- what the code reads in the table
 
-module _ {t : List ℕ} {x : ℕ} (c : ℕ) (h : c < 128) (e : x ≡ get_or t c 0) (f : t ≡ classes) where
-  entry_is : x ≡ get_or classes c 0
-  entry_is = e ∙ ap (λ (u : List ℕ). get_or u c 0) f
-
+module _ {x : ℕ} (c : ℕ) (h : c < 128) (e : x ≡ get_or classes c 0) where
   class_is : class_of c ≡ x
-  class_is = sym (entry_is ∙ class_within c h)
+  class_is = sym (e ∙ class_within c h)
 
-  space_is : is_space c ≡ eqb (x % 2) 1
+  pub space_is : is_space c ≡ eqb (x % 2) 1
   space_is = sym (space_flag c) ∙ ap (λ (y : ℕ). eqb (y % 2) 1) class_is
 
-  end_is : ends_term c ≡ eqb (x / 2 % 2) 1
+  pub end_is : ends_term c ≡ eqb (x / 2 % 2) 1
   end_is = sym (end_flag c) ∙ ap (λ (y : ℕ). eqb (y / 2 % 2) 1) class_is
+
+  pub letter_is : is_letter c ≡ leb 64 x
+  letter_is = sym (letter_flag c) ∙ ap (λ (y : ℕ). leb 64 y) class_is
 
   pub space_told : x % 2 ≡ 1 → is_space c ≡ true
   space_told g = space_is ∙ eq-eqb (x % 2) 1 g
@@ -54,22 +62,8 @@ module _ {t : List ℕ} {x : ℕ} (c : ℕ) (h : c < 128) (e : x ≡ get_or t c 
   pub no_space_told : (x % 2 ≡ 1 → ⊥) → is_space c ≡ false
   no_space_told g = space_is ∙ ne_eqb (x % 2) 1 g
 
-  pub end_told : x / 2 % 2 ≡ 1 → ends_term c ≡ true
-  end_told g = end_is ∙ eq-eqb (x / 2 % 2) 1 g
-
-  pub no_end_told : (x / 2 % 2 ≡ 1 → ⊥) → ends_term c ≡ false
-  no_end_told g = end_is ∙ ne_eqb (x / 2 % 2) 1 g
-
-  -- a letter does not end a term
-  module _ (g : 64 ≤ x) where
-    is_highest : x ≡ 64
-    is_highest = entry_is ∙ letter_highest c h (rw entry_is at g)
-
-    pub letter_told : is_letter c ≡ true
-    letter_told = sym (letter_flag c) ∙ ap (λ (y : ℕ). leb 64 y) (class_is ∙ is_highest)
-
-    pub letter_goes_on : ends_term c ≡ false
-    letter_goes_on = end_is ∙ ap (λ (y : ℕ). eqb (y / 2 % 2) 1) is_highest
+  pub letter_told : 64 ≤ x → is_letter c ≡ true
+  letter_told g = letter_is ∙ le-leb 64 x g
 
 -- a letter is not a byte that is none
 pub letter_other : (c : ℕ) → is_letter c ≡ true → (x : ℕ) → is_letter x ≡ false → eqb c x ≡ false

@@ -1,25 +1,33 @@
 -- A term or a quote, a byte at a time: what has been unescaped into the room, and what is still to be read.
-use mathlib.Core.Path.{◌≡◌, refl, sym, ap, ◌∙◌}
-use mathlib.Core.Logic.{⊎_elim}
-use Prim.Native.Nat.{ℕ, suc, ◌+◌, ◌-◌, ◌≤◌, ◌<◌}
+use mathlib.Core.Path.{◌≡◌, refl, sym, ap, subst, ◌∙◌}
+use Prim.Native.Nat.{ℕ, zero, suc, ◌+◌, ◌-◌, ◌≤◌, ◌<◌}
 use mathlib.Core.List.{List, [], ◌∷◌, ◌++◌, append_assoc, append-nil}
-use mathlib.Core.Bool.{Bool, true, false, cond}
+use mathlib.Core.Bool.{Bool, true, false}
 use native.Mathlib.Omega.{arith}
 use native.Mathlib.Nat.{add-zero}
 use native.Mathlib.Numerals.{add-one}
-use lib.ListN.{length, get_or, take, drop, set, length-set, length-drop, drop_of_length-le}
-use lib.Seq.{drop-cons, drop-set-add, take-suc-set, take-set-le, drop-set-lt}
-use Rattle.rules.specs.Numbers.{Fault, fault_number, faulty, open_quote, nothing_escaped, text_most, Read, got, refused, on_read}
-use Rattle.rules.specs.Lexing.{Piece, piece, before, is_quote, is_backslash, term_text, quoted_text}
-use Rattle.rules.specs.Bytes.{all}
+use native.Mathlib.Decide.{dec_lt}
+use lib.Dec.{leb}
+use lib.ListN.{length, get_or, take, drop, set, length-drop, length-append, drop_of_length-le}
+use lib.Seq.{drop-cons, drop-drop, take-take, length-take-le, take-append-le, get_or-drop, take-suc, take-suc-set}
+use borrow.Author.Tests.{eq-eqb, ne_eqb, leb-true}
+use borrow.Rule.Slice.PartMut.{put_mid}
+use Rattle.std.specs.List.{between}
+use Rattle.std.specs.Prelude.{Ok, Err}
+use Rattle.std.proofs.lemmas.List.{drop_at, drop-take, take_rest}
+use Rattle.std.proofs.lemmas.Slice.{first_rest, between_to_end, take-put_mid_below, drop-put_mid}
+use Rattle.std.proofs.Math.Seq.{take-add}
+use Rattle.rules.specs.Numbers.{text_most, faulty, nothing_escaped, open_quote, Read, got, refused, on_read}
+use Rattle.rules.specs.Bytes.{is_text, all}
 use Rattle.rules.specs.Analysis.{ends_term, is_letter}
-use Rattle.rules.proofs.Bools.{split, clash, both, and_l, and_r}
+use Rattle.rules.specs.Lexing.{Piece, piece, before, is_quote, term_text, quoted_text}
+use Rattle.rules.proofs.Bools.{clash, both, and_l, and_r}
 use Rattle.rules.proofs.Text.Tokenizing.{Unescaping, term_unescapes, term_stop, quoted_stop}
-use Rattle.row.specs.Row.{room_least, Kept}
-use Rattle.texts.specs.Texts.{on_front, Letters, Reads}
+use Rattle.names.specs.declared.refusal.Fault.{Fault}
+use Rattle.row.specs.Row.{Kept}
+use Rattle.texts.specs.Texts.{on_front, Reads, Unescapes, Tells, Until}
 use Rattle.texts.specs.declared.Ended.{Ended}
-use Rattle.texts.specs.declared.Ended.TheVariants.{Refused, At}
-use Rattle.texts.proofs.Flags.{letter_other}
+use Rattle.texts.proofs.Flags.{letter_goes_on, letter_other}
 
 -- ---- what was read before goes in front
 
@@ -32,194 +40,256 @@ unfolding before
 front_more u c (got (piece t s)) = ap (λ (l : List ℕ). got (piece l s)) (sym (append_assoc u (c ∷ []) t))
 front_more u c (refused f) = refl
 
--- ---- one byte more
+empty_of : (s : List ℕ) → length s < 1 → s ≡ []
+empty_of [] h = refl
+empty_of (c ∷ s) h = absurd (omega arith)
 
-module _ (F : List ℕ → Read Piece) (stop : ℕ → Bool) (text : List ℕ) (U : Unescaping (length text) F stop) (i j : ℕ) (h : i < length text)
-    (go : stop (get_or text i 0) ≡ false) (e : j ≡ i + cond (is_backslash (get_or text i 0)) 1 0) where
-  pub next_byte : j < length text → F (drop i text) ≡ before (get_or text j 0) (F (drop (j + 1) text))
-  next_byte l = ⊎_elim escaped plain (split (is_backslash (get_or text i 0)))
-    where
-      escaped : is_backslash (get_or text i 0) ≡ true → F (drop i text) ≡ before (get_or text j 0) (F (drop (j + 1) text))
-      escaped b =
-          let k : suc i ≡ j = sym (e ∙ rw b (add-one i)) in
-          rw (drop-cons text i 0 h, k, drop-cons text j 0 l, add-one) (U.escaped (get_or text i 0) (get_or text j 0) (drop (suc j) text) go b)
+-- ---- the loop
 
-      plain : is_backslash (get_or text i 0) ≡ false → F (drop i text) ≡ before (get_or text j 0) (F (drop (j + 1) text))
-      plain b =
-          let k : j ≡ i = e ∙ rw b (add-zero i) in
-          rw (k, add-one, drop-cons text i 0 h) (U.plain (get_or text i 0) (drop (suc i) text) go b)
+-- `rest` is still to be read, and the first `len` bytes of `out` hold what was read from `from` on
+pub record Reading (answers : ℕ → Bool → Type 0) (text : List ℕ) (from : ℕ) (rest out : List ℕ) (len : ℕ) : Type 0 where
+  pub within : length rest ≤ length text
+  pub is : rest ≡ drop (length text - length rest) text
+  pub behind : from + len + length rest ≤ length text
+  pub whole : (read : List ℕ → Read Piece) (stop : ℕ → Bool) → Unescapes (length text) read stop → Tells answers text stop
+      → read (drop from text) ≡ on_read (on_front (take len out)) (read rest)
 
-  pub no_byte : length text ≤ j → F (drop i text) ≡ refused (faulty nothing_escaped i)
-  no_byte l = ⊎_elim escaped plain (split (is_backslash (get_or text i 0)))
-    where
-      escaped : is_backslash (get_or text i 0) ≡ true → F (drop i text) ≡ refused (faulty nothing_escaped i)
-      escaped b =
-          let k : j ≡ suc i = e ∙ rw b (add-one i) in
-          let n : length text ≤ suc i = omega arith in
-          let p : length text - 1 ≡ i = omega arith in
-          rw (drop-cons text i 0 h, drop_of_length-le text n) (rw p at (U.dangling (get_or text i 0) go b))
+module _ {answers : ℕ → Bool → Type 0} {text rest out : List ℕ} {from len : ℕ} (r : Reading answers text from rest out len) (some : 1 ≤ length rest) where
+  abbrev first : ℕ
+  first = get_or rest 0 0
 
-      plain : is_backslash (get_or text i 0) ≡ false → F (drop i text) ≡ refused (faulty nothing_escaped i)
-      plain b = absurd (let k : j ≡ i + 0 = e ∙ rw b in omega arith)
+  abbrev tail : List ℕ
+  tail = between 1 (length rest) rest
 
--- ---- a turn of the loop
+  whole_rest : rest ≡ first ∷ tail
+  whole_rest = first_rest rest 0 some
 
--- the bytes from `at` on of the room hold what was read; o is the whole text's, which is read on at i
-pub record Reading (F : List ℕ → Read Piece) (o : Read Piece) (text : List ℕ) (at : ℕ) (room₀ room : List ℕ) (i len : ℕ) : Type 0 where
-  pub within : i ≤ length text
-  pub behind : at + len ≤ i
-  pub as_long : length room ≡ length room₀
-  pub kept : Kept at room₀ room
-  pub whole : o ≡ on_read (on_front (take len (drop at room))) (F (drop i text))
+  -- the byte that is tested is one of the text
+  told : (stop : ℕ → Bool) {b : Bool} → Tells answers text stop → answers first b → b ≡ stop first
+  told stop {b} T a =
+      let i : ℕ = length text - length rest in
+      let w = r.within in
+      let e : get_or text i 0 ≡ first = sym (ap (λ (s : List ℕ). get_or s 0 0) r.is ∙ get_or-drop i text 0 0 ∙ rw add-zero) in
+      subst (λ (c : ℕ). b ≡ stop c) e (T i b (omega arith) (subst (λ (c : ℕ). answers c b) (sym e) a))
 
-module _ (F : List ℕ → Read Piece) (text : List ℕ) (from at : ℕ) (room : List ℕ) (h : at ≤ from) (k : from ≤ length text) where
-  pub reading_none : Reading F (F (drop from text)) text at room room from 0
-  reading_none = record {
-    within = k;
-    behind = omega arith;
-    as_long = refl;
-    kept = record { front = refl; row = refl };
-    whole = sym (front_none (F (drop from text)));
+  reading_next : (v k : ℕ) (behind : List ℕ) → behind ≡ drop k rest → 1 ≤ k → k ≤ length rest → length text ≤ from + length out
+      → ((read : List ℕ → Read Piece) (stop : ℕ → Bool) → Unescapes (length text) read stop → Tells answers text stop → read rest ≡ before v (read behind))
+      → Reading answers text from behind (set out len v) (len + 1)
+  reading_next v k behind e l m fits next =
+      let w = r.within in
+      let b = r.behind in
+      let n : length behind ≡ length rest - k = ap length e ∙ length-drop k rest in
+      let i : length text - length rest + k ≡ length text - length behind = omega arith in
+      let o : len < length out = omega arith in
+      let p : take (len + 1) (set out len v) ≡ take len out ++ (v ∷ []) = rw add-one (take-suc-set out len v o) in
+      record {
+        within = omega arith;
+        is = e ∙ ap (drop k) r.is ∙ drop-drop k (length text - length rest) text ∙ rw i;
+        behind = omega arith;
+        whole = λ read stop U T. r.whole read stop U T ∙ rw (next read stop U T, p) (front_more (take len out) v (read behind));
+      }
+
+  module _ (go : answers first false) (shown : List ℕ) where
+    pub reading_plain : (first ≡ 92 → ⊥) → shown ≡ rest → length text ≤ from + length out
+        → Reading answers text from (between 1 (length shown) shown) (set out len (get_or shown 0 0)) (len + 1)
+    reading_plain other e fits =
+        rw e (reading_next first 1 tail (between_to_end rest 1 (length rest) (omega arith)) (omega arith) some fits
+        (λ read stop U T. ap read whole_rest ∙ U.plain first tail (sym (told stop T go)) (ne_eqb first 92 other)))
+
+    pub reading_escaped : first ≡ 92 → shown ≡ tail → 1 ≤ length shown → length text ≤ from + length out
+        → Reading answers text from (between 1 (length shown) shown) (set out len (get_or shown 0 0)) (len + 1)
+    reading_escaped is e more fits =
+        let t : tail ≡ drop 1 rest = between_to_end rest 1 (length rest) (omega arith) in
+        let two : between 1 (length shown) shown ≡ drop 2 rest = between_to_end shown 1 (length shown) (omega arith) ∙ ap (drop 1) (e ∙ t) ∙ drop-drop 1 1 rest in
+        let l : length shown ≡ length rest - 1 = ap length (e ∙ t) ∙ length-drop 1 rest in
+        reading_next (get_or shown 0 0) 2 (between 1 (length shown) shown) two (omega arith) (omega arith) fits
+        (λ read stop U T.
+        ap read (whole_rest ∙ ap (λ (s : List ℕ). first ∷ s) (sym e ∙ first_rest shown 0 more))
+        ∙ U.escaped first (get_or shown 0 0) (between 1 (length shown) shown) (sym (told stop T go)) (eq-eqb first 92 is))
+
+    -- nothing stands behind a backslash
+    pub reading_dangling : first ≡ 92 → shown ≡ tail → length shown < 1 → (read : List ℕ → Read Piece) (stop : ℕ → Bool) → Unescapes (length text) read stop
+        → Tells answers text stop → read (drop from text) ≡ refused (faulty nothing_escaped (length text - length rest))
+    reading_dangling is e none read stop U T =
+        let z : tail ≡ [] = sym e ∙ empty_of shown none in
+        let w : rest ≡ first ∷ [] = whole_rest ∙ ap (λ (s : List ℕ). first ∷ s) z in
+        let d = U.dangling first (sym (told stop T go)) (eq-eqb first 92 is) in
+        r.whole read stop U T ∙ rw (w, d)
+
+pub unescaping : {n : ℕ} {read : List ℕ → Read Piece} {stop : ℕ → Bool} → Unescaping n read stop → Unescapes n read stop
+unescaping U = record { plain = U.plain; escaped = U.escaped; dangling = U.dangling }
+
+-- ---- where a part of the room was lent
+
+take_less : (m n : ℕ) (a b : List ℕ) → m ≤ n → take n a ≡ take n b → take m a ≡ take m b
+take_less m n a b h e = sym (take-take m n a h) ∙ ap (take m) e ∙ take-take m n b h
+
+module _ (at k : ℕ) (room part : List ℕ) (lent : length part ≡ length (take k (drop at room))) (fits : at + k ≤ length room) where
+  l : length part ≡ k
+  l = let d = length-drop at room in lent ∙ length-take-le k (drop at room) (omega arith)
+
+  pub part_kept : at + k ≤ text_most → Kept at room (put_mid at k room part)
+  part_kept m = record {
+    front = take-put_mid_below at k room part at (omega arith) (omega arith);
+    row = drop-put_mid at k room part text_most m (omega arith) l;
   }
 
-  -- what stands between was read before
-  pub reading_on : Reading F (on_read (on_front (take (from - at) (drop at room))) (F (drop from text))) text at room room from (from - at)
-  reading_on = record {
-    within = k;
-    behind = omega arith;
-    as_long = refl;
-    kept = record { front = refl; row = refl };
-    whole = refl;
-  }
+  pub part_taken : (n : ℕ) → n ≤ k → take n (drop at (put_mid at k room part)) ≡ take n part
+  part_taken n h =
+      let d : length (take at room) ≡ at = length-take-le at room (omega arith) in
+      ap (take n) (drop_at (take at room) (part ++ drop k (drop at room)) at d) ∙ take-append-le n part (drop k (drop at room)) (let long = l in omega arith)
 
-module _ (F : List ℕ → Read Piece) {o : Read Piece} (text : List ℕ) (at : ℕ) where
-  module _ {room₀ room : List ℕ} {i len : ℕ} (r : Reading F o text at room₀ room i len) where
-    pub reading_more : (v k : ℕ) → F (drop i text) ≡ before v (F (drop k text)) → i < k → k ≤ length text → length text ≤ text_most → text_most ≤ length room
-        → Reading F o text at room₀ (set room (at + len) v) k (len + 1)
-    reading_more v k e h l m n =
-        let b = r.behind in
-        let o : len < length (drop at room) = rw length-drop (omega arith) in
-        let p : take (len + 1) (drop at (set room (at + len) v)) ≡ take len (drop at room) ++ (v ∷ []) =
-        rw (add-one, drop-set-add at room len v) (take-suc-set (drop at room) len v o) in
-        record {
-          within = l;
-          behind = omega arith;
-          as_long = length-set room (at + len) v ∙ r.as_long;
-          kept = record {
-            front = take-set-le at room (at + len) v (omega arith) ∙ r.kept.front;
-            row = drop-set-lt text_most room (at + len) v (omega arith) ∙ r.kept.row;
-          };
-          whole = r.whole ∙ rw (e, p) (front_more (take len (drop at room)) v (F (drop k text)));
-        }
+  pub part_long : length (put_mid at k room part) ≡ length room
+  part_long =
+      let d : length (take at room) ≡ at = length-take-le at room (omega arith) in
+      let e : length (drop k (drop at room)) ≡ length room - at - k = simp length-drop in
+      let long = l in
+      simp (length-append, d, e) (omega arith)
 
-    -- the text ends before k
-    pub reading_at : (k : ℕ) → F (drop i text) ≡ got (piece [] (drop k text)) → i ≤ k → k ≤ length text
-        → Kept at room₀ room × Reads (At k len false) o text at room
-    reading_at k e h l =
-        let b = r.behind in
-        let u = take len (drop at room) in
-        (r.kept, (r.whole ∙ rw e (ap (λ (t : List ℕ). got (piece t (drop k text))) (append-nil u)), l, omega arith, λ e. clash e refl))
+-- ---- quotes
 
-    pub reading_fault : (f : Fault) (p : ℕ) → F (drop i text) ≡ refused (faulty f p) → p < length text
-        → Kept at room₀ room × Reads (Refused (fault_number f) p) o text at room
-    reading_fault f p e l = (r.kept, (f, r.whole ∙ rw e, refl, l))
+module _ (text : List ℕ) (at : ℕ) (room part : List ℕ) (h : at < length text) (l : length part ≡ length (take (length text - at) (drop at room))) (fits : length text ≤ length room) where
+  pub quote_fault : (e : Fault) → Until (Err e) (quoted_text (length text) at) is_quote text (at + 1) part
+      → Reads (Err e) (quoted_text (length text) at (drop (at + 1) text)) text at (put_mid at (length text - at) room part)
+  quote_fault e u = (nothing_escaped, u.0, u.1, u.2)
 
-    -- a byte is read that does not end it
-    module _ (stop : ℕ → Bool) (U : Unescaping (length text) F stop) (x : ℕ) (h : i < length text) (go : stop (get_or text i 0) ≡ false)
-        (e : x ≡ cond (is_backslash (get_or text i 0)) 1 0) where
-      pub reading_turn : i + x < length text → length text ≤ text_most → room_least ≤ length room₀
-          → Reading F o text at room₀ (set room (at + len) (get_or text (i + x) 0)) (i + x + 1) (len + 1)
-      reading_turn l m n =
-          let a = r.as_long in
-          reading_more (get_or text (i + x) 0) (i + x + 1) (next_byte F stop text U i (i + x) h go (ap (λ (y : ℕ). i + y) e) l)
-          (omega arith) (omega arith) m (omega arith)
+  module _ (t : Ended) (u : Until (Ok t) (quoted_text (length text) at) is_quote text (at + 1) part) where
+    pub quote_open : t.next ≡ length text → quoted_text (length text) at (drop (at + 1) text) ≡ refused (faulty open_quote at)
+    unfolding quoted_text
+    quote_open e = let z : drop t.next text ≡ [] = drop_of_length-le text (omega arith) in u.0 ∙ rw z
 
-      pub reading_dangling : length text ≤ i + x → Kept at room₀ room × Reads (Refused 5 i) o text at room
-      reading_dangling l = reading_fault nothing_escaped i (no_byte F stop text U i (i + x) h go (ap (λ (y : ℕ). i + y) e) l) h
+    pub quote_closed : (t.next ≡ length text → ⊥)
+        → Reads (Ok (record { next = t.next + 1; len = t.len; word = t.word })) (quoted_text (length text) at (drop (at + 1) text)) text at (put_mid at (length text - at) room part)
+    quote_closed n =
+        let b = u.1 in
+        let c = u.2 in
+        let i : t.next < length text = omega arith in
+        let s : quoted_text (length text) at (drop t.next text) ≡ got (piece [] (drop (t.next + 1) text)) =
+        rw (drop-cons text t.next 0 i, add-one) (quoted_stop (length text) at (get_or text t.next 0) (drop (suc t.next) text) (u.3 i)) in
+        let p : take t.len (drop at (put_mid at (length text - at) room part)) ≡ take t.len part = part_taken at (length text - at) room part l (omega arith) t.len (omega arith) in (
+          u.0 ∙ rw (s, p) (ap (λ (x : List ℕ). got (piece x (drop (t.next + 1) text))) (append-nil (take t.len part))),
+          omega arith,
+          omega arith,
+          λ e. clash e u.4,
+        )
 
--- ---- the ends of both
-
-pub escape_most : (b : Bool) → cond b 1 0 ≤ 1
-escape_most true = omega arith
-escape_most false = omega arith
-
-module _ (text : List ℕ) (i : ℕ) where
-  pub term_ends : i < length text → ends_term (get_or text i 0) ≡ true → term_text (length text) (drop i text) ≡ got (piece [] (drop i text))
-  term_ends h e = rw (drop-cons text i 0 h) (term_stop (length text) (get_or text i 0) (drop (suc i) text) e)
-
-  pub term_over : length text ≤ i → term_text (length text) (drop i text) ≡ got (piece [] (drop i text))
-  unfolding term_text
-  term_over h = rw (drop_of_length-le text h)
-
-  pub quote_ends : (p : ℕ) → i < length text → is_quote (get_or text i 0) ≡ true → quoted_text (length text) p (drop i text) ≡ got (piece [] (drop (i + 1) text))
-  quote_ends p h e = rw (drop-cons text i 0 h, add-one) (quoted_stop (length text) p (get_or text i 0) (drop (suc i) text) e)
-
-  pub quote_over : (p : ℕ) → length text ≤ i → quoted_text (length text) p (drop i text) ≡ refused (faulty open_quote p)
-  unfolding quoted_text
-  quote_over p h = rw (drop_of_length-le text h)
-
--- ---- letters first
+-- ---- terms
 
 all_more : (P : ℕ → Bool) (s : List ℕ) (c : ℕ) → all P s ≡ true → P c ≡ true → all P (s ++ (c ∷ [])) ≡ true
 unfolding all
 all_more P [] c h k = both k refl
 all_more P (x ∷ s) c h k = both (and_l (P x) (all P s) h) (all_more P s c (and_r (P x) (all P s) h) k)
 
--- the bytes from `at` to i are letters, and each stands in the room at its own place
-pub record Spelling (text : List ℕ) (at : ℕ) (room₀ room : List ℕ) (i : ℕ) : Type 0 where
-  pub onward : at ≤ i
-  pub reading : Reading (term_text (length text)) (term_text (length text) (drop at text)) text at room₀ room i (i - at)
-  pub letters : all is_letter (take (i - at) (drop at room)) ≡ true
+-- the first k bytes of the term are letters, and stand in `out` too
+pub record Lettered (term out : List ℕ) (k : ℕ) : Type 0 where
+  pub laid : take k out ≡ take k term
+  pub letters : all is_letter (take k term) ≡ true
 
-module _ (text : List ℕ) (at : ℕ) where
-  pub spelling_none : (room : List ℕ) → at ≤ length text → Spelling text at room room at
-  unfolding all
-  spelling_none room h =
-      let e : 0 ≡ at - at = omega arith in
-      record {
-        onward = omega arith;
-        reading = rw e at (reading_none (term_text (length text)) text at at room (omega arith) h);
-        letters = rw (← e);
-      }
+pub lettered_none : (term out : List ℕ) → Lettered term out 0
+unfolding all
+lettered_none term out = record { laid = refl; letters = refl }
 
-  module _ {room₀ room : List ℕ} {i : ℕ} (S : Spelling text at room₀ room i) where
-    pub spelling_more : i < length text → is_letter (get_or text i 0) ≡ true → ends_term (get_or text i 0) ≡ false → length text ≤ text_most → room_least ≤ length room₀
-        → Spelling text at room₀ (set room i (get_or text i 0)) (i + 1)
-    spelling_more h g n m l =
-        let w = S.onward in
-        let long = S.reading.as_long in
-        let v = get_or text i 0 in
-        let back : is_backslash v ≡ false = letter_other v g 0x5c refl in
-        let none : i + 0 ≡ i = add-zero i in
-        let here : at + (i - at) ≡ i = omega arith in
-        let next : i - at + 1 ≡ i + 1 - at = omega arith in
-        let turn : Reading (term_text (length text)) (term_text (length text) (drop at text)) text at room₀ (set room i v) (i + 1) (i - at + 1) =
-        rw (none, here) at (reading_turn (term_text (length text)) text at S.reading ends_term (term_unescapes (length text)) 0 h n (rw back) (omega arith) m l) in
-        let o : i - at < length (drop at room) = rw length-drop (omega arith) in
-        let p : take (i - at + 1) (drop at (set room (at + (i - at)) v)) ≡ take (i - at) (drop at room) ++ (v ∷ []) =
-        rw (add-one, drop-set-add at room (i - at) v) (take-suc-set (drop at room) (i - at) v o) in
-        let q : all is_letter (take (i - at + 1) (drop at (set room (at + (i - at)) v))) ≡ true =
-        rw p (all_more is_letter (take (i - at) (drop at room)) v S.letters g) in
-        record { onward = omega arith; reading = rw next at turn; letters = rw (here, next) at q }
+pub lettered_more : {term out : List ℕ} {k : ℕ} → Lettered term out k → k < length term → k < length out → is_letter (get_or term k 0) ≡ true
+    → Lettered term (set out k (get_or term k 0)) (k + 1)
+lettered_more {term} {out} {k} L h l g =
+    let one : take (k + 1) term ≡ take k term ++ (get_or term k 0 ∷ []) = rw add-one (take-suc term k 0 h) in
+    record {
+      laid = rw (one, add-one, take-suc-set out k (get_or term k 0) l) (ap (λ (s : List ℕ). s ++ (get_or term k 0 ∷ [])) L.laid);
+      letters = rw one (all_more is_letter (take k term) (get_or term k 0) L.letters g);
+    }
 
-    pub spelling_over : Kept at room₀ room × Letters text at i room
-    spelling_over =
-        (S.reading.kept, record { onward = S.onward; within = S.reading.within; letters = S.letters; whole = S.reading.whole })
+front_both : (a b : List ℕ) (r : Read Piece) → on_read (on_front a) (on_read (on_front b) r) ≡ on_read (on_front (a ++ b)) r
+front_both a b (got (piece t s)) = ap (λ (l : List ℕ). got (piece l s)) (sym (append_assoc a b t))
+front_both a b (refused f) = refl
 
-  -- what is read behind the letters
-  module _ {i : ℕ} {room : List ℕ} (L : Letters text at i room) where
-    pub letters_only : term_text (length text) (drop i text) ≡ got (piece [] (drop i text)) → Reads (At i (i - at) true) (term_text (length text) (drop at text)) text at room
-    letters_only e =
-        let w = L.onward in (
-          L.whole ∙ rw e (ap (λ (t : List ℕ). got (piece t (drop i text))) (append-nil (take (i - at) (drop at room)))),
-          L.within,
-          omega arith,
-          λ _. record { letters = L.letters; ended = omega arith },
-        )
+front_less : (c : ℕ) (u : List ℕ) (r : Read Piece) → before c (on_read (on_front u) r) ≡ on_read (on_front (c ∷ u)) r
+unfolding before
+front_less c u (got (piece t s)) = refl
+front_less c u (refused f) = refl
 
-    pub letters_first : (r : Ended) (room₁ : List ℕ) → Reads r (on_read (on_front (take (i - at) (drop at room))) (term_text (length text) (drop i text))) text at room₁
-        → Reads r (term_text (length text) (drop at text)) text at room₁
-    letters_first r room₁ h = rw L.whole h
+letters_front : (n : ℕ) (s : List ℕ) (k : ℕ) → all is_letter (take k s) ≡ true → is_text s ≡ true → term_text n s ≡ on_read (on_front (take k s)) (term_text n (drop k s))
+unfolding all is_text
+letters_front n s zero h x = sym (front_none (term_text n s))
+letters_front n [] (suc k) h x = sym (front_none (term_text n []))
+letters_front n (c ∷ s) (suc k) h x =
+    let l : is_letter c ≡ true = and_l (is_letter c) (all is_letter (take k s)) h in
+    let a = leb-true c 0x7f (and_l (leb c 0x7f) (is_text s) x) in
+    let more = letters_front n s k (and_r (is_letter c) (all is_letter (take k s)) h) (and_r (leb c 0x7f) (is_text s) x) in
+    let U = term_unescapes n in
+    U.plain c s (letter_goes_on c (omega arith) l) (letter_other c l 0x5c refl) ∙ ap (before c) more ∙ front_less c (take k s) (term_text n (drop k s))
 
-pub kept_both : (at : ℕ) (a b c : List ℕ) → Kept at a b → Kept at b c → Kept at a c
-kept_both at a b c p q = record { front = q.front ∙ p.front; row = q.row ∙ p.row }
+pub rest_long : (k : ℕ) (s : List ℕ) → length (take (length s - k) (drop k s)) ≡ length s - k
+rest_long k s = rw take_rest (length-drop k s)
+
+pub text_rest : (k : ℕ) (s : List ℕ) → is_text s ≡ true → is_text (drop k s) ≡ true
+unfolding is_text
+text_rest zero s h = h
+text_rest (suc k) [] h = h
+text_rest (suc k) (c ∷ s) h = text_rest k s (and_r (leb c 0x7f) (is_text s) h)
+
+term_stops : (text : List ℕ) (i : ℕ) → (i < length text → ends_term (get_or text i 0) ≡ true) → term_text (length text) (drop i text) ≡ got (piece [] (drop i text))
+unfolding term_text
+term_stops text i h = pass (dec_lt i (length text))
+  where
+    pass : Dec (i < length text) → term_text (length text) (drop i text) ≡ got (piece [] (drop i text))
+    pass (yes l) = rw (drop-cons text i 0 l) (term_stop (length text) (get_or text i 0) (drop (suc i) text) (h l))
+    pass (no l) = let z : drop i text ≡ [] = drop_of_length-le text (omega arith) in rw z
+
+module _ (text : List ℕ) (at len : ℕ) (h : at + len ≤ length text) (x : is_text text ≡ true) (letters : all is_letter (take len (drop at text)) ≡ true) where
+  whole_term : term_text (length text) (drop at text) ≡ on_read (on_front (take len (drop at text))) (term_text (length text) (drop (at + len) text))
+  whole_term = letters_front (length text) (drop at text) len letters (text_rest at text x) ∙ rw drop-drop
+
+  module _ (room part : List ℕ) (l : length part ≡ length (take (length text - at) (drop at room))) (fits : length text ≤ length room) (laid : take len part ≡ take len (drop at text)) where
+    abbrev pub lettered : List ℕ
+    lettered = put_mid at (length text - at) room part
+
+    has_letters : take len (drop at lettered) ≡ take len (drop at text)
+    has_letters = part_taken at (length text - at) room part l (omega arith) len (omega arith) ∙ laid
+
+    pub term_word : (at + len < length text → ends_term (get_or text (at + len) 0) ≡ true)
+        → Reads (Ok (record { next = at + len; len = len; word = true })) (term_text (length text) (drop at text)) text at lettered
+    term_word e = (
+      whole_term ∙ rw (term_stops text (at + len) e, has_letters) (ap (λ (t : List ℕ). got (piece t (drop (at + len) text))) (append-nil (take len (drop at text)))),
+      h,
+      omega arith,
+      λ _. record { letters = rw has_letters letters; ended = refl },
+    )
+
+    pub term_room : length text ≤ at + len + length (take (length text - (at + len)) (drop (at + len) lettered))
+    term_room =
+        let long = part_long at (length text - at) room part l (omega arith) in
+        let d = length-drop (at + len) lettered in
+        let e = length-take-le (length text - (at + len)) (drop (at + len) lettered) (omega arith) in
+        omega arith
+
+    -- what is read on goes behind the letters
+    module _ (more : List ℕ) (m : length more ≡ length (take (length text - (at + len)) (drop (at + len) lettered))) where
+      abbrev pub after : List ℕ
+      after = put_mid (at + len) (length text - (at + len)) lettered more
+
+      pub term_kept : length text ≤ text_most → Kept at room after
+      term_kept s =
+          let a = part_kept at (length text - at) room part l (omega arith) (omega arith) in
+          let b = part_kept (at + len) (length text - (at + len)) lettered more m (omega (arith, part_long at (length text - at) room part l (omega arith))) (omega arith) in
+          record { front = take_less at (at + len) after lettered (omega arith) b.front ∙ a.front; row = b.row ∙ a.row }
+
+      pub term_fault : (e : Fault) → Until (Err e) (term_text (length text)) ends_term text (at + len) more
+          → Reads (Err e) (term_text (length text) (drop at text)) text at after
+      term_fault e u = (nothing_escaped, whole_term ∙ rw (u.0), u.1, u.2)
+
+      pub term_more : (t : Ended) → Until (Ok t) (term_text (length text)) ends_term text (at + len) more
+          → Reads (Ok (record { next = t.next; len = len + t.len; word = t.word })) (term_text (length text) (drop at text)) text at after
+      term_more t u =
+          let b = u.1 in
+          let c = u.2 in
+          let long = part_long at (length text - at) room part l (omega arith) in
+          let front : take (at + len) after ≡ take (at + len) lettered = take-put_mid_below (at + len) (length text - (at + len)) lettered more (at + len) (omega arith) (omega arith) in
+          let old : take len (drop at after) ≡ take len (drop at text) = sym (drop-take at len after) ∙ ap (drop at) front ∙ drop-take at len lettered ∙ has_letters in
+          let new : take t.len (drop (at + len) after) ≡ take t.len more = part_taken (at + len) (length text - (at + len)) lettered more m (omega arith) t.len (omega arith) in
+          let p : take (len + t.len) (drop at after) ≡ take len (drop at text) ++ take t.len more = rw (take-add, old, drop-drop, new) in (
+            whole_term ∙ rw (u.0, front_both, term_stops text t.next u.3, p)
+                (ap (λ (x : List ℕ). got (piece x (drop t.next text))) (append-nil (take len (drop at text) ++ take t.len more))),
+            u.1,
+            omega arith,
+            λ e. clash e u.4,
+          )

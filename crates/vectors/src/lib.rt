@@ -2,10 +2,12 @@
 // is a program that runs one list. It writes how many lines agree, or the first that differs.
 #![tactic(auto)]
 
-ghost use Rattle.std.specs.Prelude.{◌≡◌, ◌≤◌, length, IfOk};
+ghost use Rattle.std.specs.Prelude.{◌≡◌, length};
 
-use std::io::{self, Read, Write};
+use inputs::read_full;
+use std::io::{self, Write};
 
+// Stays: what a line says is decoded into arrays on the stack, as far as a length says, for there is no heap here either.
 mod line;
 mod numerals;
 mod parsing;
@@ -34,10 +36,7 @@ fn agrees(list: List, line: &[u8]) -> bool {
 
 // An empty line is no comment, and agrees with nothing.
 fn is_comment(line: &[u8]) -> bool {
-    if line.len() == 0 {
-        return false;
-    }
-    line[0] == b'#'
+    line.first() == Some(&b'#')
 }
 
 fn tell_difference(rt: &HostRuntime, line: &[u8]) -> io::Result<()> {
@@ -52,6 +51,7 @@ fn tell_count(rt: &HostRuntime, n: u64, agree: &[u8]) -> io::Result<()> {
 }
 
 fn run_lines(rt: &HostRuntime, list: List, s: &[u8], agree: &[u8]) -> io::Result<()> {
+    // Stays: `split` gives an empty line behind the last line end, and one of an empty list, which agree with nothing.
     let mut n: u64 = 0;
     let mut at: usize = 0;
     while at < s.len() {
@@ -67,21 +67,6 @@ fn run_lines(rt: &HostRuntime, list: List, s: &[u8], agree: &[u8]) -> io::Result
     tell_count(rt, n, agree)
 }
 
-// Reads until the buffer is full or the input ends, and gives how many bytes that is.
-fn read_full(rt: &HostRuntime, input: &mut [u8]) -> io::Result<usize>
-    ensures { IfOk result (λ n. n ≤ length input.new) }
-{
-    let mut done = 0;
-    while done < input.len() {
-        let n = rt.stdin().read(&mut input[done..])?;
-        if n == 0 {
-            break;
-        }
-        done += n;
-    }
-    Ok(done)
-}
-
 // The buffer for a list. Lending it as a slice asks for its length alone.
 fn empty_input() -> [u8; INPUT_MOST]
     ensures { INPUT_MOST ≡ length result }
@@ -90,7 +75,7 @@ fn empty_input() -> [u8; INPUT_MOST]
 }
 
 fn run_in(rt: &HostRuntime, list: List, input: &mut [u8], agree: &[u8]) -> io::Result<()> {
-    let n = read_full(rt, input)?;
+    let n = read_full(&mut rt.stdin(), input)?;
     if n == INPUT_MOST {
         return rt.stdout().write_all(b"the list is too long\n");
     }

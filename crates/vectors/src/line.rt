@@ -2,21 +2,17 @@
 ghost use Rattle.std.specs.Prelude.{true, ◌≡◌, ◌+◌, ◌≤◌, min, length};
 ghost use Rattle.vectors.specs.Line.{EndsAt, decimal_of, digit_of, pair_at, Decoded, IsHex};
 
-use numbers::wide;
-
 // Where the part that begins at `at` ends: before a byte b or at the end of all.
 pub fn part_end(s: &[u8], at: usize, b: u8) -> usize
     requires { at ≤ length s.now }
     ensures { EndsAt s.now at b result }
 {
-    let mut i = at;
-    while i < s.len() {
+    for i in at..s.len() {
         if s[i] == b {
             return i;
         }
-        i += 1;
     }
-    i
+    s.len()
 }
 
 // The place behind a part's end, within the text.
@@ -24,18 +20,16 @@ pub fn behind(s: &[u8], end: usize) -> usize
     requires { end ≤ length s.now }
     ensures { result ≡ min (end + 1) (length s.now) }
 {
-    if end < s.len() { end + 1 } else { end }
+    s.len().min(end + 1)
 }
 
 // The number that decimal digits make, of which the last four count.
 pub fn decimal(s: &[u8]) -> usize
     ensures { result ≡ decimal_of 0 s.now }
 {
-    let mut n: usize = 0;
-    let mut i = 0;
-    while i < s.len() {
-        n = n % 1000 * 10 + wide(s[i] % 16);
-        i += 1;
+    let mut n = 0;
+    for c in s {
+        n = n % 1000 * 10 + usize::from(*c % 16);
     }
     n
 }
@@ -59,13 +53,9 @@ fn pair(hex: &[u8], i: usize) -> u8
 pub fn decode(hex: &[u8], out: &mut [u8]) -> usize
     ensures { Decoded hex.now out.old result out.new }
 {
-    let mut n = 0;
-    while n < out.len() {
-        if hex.len() < n + n + 2 {
-            return n;
-        }
-        out[n] = pair(hex, n);
-        n += 1;
+    let n = out.len().min(hex.len() / 2);
+    for i in 0..n {
+        out[i] = pair(hex, i);
     }
     n
 }
@@ -77,12 +67,10 @@ pub fn is_hex(bytes: &[u8], hex: &[u8]) -> bool
     if hex.len() != bytes.len() + bytes.len() {
         return false;
     }
-    let mut i = 0;
-    while i < bytes.len() {
-        if bytes[i] != pair(hex, i) {
+    for (i, byte) in bytes.iter().enumerate() {
+        if *byte != pair(hex, i) {
             return false;
         }
-        i += 1;
     }
     true
 }

@@ -4,13 +4,13 @@ use boost::numeral;
 
 fn answers(text: &[u8], refusal: usize, bits: &[u8]) -> bool {
     match numeral::numeral(text) {
-        numeral::Answer::Refused(n) => {
-            if numbers::wide(n) != refusal {
+        Err(e) => {
+            if numbers::wide(e as u8) != refusal {
                 return false;
             }
             check::same(bits, b"-")
         }
-        numeral::Answer::Bits(b) => {
+        Ok(b) => {
             if refusal != 0 {
                 return false;
             }

@@ -37,8 +37,8 @@ fn answers(
         &mut out,
         &mut room,
     ) {
-        parse::Parsed::Refused(n, _) => numbers::wide(n) == refusal,
-        parse::Parsed::Bytes(n) => {
+        Err(e) => numbers::wide(u8::from(e.refusal)) == refusal,
+        Ok(n) => {
             if refusal != 0 {
                 return false;
             }

@@ -8,18 +8,10 @@ const QUERY_ROOM: usize = 40000;
 fn becomes(query: &[u8], made: usize, hex: &[u8]) -> bool {
     let mut out = [0u8; QUERY_ROOM];
     let mut room = [0u8; names::REWRITE_ROOM];
-    let w = rounds::rewrite(rounds::ORIGINAL, query, &mut out, &mut room);
-    if w.refusal != 0 {
-        return false;
+    match rounds::rewrite(rounds::ORIGINAL, query, &mut out, &mut room) {
+        Ok(w) => w.rounds == made && w.len <= QUERY_ROOM && line::is_hex(&out[0..w.len], hex),
+        Err(_) => false,
     }
-    if w.rounds != made {
-        return false;
-    }
-    let n = w.len;
-    if QUERY_ROOM < n {
-        return false;
-    }
-    line::is_hex(&out[0..n], hex)
 }
 
 pub fn agrees(line: &[u8]) -> bool {

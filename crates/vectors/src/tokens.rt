@@ -8,15 +8,10 @@ use analysis::tokens;
 fn write_token(token: &[u8], analyzer: u8, out: &mut [u8]) -> usize
     ensures { result ≤ length out.new }
 {
-    let mut n = 0;
-    while n < out.len() {
-        if token.len() <= n {
-            return n;
-        }
-        out[n] = tokens::written(analyzer, token[n]);
-        n += 1;
+    for (byte, c) in out.iter_mut().zip(token) {
+        *byte = tokens::written(analyzer, *c);
     }
-    n
+    out.len().min(token.len())
 }
 
 // The token reads as the digits say.

@@ -1,7 +1,7 @@
 -- The row of what a query wants, as it is marked: a place at a time, and place after place of the query's bytes.
 use mathlib.Core.Path.{◌≡◌, refl, sym, ap, ◌∙◌}
 use mathlib.Core.Logic.{◌⊎◌, inl, inr, ⊎_elim}
-use Prim.Native.Nat.{ℕ, ◌+◌, ◌/◌, ◌%◌, ◌≤◌, ◌<◌}
+use Prim.Native.Nat.{ℕ, ◌%◌, ◌≤◌, ◌<◌}
 use mathlib.Core.List.{List, [], ◌∷◌}
 use mathlib.Core.Bool.{Bool, true, false, ◌||◌}
 use native.Mathlib.Omega.{arith}
@@ -16,7 +16,7 @@ use Rattle.rules.proofs.Bools.{clash, split, or_l, or_r, either}
 use Rattle.entries.specs.Slots.{slots_many, hash_of}
 use Rattle.entries.specs.Entry.{is_place, field_of, text_of}
 use Rattle.wanted.specs.Wanted.{calls_by}
-use Rattle.wanted.specs.Marks.{several, print_of, is_marked, Kept, Marked, Word, Other, Behind, WordAt, OtherAt, Looked, Somewhere, here, later, Marks}
+use Rattle.wanted.specs.Marks.{several, print_of, is_marked, Kept, Marked, Behind, WordAt, OtherAt, Looked, Somewhere, here, later, Marks}
 
 -- ---- one mark
 
@@ -150,11 +150,11 @@ front_or_later {P = P} [] S = elim S [ ]
 front_or_later (x ∷ s) (here h) = inl h
 front_or_later (x ∷ s) (later S) = inr S
 
-pub going_next : {q w t after u : List ℕ} {ranges r more : Bool} → Going q w t ranges → Looked w t after r → more ≡ (r || ranges) → u ≡ drop 1 t → Going q after u more
+pub going_next : {q w t after u : List ℕ} {ranges r more : Bool} → Going q w t ranges → Looked w t after r → more ≡ (ranges || r) → u ≡ drop 1 t → Going q after u more
 going_next {t = t} {ranges = ranges} {r = r} G L em eu = record {
   many = L.kept.many;
   words = λ n S. ⊎_elim (λ h. inl (L.kept.stays n h)) (λ T. ⊎_elim (λ p. inl (L.words n p)) (λ U. inr (rw eu U)) (front_or_later t T)) (G.words n S);
-  others = λ S. ⊎_elim (λ h. inl (em ∙ or_r r h)) (λ T. ⊎_elim (λ p. inl (em ∙ or_l ranges (L.others p))) (λ U. inr (rw eu U)) (front_or_later t T)) (G.others S);
+  others = λ S. ⊎_elim (λ h. inl (em ∙ or_l r h)) (λ T. ⊎_elim (λ p. inl (em ∙ or_r ranges (L.others p))) (λ U. inr (rw eu U)) (front_or_later t T)) (G.others S);
 }
 
 somewhere_long : {P : List ℕ → Type 0} (t : List ℕ) → Somewhere P t → 0 < length t

@@ -1,17 +1,17 @@
 -- What a query wants stands somewhere in its bytes. So a row in which all that is there is marked passes what the query wants.
-use mathlib.Core.Path.{◌≡◌, refl, sym, ap, ◌∙◌}
-use mathlib.Core.Logic.{◌⊎◌, inl, inr, ⊎_elim}
-use Prim.Native.Nat.{ℕ, ◌+◌, ◌≤◌}
+use mathlib.Core.Path.{◌≡◌, refl, ap, ◌∙◌}
+use mathlib.Core.Logic.{inl, inr, ⊎_elim}
+use Prim.Native.Nat.{ℕ}
 use mathlib.Core.List.{List, [], ◌∷◌, ◌++◌, append_assoc, append-nil}
-use mathlib.Core.Bool.{Bool, true, false, ◌||◌}
+use mathlib.Core.Bool.{Bool, true, false}
 use native.Mathlib.Omega.{arith}
 use lib.ListN.{length, drop, length-append}
 use lib.Seq.{drop_at}
 use lib.Dec.{leb}
 use borrow.Author.Tests.{eqb-true, leb-true}
 use Rattle.rules.specs.Numbers.{field_most, field_tag, text_tag, word_tag, term_tag, phrase_tag, boolean_tag, boost_tag, constant_score_tag, minimum_tag, open_tag, included_tag, excluded_tag}
-use Rattle.rules.specs.Bytes.{is_text, is_field, big, part, body_of, rest_of, is_part, some}
-use Rattle.rules.specs.Query.{Word, word, Numbers, whole, float, Bound, unbounded, included, excluded, Query, term, phrase, boolean, boost, constant_score, match_all, match_none, range, Clauses, none, clause}
+use Rattle.rules.specs.Bytes.{is_text, is_field, big, part, is_part, some}
+use Rattle.rules.specs.Query.{word, whole, float, Bound, unbounded, included, excluded, Query, term, phrase, boolean, boost, constant_score, match_all, match_none, range, Clauses, none, clause}
 use Rattle.rules.specs.Stored.{kind_tag, range_tag, encode_bound, encode_words, encode, encodes, Valid, Valids}
 use Rattle.rules.specs.Checked.{Is}
 use Rattle.rules.specs.Lists.{Entry}

@@ -1,5 +1,5 @@
 -- The row of what a query wants, and what it means that everything which the query's bytes can want is marked in it.
-use Rattle.std.specs.Prelude.{◌≡◌, ℕ, ◌+◌, ◌/◌, ◌%◌, ◌≤◌, List, [], ◌∷◌, Bool, true, false, ◌||◌, ◌⊎◌, length, get_or, drop, eqb}
+use Rattle.std.specs.Prelude.{◌≡◌, ℕ, ◌+◌, ◌/◌, ◌%◌, ◌≤◌, List, ◌∷◌, Bool, true, false, ◌||◌, ◌⊎◌, length, get_or, drop, eqb}
 use Rattle.rules.specs.Numbers.{field_most, field_tag, text_tag, word_tag}
 use Rattle.rules.specs.Bytes.{body_of, rest_of, is_part}
 use Rattle.entries.specs.Slots.{slots_many, hash_of}

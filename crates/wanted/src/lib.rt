@@ -11,11 +11,14 @@ ghost use Rattle.wanted.specs.Wanted.{calls_by};
 ghost use Rattle.wanted.specs.Marks.{print_of, is_marked, Marked, Behind, Looked, Marks};
 
 use entries::entry::{field, is_place, text};
+use entries::here::any_entry;
 use entries::slots::{SLOTS, hash};
 use names::{FIELD_MOST, FIELD_TAG, POSITION_BYTES, TEXT_TAG, WORD_TAG};
 use parts::part::{body, is_part, rest};
 
 // ---- the row: nothing, the print of the one hash that is wanted there, or that there are several
+// Stays: `mark_query` takes the row as bytes, which its caller lends, and an enum of the three has two bytes.
+// Stays: `mark_query` and `any_called` take the row as a slice, so that its length stands in the contracts.
 
 const SEVERAL: u8 = 255;
 
@@ -31,10 +34,7 @@ fn is_marked(wanted: &[u8], n: usize) -> bool
     ensures { result ≡ is_marked wanted.now n }
 {
     let v = wanted[n % SLOTS];
-    if v == print(n) {
-        return true;
-    }
-    v == SEVERAL
+    v == print(n) || v == SEVERAL
 }
 
 fn mark(wanted: &mut [u8], n: usize)
@@ -88,12 +88,6 @@ fn look(wanted: &mut [u8], t: &[u8]) -> bool
     look_behind(wanted, f, rest(t))
 }
 
-fn either(a: bool, b: bool) -> bool
-    ensures { result ≡ (a || b) }
-{
-    if a { true } else { b }
-}
-
 // The answer is whether the query may have a range. Every place of its bytes is looked at: what is no field there, but seems one, is marked too.
 pub fn mark_query(query: &[u8], wanted: &mut [u8]) -> bool
     requires { length wanted.old ≡ slots_many }
@@ -102,9 +96,8 @@ pub fn mark_query(query: &[u8], wanted: &mut [u8]) -> bool
     let mut ranges = false;
     let mut t = query;
     while t.len() > 0 {
-        ranges = either(look(wanted, t), ranges);
-        let u = &t[1..];
-        t = u;
+        ranges |= look(wanted, t);
+        t = &t[1..];
     }
     ranges
 }
@@ -126,13 +119,5 @@ pub fn any_called(wanted: &[u8], ranges: bool, rec: &[u8]) -> bool
     requires { (length wanted.now ≡ slots_many) × (every is_entry rec.now ≡ true) }
     ensures { result ≡ some (calls_by hash_of (is_marked wanted.now) (λ f. ranges)) (each entry_of rec.now) }
 {
-    let mut e = rec;
-    while e.len() > 0 {
-        if is_called(wanted, ranges, e) {
-            return true;
-        }
-        let u = rest(e);
-        e = u;
-    }
-    false
+    any_entry(rec, |e| is_called(wanted, ranges, e))
 }

@@ -1,14 +1,19 @@
 -- `classes::class_of` meets its contract, by the rule of the table. Assumes nothing.
-use Prim.Native.Nat.{ℕ}
-use Rattle.rules.proofs.Text.Classes.{class_within, class_beyond}
-use lib.ListN.{get_or}
-use mathlib.Core.List.{List}
-use mathlib.Core.Path.{sym, ap, ◌∙◌}
-use native.Mathlib.Omega.{arith}
+use Rattle.std.proofs.Common.{◌≡◌, ℕ, List, Option, None, Some, Bor, get_or, arith}
+use Rattle.std.proofs.lemmas.Grind.{common_steps}
+use Rattle.std.proofs.lemmas.Option.{gets}
+use Rattle.std.specs.Option.{option_copied, unwrap_or}
+use Rattle.std.specs.Slice.{IsItemAt}
+use Rattle.rules.proofs.Text.Classes.{class_at}
+use Rattle.rules.specs.Analysis.{classes}
+use Rattle.classes.specs.declared.table.TheConstants.{CLASSES}
 use Rattle.classes.proofs.class_of.Goals as goal
 
-pub returns-then-c-le-ASCII_MOST : goal.returns-then-c-le-ASCII_MOST
-returns-then-c-le-ASCII_MOST c = ap (λ (t : List ℕ). get_or t c.args.c 0) c.requires ∙ class_within c.args.c (omega arith)
+-- what `get` lends, copied, or 0 past the end
+copied_at : (s : List ℕ) (i : ℕ) (r : Option (Bor ℕ)) → IsItemAt s i r → unwrap_or (option_copied r) 0 ≡ get_or s i 0
+copied_at s i None g = grind (arith, common_steps, gets)
+copied_at s i (Some x) g = grind (arith, common_steps, gets)
 
-pub returns-else-c-le-ASCII_MOST : goal.returns-else-c-le-ASCII_MOST
-returns-else-c-le-ASCII_MOST c = sym (class_beyond c.args.c (omega arith))
+pub returns : goal.returns
+unfolding classes
+returns c = rw (c.unwrap_or.ensures, c.copied.ensures, copied_at CLASSES _ _ c.get.ensures.lookup, ← c.from.ensures) (class_at c.from.result)

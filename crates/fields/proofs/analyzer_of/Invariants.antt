@@ -1,5 +1,4 @@
 -- `fields::analyzer_of` meets its contract. The loop's invariant: the entries from the k-th on are not the field's. Assumes nothing.
-use Prim.Native.Nat.{◌≤◌}
 use Rattle.fields.proofs.Rows.{among_to}
 use Rattle.fields.specs.Fields.{array_entries}
 use Rattle.rules.specs.Setup.{analyzer_among}
@@ -7,7 +6,4 @@ use mathlib.Core.Path.{◌≡◌}
 use Rattle.fields.proofs.analyzer_of.Given as goal
 
 abbrev pub invariant-loop-k : goal.invariant-loop-k
-invariant-loop-k l = (l.k ≤ 8) × (analyzer_among l.default (array_entries l.names l.lengths l.analyzers l.count) l.field ≡ among_to l.names l.lengths l.analyzers l.default l.field l.k)
-
-abbrev pub decreases-loop-k : goal.decreases-loop-k
-decreases-loop-k l = l.k
+invariant-loop-k l = analyzer_among l.default (array_entries l.names l.lengths l.analyzers l.count) l.field ≡ among_to l.names l.lengths l.analyzers l.default l.field l.k

@@ -1,13 +1,17 @@
 -- `gorbihesh::rewrite_by` meets its contract.
-use Rattle.gorbihesh.proofs.Edge.{rewrite_short, rewrite_few, rewrite_left_lem}
+use Rattle.gorbihesh.proofs.Edge.{rewrite_short, rewrite_few, rewrite_left_lem, rewrite_refused}
+use mathlib.Core.Path.{◌∙◌}
 use native.Mathlib.Omega.{arith}
 use Rattle.gorbihesh.proofs.rewrite_by.Goals as goal
 
-pub overflow_cast-a-2 : goal.overflow_cast-a-2
-overflow_cast-a-2 c = omega (arith, rewrite_short _ _ _ _ (λ i. omega (arith, c.shared_slice_known-1.given i)) c.rewrite-a.ensures)
+pub overflow_cast-a : goal.overflow_cast-a
+overflow_cast-a c = omega (arith, rewrite_short c.rewrite.ensures (λ i. omega (arith, c.type_inv.query i)) c.in-Ok.is)
 
-pub overflow_cast-a-3 : goal.overflow_cast-a-3
-overflow_cast-a-3 c = omega (arith, rewrite_few _ _ _ _ (λ i. omega (arith, c.shared_slice_known-1.given i)) c.rewrite-a.ensures)
+pub overflow_cast-a-in-Ok : goal.overflow_cast-a-in-Ok
+overflow_cast-a-in-Ok c = omega (arith, rewrite_few c.rewrite.ensures (λ i. omega (arith, c.type_inv.query i)) c.in-Ok.is)
 
-pub returns : goal.returns
-returns c = rewrite_left_lem c.rewrite-a.ensures c.told.ensures
+pub returns-in-Err : goal.returns-in-Err
+returns-in-Err c = rewrite_refused c.rewrite.ensures c.in-Err.is (c.from-in-Err.ensures ∙ c.from.ensures) c.told.ensures
+
+pub returns-in-Ok : goal.returns-in-Ok
+returns-in-Ok c = rewrite_left_lem c.rewrite.ensures c.in-Ok.is c.told-in-Ok.ensures

@@ -4,8 +4,8 @@ use Rattle.lexer.proofs.Turns.{Lexing}
 use lib.ListN.{length}
 use Rattle.lexer.proofs.lex.Given as goal
 
-abbrev pub invariant-loop-i : goal.invariant-loop-i
-invariant-loop-i l = Lexing l.text l.initial.room l.room l.i l.n
+abbrev pub invariant-loop-spaces : goal.invariant-loop-spaces
+invariant-loop-spaces l = Lexing l.text l.initial.room l.room l.i l.n
 
-abbrev pub decreases-loop-i : goal.decreases-loop-i
-decreases-loop-i l = length l.text - l.i
+abbrev pub decreases-loop-spaces : goal.decreases-loop-spaces
+decreases-loop-spaces l = length l.text - l.i

@@ -8,9 +8,6 @@ use mathlib.Core.Path.{sym, ◌∙◌}
 use native.Mathlib.Omega.{arith}
 use Rattle.stretches.proofs.same_longer.Goals as goal
 
-pub returns-then-n-gt16 : goal.returns-then-n-gt16
-returns-then-n-gt16 c = c.same_long.ensures
-
 pub differ8-requires : goal.differ8-requires
 differ8-requires c = (omega (arith, joining.last_length (length c.args.a.now - 8) c.args.a.now), omega (arith, c.requires.0, joining.last_length (length c.args.a.now - 8) c.args.b.now))
 

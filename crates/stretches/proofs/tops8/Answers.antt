@@ -4,4 +4,4 @@ use native.Mathlib.Omega.{arith}
 use Rattle.stretches.proofs.tops8.Goals as goal
 
 pub returns : goal.returns
-returns c = joining.tops_text 8 c.args.s.now c.big8.result (λ i. omega (arith, c.shared_slice_known-1.given i)) c.requires c.big8.ensures
+returns c = joining.tops_text 8 c.args.s.now c.big8.result (λ i. omega (arith, c.type_inv.s i)) c.requires c.big8.ensures

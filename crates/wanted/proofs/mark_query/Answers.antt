@@ -1,17 +1,17 @@
 -- `wanted::mark_query` meets its contract.
 use Rattle.rules.proofs.Stored.Parts as parts
 use Rattle.wanted.proofs.Marking as marking
-use mathlib.Core.Path.{sym, ◌∙◌}
+use mathlib.Core.Path.{refl, sym, ◌∙◌}
 use Rattle.wanted.proofs.mark_query.Goals as goal
 
 pub loop-t-init : goal.loop-t-init
 loop-t-init c = marking.going_start c.requires
 
-pub look-requires : goal.look-requires
-look-requires c = c.loop-t.invariant.many
+pub look-ranges-requires : goal.look-ranges-requires
+look-ranges-requires c = c.loop-t.invariant.many
 
 pub loop-t-preserved : goal.loop-t-preserved
-loop-t-preserved c = marking.going_next c.loop-t.invariant c.look.ensures c.either-ranges.ensures
+loop-t-preserved c = marking.going_next c.loop-t.invariant c.look-ranges.ensures refl
     (parts.cut_from 1 c.loop-t.t.now)
 
 pub shape_of-wanted : goal.shape_of-wanted

@@ -1,17 +1,16 @@
--- `tokens::span` meets its contract. The loop's invariant: the span from where it is ends where the whole span ends. Assumes nothing.
-use Rattle.analysis.proofs.Spans.{span_end, stops, goes_on}
-use mathlib.Core.Path.{◌≡◌, refl, sym, ◌∙◌}
-use native.Mathlib.Omega.{arith}
+-- `tokens::span` meets its contract, by the first byte that is not as wanted. Assumes nothing.
+use Rattle.std.proofs.Common.{rules, arith, ◌≡◌, ◌-◌, take, drop, position}
+use Rattle.std.proofs.lemmas.Iterator.{YieldsList-from_slice}
+use Rattle.std.proofs.lemmas.Iterator.Search.{position_from_yields_List}
+use Rattle.analysis.proofs.Firsts.{first_is, first_within, part_length}
+use Rattle.analysis.proofs.Spans.{unwanted, span_first}
 use Rattle.analysis.proofs.tokens.span.Goals as goal
 
-pub loop-i-init : goal.loop-i-init
-loop-i-init c = (omega arith, c.requires.0, refl)
+found : (c : goal.After-unwrap_or) → c.position-ends.result ≡ position (unwanted c.args.analyzer c.args.want) (take (c.args.end - c.args.from) (drop c.args.from c.args.text.now))
+found c = position_from_yields_List (unwanted c.args.analyzer c.args.want) _ _ _ c.position-ends.ensures.ran (YieldsList-from_slice _ c.iter.ensures.rest) (λ x b q k. search rules)
 
-pub returns-then-is_inside-want : goal.returns-then-is_inside-want
-returns-then-is_inside-want c = record { is = sym (c.loop-i.invariant.2 ∙ stops _ _ _ _ _ c.loop-i-test.true c.requires.1 _ c.is_inside.ensures c.if-is_inside-want.true); low = omega arith; high = omega arith }
-
-pub loop-i-preserved : goal.loop-i-preserved
-loop-i-preserved c = (omega arith, omega arith, c.loop-i.invariant.2 ∙ goes_on _ _ _ _ _ c.loop-i-test.true c.requires.1 _ c.is_inside.ensures c.if-is_inside-want.false)
+pub overflow_add-result : goal.overflow_add-result
+overflow_add-result c = omega (arith, first_within _ _ (found c) c.unwrap_or.ensures, part_length c.args.text.now c.requires.0 c.requires.1)
 
 pub returns : goal.returns
-returns c = let e : c.loop-i.i ≡ c.args.end = omega arith in record { is = sym (c.loop-i.invariant.2 ∙ rw e (span_end _ _ _)); low = omega arith; high = omega arith }
+returns c = span_first _ _ _ c.requires.0 c.requires.1 (first_is _ _ (found c) c.unwrap_or.ensures) (first_within _ _ (found c) c.unwrap_or.ensures)

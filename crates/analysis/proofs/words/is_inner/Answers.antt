@@ -5,8 +5,5 @@ use lib.Dec.{leb}
 use mathlib.Core.Path.{sym, ap, ◌∙◌}
 use Rattle.analysis.proofs.words.is_inner.Goals as goal
 
-pub class_of-requires : goal.class_of-requires
-class_of-requires c = c.requires.0
-
 pub returns : goal.returns
-returns c = ap (leb 16) c.class_of.ensures ∙ plain_flag _ ∙ sym (inner_at _ _ c.requires.1)
+returns c = ap (leb 16) c.class_of.ensures ∙ plain_flag _ ∙ sym (inner_at _ _ c.requires)

@@ -3,14 +3,8 @@ use Rattle.analysis.proofs.Seeking.{starts_within}
 use mathlib.Core.Path.{sym, ◌∙◌}
 use Rattle.analysis.proofs.words.start_of.Goals as goal
 
-pub is_within-requires : goal.is_within-requires
-is_within-requires c = (c.requires.0, c.requires.1)
-
 pub returns-then-is_within : goal.returns-then-is_within
-returns-then-is_within c = starts_within _ _ (sym c.is_within.ensures ∙ c.if-is_within.true) c.requires.1
-
-pub seek-requires : goal.seek-requires
-seek-requires c = (c.requires.0, c.requires.1, sym c.is_within.ensures ∙ c.if-is_within.false)
+returns-then-is_within c = starts_within _ _ (sym c.is_within.ensures ∙ c.if-is_within.true) c.requires
 
 pub returns : goal.returns
 returns c = c.seek.ensures

@@ -1,20 +1,13 @@
-use Rattle.rules.proofs.Stored.Accepted as checked
+use Rattle.batch.proofs.Turning as turning
 use Rattle.selection.proofs.Selections as selections
-use mathlib.Core.Path.{refl, sym, ◌∙◌}
-use native.Mathlib.Omega.{arith}
+use mathlib.Core.Path.{sym, ◌∙◌}
+use Rattle.std.proofs.Common.{rules}
 use Rattle.batch.proofs.all.prepare.Goals as goal
 
 pub plan-requires : goal.plan-requires
-plan-requires c = (c.requires.0, c.requires.1, refl, (λ i. selections.zeros_at 514 i), omega arith)
-
-pub returns-then-verdict-ne0 : goal.returns-then-verdict-ne0
-returns-then-verdict-ne0 c = record { long = c.faults-1.given ∙ c.requires.1; known = λ i h. (c.plan.ensures.known i h).is; holds = λ z. absurd (c.if-verdict-ne0.true z) }
-
-pub slice_bounds-keep-end : goal.slice_bounds-keep-end
-slice_bounds-keep-end c = sym c.plan.ensures.many
+plan-requires c = (c.requires.0, (λ i. selections.zeros_at 514 i))
 
 pub keep-requires : goal.keep-requires
-keep-requires c = let L = checked.listed c.args.list.now c.args.verdict c.requires.2 c.if-verdict-ne0.false in (record { cuts = c.requires.0; planned = c.plan.ensures; long = c.faults-1.given ∙ c.requires.1 }, record { records = L.records; long = L.long }, c.requires.3)
-
-pub returns : goal.returns
-returns c = record { long = c.faults-1.given ∙ c.requires.1; known = λ i h. (c.plan.ensures.known i h).is; holds = λ z. c.keep.ensures }
+keep-requires c =
+    let L = turning.list_sound c.args.list.now (sym c.in-Ok.is ∙ c.requires.1) in
+    (record { cuts = c.requires.0; planned = c.plan.ensures; long = search rules }, record { count = turning.list_count c.args.list.now (sym c.in-Ok.is ∙ c.requires.1); records = L.records; long = L.long }, c.requires.2)

@@ -19,13 +19,10 @@ pub bounds-masks-513 : goal.bounds-masks-513
 bounds-masks-513 c = omega arith
 
 pub loop-i-init : goal.loop-i-init
-loop-i-init c = (omega arith, refl, omega arith, cutting.queue_start c.requires.0.cuts, asking.told_none)
+loop-i-init c = (refl, omega arith, cutting.queue_start c.requires.0.cuts, asking.told_none)
 
 pub first-requires : goal.first-requires
-first-requires c = cutting.queue_first c.requires.0.cuts c.loop-i.invariant.3 c.loop-i-test.true
-
-pub bounds-faults-i : goal.bounds-faults-i
-bounds-faults-i c = omega arith
+first-requires c = cutting.queue_first c.requires.0.cuts c.loop-i.invariant.2 (omega arith)
 
 pub bit_at-requires : goal.bit_at-requires
 bit_at-requires c = omega arith
@@ -34,19 +31,16 @@ pub bit_at-requires-in-loop-i : goal.bit_at-requires-in-loop-i
 bit_at-requires-in-loop-i c = omega arith
 
 pub truth-y-requires : goal.truth-y-requires
-truth-y-requires c = let q = cutting.queue_query c.requires.0.cuts c.loop-i.invariant.3 c.loop-i-test.true c.first.ensures in let K = c.requires.0.planned.known c.loop-i.i c.loop-i-test.true in (rw q K.is, (λ z w. rw q (asking.uncalled (each entry_of c.args.rec.now) K z c.called-any.result (c.called-any.ensures (c.args.many - 1 - c.loop-i.i)) c.bit_at.ensures c.bit_at-in-loop-i.ensures w)), c.requires.1.entries, (λ z. c.note.ensures.0), (omega arith))
+truth-y-requires c = let q = cutting.queue_query c.requires.0.cuts c.loop-i.invariant.2 (omega arith) c.first.ensures in let K = c.requires.0.planned.known c.loop-i.i (omega arith) in (rw q K.is, (λ z w. rw q (asking.uncalled (each entry_of c.args.rec.now) K z c.called-any.result (c.called-any.ensures (c.args.many - 1 - c.loop-i.i)) c.bit_at.ensures c.bit_at-in-loop-i.ensures w)), c.requires.1.entries, (λ z. c.note.ensures.0), (omega arith))
 
 pub pushed-bits-requires : goal.pushed-bits-requires
-pushed-bits-requires c = let p = pow_mono {i = c.loop-i.i} {j = 63} (omega arith) in omega (arith, c.loop-i.invariant.2)
+pushed-bits-requires c = let p = pow_mono {i = c.loop-i.i} {j = 63} (omega arith) in omega (arith, c.loop-i.invariant.1)
 
-pub others-u-requires : goal.others-u-requires
-others-u-requires c = cutting.queue_first c.requires.0.cuts c.loop-i.invariant.3 c.loop-i-test.true
+pub others-t-requires : goal.others-t-requires
+others-t-requires c = cutting.queue_first c.requires.0.cuts c.loop-i.invariant.2 (omega arith)
 
 pub loop-i-preserved : goal.loop-i-preserved
-loop-i-preserved c = let q = cutting.queue_query c.requires.0.cuts c.loop-i.invariant.3 c.loop-i-test.true c.first.ensures in ((omega arith), c.row-1.given ∙ c.loop-i.invariant.1, rw c.pushed-bits.ensures (pushing.bit_below c.loop-i.bits c.truth-y.result c.loop-i.i c.loop-i.invariant.2), cutting.queue_next c.requires.0.cuts c.loop-i.invariant.3 c.loop-i-test.true c.others-u.ensures, asking.told_next c.loop-i.invariant.4 _ c.truth-y.result q (rw q (c.requires.0.planned.known c.loop-i.i c.loop-i-test.true).is) c.truth-y.ensures c.pushed-bits.ensures)
-
-pub shape_of-row : goal.shape_of-row
-shape_of-row c = c.loop-i.invariant.1
+loop-i-preserved c = let q = cutting.queue_query c.requires.0.cuts c.loop-i.invariant.2 (omega arith) c.first.ensures in (c.row-1.given ∙ c.loop-i.invariant.0, rw c.pushed-bits.ensures (pushing.bit_below c.loop-i.bits c.truth-y.result c.loop-i.i c.loop-i.invariant.1), cutting.queue_next c.requires.0.cuts c.loop-i.invariant.2 (omega arith) c.others-t.ensures, asking.told_next c.loop-i.invariant.3 _ c.truth-y.result q (rw q (c.requires.0.planned.known c.loop-i.i (omega arith)).is) c.truth-y.ensures c.pushed-bits.ensures)
 
 pub returns : goal.returns
-returns c = record { told = asking.told_all c.loop-i.invariant.4 c.loop-i.invariant.0 c.loop-i-test.false; before = c.note.ensures.1 }
+returns c = record { told = asking.told_all c.loop-i.invariant.3 (omega arith) (omega arith); before = c.note.ensures.1 }

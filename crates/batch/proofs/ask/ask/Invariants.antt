@@ -1,4 +1,4 @@
-use Prim.Native.Nat.{◌-◌, ◌≤◌, ◌<◌, ◌^◌}
+use Prim.Native.Nat.{◌<◌, ◌^◌}
 use Rattle.batch.proofs.Cutting as cutting
 use Rattle.batch.specs.Ask.{Told}
 use Rattle.batch.specs.Cut.{queries_of}
@@ -9,7 +9,4 @@ use mathlib.Core.Path.{◌≡◌}
 use Rattle.batch.proofs.ask.ask.Given as goal
 
 abbrev pub invariant-loop-i : goal.invariant-loop-i
-invariant-loop-i l = (l.i ≤ l.many) × (length l.row ≡ length l.initial.row) × (l.bits < 2 ^ l.i) × cutting.Queue l.queries l.t l.i × Told (queries_of l.queries) l.i (each entry_of l.rec) l.bits
-
-abbrev pub decreases-loop-i : goal.decreases-loop-i
-decreases-loop-i l = l.many - l.i
+invariant-loop-i l = (length l.row ≡ length l.initial.row) × (l.bits < 2 ^ l.i) × cutting.Queue l.queries l.t l.i × Told (queries_of l.queries) l.i (each entry_of l.rec) l.bits

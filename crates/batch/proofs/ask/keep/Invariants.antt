@@ -1,6 +1,5 @@
-use Prim.Native.Nat.{◌≤◌}
-use Rattle.batch.proofs.Asking as asking
-use Rattle.batch.specs.Ask.{kept, Table}
+use Rattle.selection.proofs.Records as records
+use Rattle.batch.specs.Ask.{Table}
 use Rattle.batch.specs.Cut.{queries_of}
 use Rattle.entries.specs.Slots.{Before}
 use Rattle.rules.specs.Numbers.{selection_depth}
@@ -9,8 +8,5 @@ use lib.ListN.{length}
 use mathlib.Core.Path.{◌≡◌}
 use Rattle.batch.proofs.ask.keep.Given as goal
 
-abbrev pub invariant-loop-t : goal.invariant-loop-t
-invariant-loop-t l = (length l.table ≡ length l.initial.table) × (length l.row ≡ selection_depth) × (l.i ≤ kept) × asking.From l.list l.t l.i × Before l.slots (selections.front l.list l.t) × Table (queries_of l.queries) l.many l.list l.i l.table
-
-abbrev pub decreases-loop-t : goal.decreases-loop-t
-decreases-loop-t l = length l.t
+abbrev pub invariant-loop-i : goal.invariant-loop-i
+invariant-loop-i l = (length l.table ≡ length l.initial.table) × (length l.row ≡ selection_depth) × records.From l.list l.t l.i × Before l.slots (selections.front l.list l.t) × Table (queries_of l.queries) l.many l.list l.i l.table

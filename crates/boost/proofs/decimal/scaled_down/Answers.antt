@@ -1,20 +1,16 @@
 -- `boost::decimal::scaled_down` meets its contract. Assumes nothing.
-use Rattle.boost.proofs.Scales.{places_most, held_few, down_tiny, down_below}
-use Rattle.boost.specs.Digits.{number_of}
+use Prim.Native.Nat.{ℕ, ◌^◌}
+use Rattle.boost.proofs.Scales.{held_few, down_tiny, down_below}
+use Rattle.boost.specs.Decimal.{number}
+use Rattle.rules.specs.Numerals.{nearest}
+use lib.ListN.{length}
+use mathlib.Core.Path.{ap, ◌∙◌}
 use native.Mathlib.Omega.{arith}
 use Rattle.boost.proofs.decimal.scaled_down.Goals as goal
 
-pub overflow_add-n : goal.overflow_add-n
-overflow_add-n c = let l = places_most c.args.s.now c.args.d.point c.args.d.places c.args.d.value c.requires.held c.requires.s_len_bound in omega (arith, c.requires.x_le_short_most)
-
 pub returns-then-n-gt-BELOW_MOST : goal.returns-then-n-gt-BELOW_MOST
-returns-then-n-gt-BELOW_MOST c = down_tiny (number_of c.args.s.now c.args.d.point c.args.d.places) c.args.x c.args.d.places (held_few c.args.s.now c.args.d.point c.args.d.places c.args.d.value c.requires.held c.requires.s_len_bound) c.if-n-gt-BELOW_MOST.true
-
-pub overflow_cast-n-2 : goal.overflow_cast-n-2
-overflow_cast-n-2 c = omega (arith, c.if-n-gt-BELOW_MOST.false)
-
-pub below-requires : goal.below-requires
-below-requires c = record { held = c.requires.held; s_len_bound = c.requires.s_len_bound; n_bound = omega (arith, c.if-n-gt-BELOW_MOST.false) }
+returns-then-n-gt-BELOW_MOST c = down_tiny (number c.args.d.now) c.args.x (length c.args.d.now.fraction.now) (held_few c.args.d.now.whole.now c.args.d.now.fraction.now c.args.d.now.value c.args.d.now.held) (omega arith)
 
 pub returns : goal.returns
-returns c = down_below (number_of c.args.s.now c.args.d.point c.args.d.places) c.args.x c.args.d.places c.below.result c.if-n-gt-BELOW_MOST.false c.below.ensures
+returns c = down_below (number c.args.d.now) c.args.x (length c.args.d.now.fraction.now) c.below.result (omega arith)
+    (c.below.ensures ∙ ap (λ (x : ℕ). nearest (number c.args.d.now) (10 ^ x)) (omega arith))

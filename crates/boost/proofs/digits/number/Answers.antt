@@ -1,21 +1,13 @@
 -- `boost::digits::number` meets its contract. Assumes nothing.
-use Prim.Native.Nat.{zero-le}
-use Rattle.boost.proofs.Fills.{zeros_hold, number_plain, number_full, behind_holds, behind_within}
-use native.Mathlib.Omega.{arith}
+use Rattle.std.proofs.Common.{length, ◌-◌}
+use Rattle.boost.proofs.Fills.{zeros_hold, whole_holds, number_full}
 use Rattle.boost.proofs.digits.number.Goals as goal
 
-pub fill-requires : goal.fill-requires
-fill-requires c = record { holds = (zeros_hold c.args.from, c.requires.from_bound); at_in_bounds = (zero-le, c.requires.s_len_bound) }
+pub fill-requires-clause-holds : goal.fill-requires-clause-holds
+fill-requires-clause-holds c = zeros_hold c.args.from (40 - length c.args.d.now.whole.now)
 
-pub returns-then-d-eq0 : goal.returns-then-d-eq0
-returns-then-d-eq0 c = number_plain c.args.s.now c.args.d.point c.args.d.places c.args.d.value c.args.from c.fill.new.row c.requires.held c.fill.ensures c.requires.s_len_bound c.if-d-eq0.true
-
-pub overflow_add-behind : goal.overflow_add-behind
-overflow_add-behind c = omega (arith, c.requires.held.within, c.requires.s_len_bound)
-
-pub fill-requires-2 : goal.fill-requires-2
-fill-requires-2 c = record { holds = (behind_holds c.args.s.now c.args.d.point c.args.d.places c.args.d.value c.args.from c.fill.new.row c.requires.held c.fill.ensures, c.requires.from_bound); at_in_bounds = (behind_within c.args.s.now c.args.d.point c.args.d.places c.args.d.value c.requires.held (omega (arith, c.if-d-eq0.false)), c.requires.s_len_bound) }
+pub fill-requires-2-clause-holds : goal.fill-requires-2-clause-holds
+fill-requires-2-clause-holds c = whole_holds c.args.d.now.whole.now c.args.d.now.fraction.now c.args.d.now.value c.args.from c.fill.new.row c.args.d.now.held c.fill.ensures
 
 pub returns : goal.returns
-returns c = number_full c.args.s.now c.args.d.point c.args.d.places c.args.d.value c.args.from c.fill.new.row c.requires.held c.fill.ensures
-    c.fill-2.new.row c.requires.s_len_bound (omega (arith, c.if-d-eq0.false)) c.fill-2.ensures
+returns c = number_full c.args.d.now.whole.now c.args.d.now.fraction.now c.args.d.now.value c.args.from c.fill.new.row c.args.d.now.held c.fill.ensures c.fill-2.new.row c.fill-2.ensures

@@ -1,16 +1,16 @@
 -- `boost::numeral::word` meets its contract. Assumes nothing.
 use Rattle.boost.proofs.Words.{word_inf, word_infinity, word_nan, word_none}
-use mathlib.Core.Path.{sym, ◌∙◌}
 use Rattle.boost.proofs.numeral.word.Goals as goal
+use Rattle.boost.proofs.numeral.word.Goals.{then-is_word-via-then-is_word, then-is_word-via-else-is_word+then-is_word-2}
 
 pub returns-then-is_word : goal.returns-then-is_word
-returns-then-is_word c = word_inf c.args.minus c.args.s.now c.given.result (sym c.if-is_word.true ∙ c.is_word.ensures) c.given.ensures
-
-pub returns-then-is_word-2 : goal.returns-then-is_word-2
-returns-then-is_word-2 c = word_infinity c.args.minus c.args.s.now c.given-then-is_word-2.result (sym c.if-is_word.false ∙ c.is_word.ensures) (sym c.if-is_word-2.true ∙ c.is_word-2.ensures) c.given-then-is_word-2.ensures
+returns-then-is_word c = elim c.then-is_word.branch [
+  | then-is_word-via-then-is_word w ↦ word_inf c.args.s.now c.is_word.result c.is_word.ensures w.if-is_word.true
+  | then-is_word-via-else-is_word+then-is_word-2 w ↦ word_infinity c.args.s.now c.is_word.result c.is_word.ensures w.if-is_word.false w.is_word-else-is_word.result w.is_word-else-is_word.ensures w.if-is_word-2.true
+]
 
 pub returns-then-is_word-3 : goal.returns-then-is_word-3
-returns-then-is_word-3 c = word_nan c.args.minus c.args.s.now (sym c.if-is_word.false ∙ c.is_word.ensures) (sym c.if-is_word-2.false ∙ c.is_word-2.ensures) (sym c.if-is_word-3.true ∙ c.is_word-3.ensures)
+returns-then-is_word-3 c = word_nan c.args.s.now c.is_word.result c.is_word.ensures c.if-is_word.false c.is_word-else-is_word.result c.is_word-else-is_word.ensures c.if-is_word-2.false c.is_word-2.result c.is_word-2.ensures c.if-is_word-3.true
 
 pub returns : goal.returns
-returns c = word_none c.args.minus c.args.s.now c.requires (sym c.if-is_word.false ∙ c.is_word.ensures) (sym c.if-is_word-2.false ∙ c.is_word-2.ensures) (sym c.if-is_word-3.false ∙ c.is_word-3.ensures)
+returns c = word_none c.args.s.now c.is_word.result c.is_word.ensures c.if-is_word.false c.is_word-else-is_word.result c.is_word-else-is_word.ensures c.if-is_word-2.false c.is_word-2.result c.is_word-2.ensures c.requires c.if-is_word-3.false

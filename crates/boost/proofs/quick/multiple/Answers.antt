@@ -1,9 +1,6 @@
 -- `boost::quick::multiple` meets its contract. Assumes nothing.
-use Rattle.boost.proofs.Once.{holds, few, product_number, product_nearest}
+use Rattle.boost.proofs.Once.{product_number, product_nearest}
 use Rattle.boost.proofs.quick.multiple.Goals as goal
-
-pub int_to_float-p : goal.int_to_float-p
-int_to_float-p c = holds c.args.d (few c.args.d c.requires.d_lt_quick_most)
 
 pub float_to_bits-result : goal.float_to_bits-result
 float_to_bits-result c = product_number c.args.d c.args.n c.ten.result c.requires.d_lt_quick_most c.requires.n_bound c.ten.ensures

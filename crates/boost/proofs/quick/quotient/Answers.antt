@@ -1,9 +1,6 @@
 -- `boost::quick::quotient` meets its contract. Assumes nothing.
-use Rattle.boost.proofs.Once.{holds, few, quotient_number, quotient_nearest}
+use Rattle.boost.proofs.Once.{quotient_number, quotient_nearest}
 use Rattle.boost.proofs.quick.quotient.Goals as goal
-
-pub int_to_float-q : goal.int_to_float-q
-int_to_float-q c = holds c.args.d (few c.args.d c.requires.d_lt_quick_most)
 
 pub float_to_bits-result : goal.float_to_bits-result
 float_to_bits-result c = quotient_number c.args.d c.args.n c.ten.result c.requires.d_lt_quick_most c.requires.n_bound c.ten.ensures

@@ -4,6 +4,3 @@ use Rattle.boost.proofs.row.divide.Given as goal
 
 abbrev pub invariant-loop-i : goal.invariant-loop-i
 invariant-loop-i l = Dividing l.initial.row l.len l.f l.row l.rest l.i
-
-abbrev pub decreases-loop-i : goal.decreases-loop-i
-decreases-loop-i l = l.i

@@ -1,10 +1,6 @@
 -- `boost::row::scale` meets its contract. Assumes nothing.
-use Prim.Native.Nat.{◌-◌}
 use Rattle.boost.proofs.Rows.{Going}
 use Rattle.boost.proofs.row.scale.Given as goal
 
 abbrev pub invariant-loop-i : goal.invariant-loop-i
 invariant-loop-i l = Going l.initial.row l.from l.m l.add l.row l.carry l.i
-
-abbrev pub decreases-loop-i : goal.decreases-loop-i
-decreases-loop-i l = 18 - l.i

@@ -13,32 +13,14 @@ use Rattle.clauses.proofs.leaf.put_clauses.Goals as goal
 pub loop-t-init : goal.loop-t-init
 loop-t-init c = (row_all c.args.tag c.args.field.now c.args.analyzer c.args.text.now c.args.out.now c.args.at, omega arith, omega arith)
 
-pub next_token-t-requires : goal.next_token-t-requires
-next_token-t-requires c = c.loop-t.invariant.2
-
-pub shape_of-out-then-t-eq0 : goal.shape_of-out-then-t-eq0
-shape_of-out-then-t-eq0 c = c.loop-t.invariant.0.long
-
 pub returns-then-t-eq0 : goal.returns-then-t-eq0
 returns-then-t-eq0 c = laying_ends c.loop-t.invariant.0 (row_none _ _ (c.next_token-t.ensures.none c.if-t-eq0.true))
-
-pub overflow_add-end : goal.overflow_add-end
-overflow_add-end c = omega (arith, c.next_token-t.ensures.within, c.loop-t.invariant.1, c.requires.2)
-
-pub slice_bounds-put_clause-end : goal.slice_bounds-put_clause-end
-slice_bounds-put_clause-end c = omega (arith, c.next_token-t.ensures.within, c.loop-t.invariant.1, c.if-t-eq0.false)
 
 pub put_clause-w-requires : goal.put_clause-w-requires
 put_clause-w-requires c = let r = row_here c.next_token-t.ensures c.args.tag c.args.field.now c.if-t-eq0.false in
     let l = laying_fits c.loop-t.invariant.0 (part c.args.tag (encode (term c.args.field.now (spelled c.args.analyzer (take (c.next_token-t.result.start + c.next_token-t.result.len - c.next_token-t.result.start) (drop c.next_token-t.result.start c.args.text.now)))))) (term_row c.args.tag c.args.field.now (rest_words c.args.analyzer c.args.text.now (c.next_token-t.result.start + c.next_token-t.result.len) (c.next_token-t.result.position + 1))) r c.requires.0 in
     let n = slice_length c.args.text.now c.next_token-t.result.start c.next_token-t.result.len (omega (arith, c.next_token-t.ensures.within, c.loop-t.invariant.1)) in
     (clause_room c.args.field.now (take (c.next_token-t.result.start + c.next_token-t.result.len - c.next_token-t.result.start) (drop c.next_token-t.result.start c.args.text.now)) c.loop-t.out c.args.analyzer c.loop-t.w c.args.tag l, c.requires.1, omega (arith, c.next_token-t.ensures.within, c.loop-t.invariant.1, c.requires.2))
-
-pub overflow_add-position : goal.overflow_add-position
-overflow_add-position c = omega (arith, c.requires.2, c.next_token-t.ensures.few, c.next_token-t.ensures.within, c.loop-t.invariant.1, c.loop-t.invariant.2, c.if-t-eq0.false)
-
-pub loop-t-smaller : goal.loop-t-smaller
-loop-t-smaller c = omega (arith, c.next_token-t.ensures.within, c.loop-t.invariant.1, c.next_token-t.ensures.onward, c.if-t-eq0.false)
 
 pub loop-t-preserved : goal.loop-t-preserved
 loop-t-preserved c = (laying_on c.loop-t.invariant.0 _ _ (row_here c.next_token-t.ensures c.args.tag c.args.field.now c.if-t-eq0.false) c.requires.0 c.put_clause-w.ensures c.put_clause-w.auto.out, omega (arith, c.next_token-t.ensures.within, c.loop-t.invariant.1, c.if-t-eq0.false), omega (arith, c.next_token-t.ensures.few, c.loop-t.invariant.2, c.if-t-eq0.false))

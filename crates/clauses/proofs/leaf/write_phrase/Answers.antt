@@ -4,12 +4,9 @@ use Rattle.clauses.proofs.Writing.{phrase_put}
 use Rattle.rules.proofs.Stored.Sizes.{length_phrase}
 use Rattle.rules.specs.Analysis.{tokenize}
 use Rattle.rules.specs.Parsing.{from_first}
-use mathlib.Core.Path.{refl, ◌∙◌}
+use mathlib.Core.Path.{refl}
 use native.Mathlib.Omega.{arith}
 use Rattle.clauses.proofs.leaf.write_phrase.Goals as goal
-
-pub overflow_add-at : goal.overflow_add-at
-overflow_add-at c = let z = length_phrase c.args.field.now (from_first (tokenize c.args.analyzer c.args.text.now)) in omega (arith, z, c.requires.0, c.requires.3)
 
 pub put_part-b-requires : goal.put_part-b-requires
 put_part-b-requires c = let z = length_phrase c.args.field.now (from_first (tokenize c.args.analyzer c.args.text.now)) in (omega (arith, z, c.requires.0), omega (arith, c.requires.1))
@@ -17,18 +14,9 @@ put_part-b-requires c = let z = length_phrase c.args.field.now (from_first (toke
 pub put_words-w-requires : goal.put_words-w-requires
 put_words-w-requires c = let z = length_phrase c.args.field.now (from_first (tokenize c.args.analyzer c.args.text.now)) in (omega (arith, z, c.requires.0, c.put_part-b.ensures.place, c.put_part-b.auto.out), c.requires.2)
 
-pub overflow_sub-w : goal.overflow_sub-w
-overflow_sub-w c = omega (arith, c.put_part-b.ensures.place, c.put_words-w.ensures.place)
-
-pub overflow_sub-w-2 : goal.overflow_sub-w-2
-overflow_sub-w-2 c = omega (arith, c.put_part-b.ensures.place, c.put_words-w.ensures.place)
-
 pub put_header-requires : goal.put_header-requires
 put_header-requires c = let z = length_phrase c.args.field.now (from_first (tokenize c.args.analyzer c.args.text.now)) in
     (omega (arith, z, c.requires.0, c.put_part-b.auto.out, c.put_words-w.auto.out), omega (arith, z, c.requires.0, c.requires.3, c.put_part-b.ensures.place, c.put_words-w.ensures.place))
-
-pub shape_of-out : goal.shape_of-out
-shape_of-out c = c.put_header.auto.out ∙ c.put_words-w.auto.out ∙ c.put_part-b.auto.out
 
 pub returns : goal.returns
 returns c = phrase_put c.args.field.now c.args.analyzer c.args.text.now (c.put_words-w.result - c.args.at - 3) c.put_part-b.ensures c.put_words-w.ensures c.put_header.ensures refl c.requires.0

@@ -15,34 +15,16 @@ pub put_term-requires : goal.put_term-requires
 put_term-requires c = let e = leaf_one c.args.operator c.args.field.now c.args.plain (c.requires.4 c.if-one.true) in
     (omega (arith, made_room c.args.at (length c.args.out.now) e c.requires.0, length_term c.args.field.now (spelled c.args.analyzer c.args.text.now), spelled_length c.args.analyzer c.args.text.now), c.requires.1, c.requires.2)
 
-pub shape_of-out-then-one : goal.shape_of-out-then-one
-shape_of-out-then-one c = c.put_term.auto.out
-
 pub returns-then-one : goal.returns-then-one
 returns-then-one c = let e = leaf_one c.args.operator c.args.field.now c.args.plain (c.requires.4 c.if-one.true) in made_put e c.put_term.ensures
 
 pub returns-then-t-eq0 : goal.returns-then-t-eq0
 returns-then-t-eq0 c = put_empty c.args.out.now c.args.at _ (ap made_length (leaf_none c.args.operator c.args.field.now c.args.plain (text_none c.next_token-t.ensures c.if-t-eq0.true)))
 
-pub overflow_add-end : goal.overflow_add-end
-overflow_add-end c = omega (arith, c.next_token-t.ensures.within, c.requires.2)
-
-pub overflow_add-t : goal.overflow_add-t
-overflow_add-t c = omega (arith, c.next_token-t.ensures.few, c.next_token-t.ensures.within, c.requires.2)
-
-pub next_token-u-requires : goal.next_token-u-requires
-next_token-u-requires c = omega (arith, c.next_token-t.ensures.few, c.if-t-eq0.false)
-
-pub slice_bounds-put_term-end : goal.slice_bounds-put_term-end
-slice_bounds-put_term-end c = omega (arith, c.next_token-t.ensures.within)
-
 pub put_term-requires-then-u-eq0 : goal.put_term-requires-then-u-eq0
 put_term-requires-then-u-eq0 c = let e = leaf_one c.args.operator c.args.field.now c.args.plain (text_one c.next_token-t.ensures c.if-t-eq0.false c.next_token-u.ensures c.if-u-eq0.true) in
     let n = slice_length c.args.text.now c.next_token-t.result.start c.next_token-t.result.len (omega (arith, c.next_token-t.ensures.within)) in
     (omega (arith, made_room c.args.at (length c.args.out.now) e c.requires.0, length_term c.args.field.now (spelled c.args.analyzer (take (c.next_token-t.result.start + c.next_token-t.result.len - c.next_token-t.result.start) (drop c.next_token-t.result.start c.args.text.now))), spelled_length c.args.analyzer (take (c.next_token-t.result.start + c.next_token-t.result.len - c.next_token-t.result.start) (drop c.next_token-t.result.start c.args.text.now)), n), c.requires.1, omega (arith, n, c.next_token-t.ensures.within, c.requires.2))
-
-pub shape_of-out-then-u-eq0 : goal.shape_of-out-then-u-eq0
-shape_of-out-then-u-eq0 c = c.put_term-then-u-eq0.auto.out
 
 pub returns-then-u-eq0 : goal.returns-then-u-eq0
 returns-then-u-eq0 c = let e = leaf_one c.args.operator c.args.field.now c.args.plain (text_one c.next_token-t.ensures c.if-t-eq0.false c.next_token-u.ensures c.if-u-eq0.true) in made_put e c.put_term-then-u-eq0.ensures
@@ -52,9 +34,6 @@ write_boolean-requires c = let w = text_many c.next_token-t.ensures c.if-t-eq0.f
     let e = leaf_boolean c.args.operator c.args.field.now c.if-plain.true w.3 in
     (made_room c.args.at (length c.args.out.now) e c.requires.0, c.requires.1, c.requires.2, c.requires.3)
 
-pub shape_of-out-then-plain : goal.shape_of-out-then-plain
-shape_of-out-then-plain c = c.write_boolean.auto.out
-
 pub returns-then-plain : goal.returns-then-plain
 returns-then-plain c = let w = text_many c.next_token-t.ensures c.if-t-eq0.false c.next_token-u.ensures c.if-u-eq0.false in let e = leaf_boolean c.args.operator c.args.field.now c.if-plain.true w.3 in made_put e c.write_boolean.ensures
 
@@ -62,9 +41,6 @@ pub write_phrase-requires : goal.write_phrase-requires
 write_phrase-requires c = let w = text_many c.next_token-t.ensures c.if-t-eq0.false c.next_token-u.ensures c.if-u-eq0.false in
     let e = leaf_phrase c.args.operator c.args.field.now c.if-plain.false w.3 in
     (made_room c.args.at (length c.args.out.now) e c.requires.0, c.requires.1, c.requires.2, c.requires.3)
-
-pub shape_of-out : goal.shape_of-out
-shape_of-out c = c.write_phrase.auto.out
 
 pub returns : goal.returns
 returns c = let w = text_many c.next_token-t.ensures c.if-t-eq0.false c.next_token-u.ensures c.if-u-eq0.false in let e = leaf_phrase c.args.operator c.args.field.now c.if-plain.false w.3 in made_put e c.write_phrase.ensures

@@ -7,14 +7,14 @@ use Rattle.rules.specs.Setup.{Setup}
 use Rattle.clauses.proofs.measure.+measure_clause_measure_query.Given as goal
 
 abbrev pub decreases-measure_clause : goal.decreases-measure_clause
-decreases-measure_clause l = 2 * (l.p.n - l.i)
+decreases-measure_clause l = 2 * (l.row.now.n - l.i)
 
 abbrev pub decreases-measure_query : goal.decreases-measure_query
-decreases-measure_query l = 2 * (l.p.n - l.at) + 1
+decreases-measure_query l = 2 * (l.row.now.n - l.at) + 1
 
 abbrev pub invariant-measure_query-loop-p : goal.invariant-measure_query-loop-p
-invariant-measure_query-loop-p l = Bounds (tokens_of l.room l.p.n) l.p.n l.at l.i l.s.count l.s.bytes
-    × ((st : Setup) → Tuned st l.p.operator l.room l.p.n l.default l.p.from l.p.analyzer → Turn st (tokens_of l.room l.p.n) l.p.n (name_from l.room l.default l.p.from) l.p.depth l.at l.i l.s.count l.s.tag l.s.bytes)
+invariant-measure_query-loop-p l = Bounds (tokens_of l.row.room.now l.row.n) l.row.n l.at l.i l.s.count l.s.bytes
+    × ((st : Setup) → Tuned st l.p.operator l.row.room.now l.row.n l.row.default.now l.p.from l.p.analyzer → Turn st (tokens_of l.row.room.now l.row.n) l.row.n (name_from l.row.room.now l.row.default.now l.p.from) l.p.depth l.at l.i l.s.count l.s.tag l.s.bytes)
 
 abbrev pub decreases-measure_query-loop-p : goal.decreases-measure_query-loop-p
-decreases-measure_query-loop-p l = l.p.n - l.i
+decreases-measure_query-loop-p l = l.row.n - l.i

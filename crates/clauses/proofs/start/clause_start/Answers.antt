@@ -1,21 +1,21 @@
 -- `clauses::start::clause_start` meets its contract.
 use Rattle.clauses.proofs.Bodies.{start_plain, start_long, start_named}
 use Rattle.clauses.proofs.Rows.{named_in}
-use mathlib.Core.Path.{sym, ◌∙◌}
+use mathlib.Core.Path.{refl, sym, ◌∙◌}
 use native.Mathlib.Omega.{arith}
 use Rattle.clauses.proofs.start.clause_start.Goals as goal
 
-pub text_at-name-requires : goal.text_at-name-requires
-text_at-name-requires c = let z = named_in c.args.room.now c.args.n c.args.i (sym c.is_named.ensures ∙ c.if-is_named.true) in (omega (arith, c.requires.0.few), c.requires.0.laid c.args.i (omega arith), c.requires.0.least)
+pub returns-then-not-is_named : goal.returns-then-not-is_named
+returns-then-not-is_named c = start_plain c.args.row.now.rowed c.args.i c.args.p.from c.args.p.analyzer (sym c.is_named.ensures ∙ c.if-not-is_named.true)
 
-pub returns-then-name-gt-FIELD_MOST : goal.returns-then-name-gt-FIELD_MOST
-returns-then-name-gt-FIELD_MOST c = start_long c.requires.0 c.args.i c.args.from c.args.analyzer (sym c.is_named.ensures ∙ c.if-is_named.true) (rw (← c.text_at-name.ensures) c.if-name-gt-FIELD_MOST.true)
+pub text_at-requires : goal.text_at-requires
+text_at-requires c = let z = named_in c.args.row.now.room.now c.args.row.now.n c.args.i (sym c.is_named.ensures ∙ c.if-not-is_named.false) in (omega (arith, c.args.row.now.rowed.few), c.args.row.now.rowed.laid c.args.i (omega arith), c.args.row.now.rowed.least)
+
+pub returns-then-text_at-gt-FIELD_MOST : goal.returns-then-text_at-gt-FIELD_MOST
+returns-then-text_at-gt-FIELD_MOST c = (start_long c.args.row.now.rowed c.args.i c.args.p.from c.args.p.analyzer (sym c.is_named.ensures ∙ c.if-not-is_named.false) (rw (← c.text_at.ensures) c.if-text_at-gt-FIELD_MOST.true), refl)
 
 pub note_at-requires : goal.note_at-requires
-note_at-requires c = let z = named_in c.args.room.now c.args.n c.args.i (sym c.is_named.ensures ∙ c.if-is_named.true) in (omega (arith, c.requires.0.few), c.requires.0.least)
-
-pub returns-then-is_named : goal.returns-then-is_named
-returns-then-is_named c = rw c.note_at.ensures (start_named c.requires.0 c.args.i c.args.from c.args.analyzer (sym c.is_named.ensures ∙ c.if-is_named.true) (rw (← c.text_at-name.ensures) c.if-name-gt-FIELD_MOST.false))
+note_at-requires c = let z = named_in c.args.row.now.room.now c.args.row.now.n c.args.i (sym c.is_named.ensures ∙ c.if-not-is_named.false) in (omega (arith, c.args.row.now.rowed.few), c.args.row.now.rowed.least)
 
 pub returns : goal.returns
-returns c = start_plain c.requires.0 c.args.i c.args.from c.args.analyzer (sym c.is_named.ensures ∙ c.if-is_named.false)
+returns c = rw c.note_at.ensures (start_named c.args.row.now.rowed c.args.i c.args.p.from c.args.p.analyzer (sym c.is_named.ensures ∙ c.if-not-is_named.false) (rw (← c.text_at.ensures) c.if-text_at-gt-FIELD_MOST.false))

@@ -9,7 +9,7 @@ use mathlib.Core.Bool.{false}
 use Rattle.matching.proofs.phrase.follow.Given as goal
 
 abbrev pub invariant-loop-s : goal.invariant-loop-s
-invariant-loop-s l = searches.Left is_word word_of false (follows_from (each entry_of l.rec) l.f l.p l.x) l.ws l.s
+invariant-loop-s l = searches.Left is_word word_of false (follows_from (each entry_of l.r.entries.now) l.f l.p l.x) l.ws.bytes.now l.s
 
 abbrev pub decreases-loop-s : goal.decreases-loop-s
 decreases-loop-s l = length l.s

@@ -4,7 +4,6 @@ use Rattle.matching.proofs.Leaves as leaves
 use Rattle.rules.proofs.Stored.Parts as parts
 use Rattle.rules.specs.Bytes.{of_big, body_of, rest_of, each}
 use Rattle.rules.specs.Lists.{entry_of}
-use borrow.Author.Rules.{rules}
 use lib.ListN.{drop, take}
 use mathlib.Core.List.{List}
 use mathlib.Core.Path.{ap, ◌∙◌}
@@ -17,21 +16,20 @@ pub rest-ws-requires : goal.rest-ws-requires
 rest-ws-requires c = rw c.body-b.ensures (leaves.phrase_front _ c.requires.0)
 
 pub returns-then-ws-eq0 : goal.returns-then-ws-eq0
-returns-then-ws-eq0 c = leaves.phrase_empty c.args.q.now c.requires.0 (each entry_of c.args.rec.now) (c.rest-ws.ensures ∙ ap rest_of c.body-b.ensures) c.if-ws-eq0.true
+returns-then-ws-eq0 c = leaves.phrase_empty c.args.q.now c.requires.0 (each entry_of c.args.r.now.entries.now) (c.rest-ws.ensures ∙ ap rest_of c.body-b.ensures) c.if-ws-eq0.true
 
 pub body-requires : goal.body-requires
 body-requires c = rw c.body-b.ensures (leaves.phrase_front _ c.requires.0)
 
+pub invariant_of-words : goal.invariant_of-words
+invariant_of-words c = record { sound = rw (c.rest-ws.ensures, c.body-b.ensures) (leaves.phrase_words _ c.requires.0) }
+
 pub any_missing-requires : goal.any_missing-requires
-any_missing-requires c = (
-  rw (c.rest-ws.ensures, c.body-b.ensures) (leaves.phrase_words _
-      c.requires.0),
-  c.requires.2,
-)
+any_missing-requires c = c.requires.1
 
 pub returns-then-any_missing : goal.returns-then-any_missing
 returns-then-any_missing c = leaves.phrase_absent c.args.q.now
-    c.requires.0 (each entry_of c.args.rec.now)
+    c.requires.0 (each entry_of c.args.r.now.entries.now)
     (c.body.ensures ∙ ap body_of c.body-b.ensures) (c.rest-ws.ensures ∙ ap rest_of
     c.body-b.ensures) (c.any_missing.ensures c.if-any_missing.true)
 
@@ -65,21 +63,16 @@ rest-requires c = leaves.word_whole _ (leaves.first_word c.args.q.now
     (c.rest-ws.ensures ∙ ap rest_of c.body-b.ensures)
     c.if-ws-eq0.false)
 
-pub has_start-requires : goal.has_start-requires
-has_start-requires c = (
-  rw c.rest.ensures (leaves.other_words c.args.q.now
-      c.requires.0
-      (c.rest-ws.ensures ∙ ap rest_of
-      c.body-b.ensures) c.if-ws-eq0.false),
-  c.requires.1,
-  search rules,
-)
+pub invariant_of-others : goal.invariant_of-others
+invariant_of-others c = record {
+  sound = rw c.rest.ensures (leaves.other_words c.args.q.now c.requires.0 (c.rest-ws.ensures ∙ ap rest_of c.body-b.ensures) c.if-ws-eq0.false);
+}
 
 pub returns : goal.returns
 returns c = leaves.phrase_says c.args.q.now
     c.requires.0
     (c.rest-ws.ensures ∙ ap rest_of
     c.body-b.ensures) c.if-ws-eq0.false
-    (each entry_of c.args.rec.now) _
+    (each entry_of c.args.r.now.entries.now) _
     (c.body-2.ensures ∙ ap body_of c.body-b.ensures)
     (c.big4.ensures ∙ ap (λ (l : List ℕ). of_big (take 4 l)) c.body-w.ensures) (parts.cut_from 4 c.body-w.result.now ∙ ap (drop 4) c.body-w.ensures) c.rest.ensures c.has_start.ensures

@@ -16,7 +16,7 @@ pub body-requires-2 : goal.body-requires-2
 body-requires-2 c = rw (c.rest.ensures, c.body-b.ensures) (leaves.term_back _ c.requires.0)
 
 pub find_term-requires : goal.find_term-requires
-find_term-requires c = (c.requires.2, c.requires.1)
+find_term-requires c = (c.requires.1, c.args.r.now.sound)
 
 pub returns : goal.returns
 returns c = leaves.term_says _ c.requires.0 _ _ (c.find_term.ensures ∙ rw (c.body.ensures, c.body-2.ensures, c.rest.ensures, c.body-b.ensures))

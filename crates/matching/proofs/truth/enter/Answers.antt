@@ -25,16 +25,16 @@ pub slice_bounds-big2-start : goal.slice_bounds-big2-start
 slice_bounds-big2-start c = omega (arith, walks.open_long c.requires.0 c.requires.1, walks.at_length c.requires.0)
 
 pub big2-asked-requires : goal.big2-asked-requires
-big2-asked-requires c = omega (arith, walks.open_long c.requires.0 c.requires.1, walks.at_length c.requires.0, ap length (parts.cut_from 6 (cut c.args.q.now c.args.at c.args.end)), lib.ListN.length-drop 6 (cut c.args.q.now c.args.at c.args.end))
+big2-asked-requires c = omega (arith, walks.open_long c.requires.0 c.requires.1, walks.at_length c.requires.0, ap length (parts.cut_from 6 (cut c.args.q.now c.args.p.at c.args.p.end)), lib.ListN.length-drop 6 (cut c.args.q.now c.args.p.at c.args.p.end))
 
-pub overflow_add-at : goal.overflow_add-at
-overflow_add-at c = omega (arith, walks.at_end c.requires.0, walks.open_long c.requires.0 c.requires.1)
+pub overflow_add-p : goal.overflow_add-p
+overflow_add-p c = omega (arith, walks.at_end c.requires.0, walks.open_long c.requires.0 c.requires.1)
 
 pub clause-requires : goal.clause-requires
-clause-requires c = ((walks.to_clause c.requires.0 c.requires.1 [] c.big2-asked.result (c.big2-asked.ensures.0 ∙ ap (λ (l : List ℕ). of_big (take 2 l)) (parts.cut_from 6 (cut c.args.q.now c.args.at c.args.end)))).place, c.big2-asked.ensures.1, c.requires.2, c.requires.3)
+clause-requires c = ((walks.to_clause c.requires.0 c.requires.1 [] c.big2-asked.result (c.big2-asked.ensures.0 ∙ ap (λ (l : List ℕ). of_big (take 2 l)) (parts.cut_from 6 (cut c.args.q.now c.args.p.at c.args.p.end)))).place, c.requires.2, c.requires.3)
 
 pub shape_of-row : goal.shape_of-row
 shape_of-row c = c.clause.auto.row
 
 pub returns : goal.returns
-returns c = λ es t. let N = walks.to_clause t c.requires.1 es c.big2-asked.result (c.big2-asked.ensures.0 ∙ ap (λ (l : List ℕ). of_big (take 2 l)) (parts.cut_from 6 (cut c.args.q.now c.args.at c.args.end))) in walks.leads_on es _ _ c.clause.result (omega arith) N.value (c.clause.ensures es N.place)
+returns c = λ es t. let N = walks.to_clause t c.requires.1 es c.big2-asked.result (c.big2-asked.ensures.0 ∙ ap (λ (l : List ℕ). of_big (take 2 l)) (parts.cut_from 6 (cut c.args.q.now c.args.p.at c.args.p.end))) in walks.leads_on es _ _ c.clause.result (omega arith) N.value (c.clause.ensures es N.place)

@@ -8,7 +8,7 @@ use mathlib.Core.Path.{◌≡◌}
 use Rattle.matching.proofs.truth.holds.Given as goal
 
 abbrev pub invariant-loop-y : goal.invariant-loop-y
-invariant-loop-y l = (length l.row ≡ length l.initial.row) × walks.Standing (each entry_of l.rec) l.q l.row l.depth l.at l.end
+invariant-loop-y l = (length l.row ≡ length l.initial.row) × walks.Standing (each entry_of l.rec) l.q l.row l.p.depth l.p.at l.p.end
 
 abbrev pub decreases-loop-y : goal.decreases-loop-y
-decreases-loop-y l = length l.q - l.at
+decreases-loop-y l = length l.q - l.p.at

@@ -1,5 +1,4 @@
 -- `matching::truth::settle` meets its contract.
-use Prim.Native.Nat.{◌-◌}
 use Rattle.matching.proofs.Walks as walks
 use Rattle.matching.specs.Truth.{Open}
 use Rattle.rules.specs.Bytes.{each}
@@ -9,7 +8,4 @@ use mathlib.Core.Path.{◌≡◌}
 use Rattle.matching.proofs.truth.settle.Given as goal
 
 abbrev pub invariant-loop-d : goal.invariant-loop-d
-invariant-loop-d l = (length l.row ≡ length l.initial.row) × ((o : Open l.q l.initial.row l.depth l.at) → walks.Back (each entry_of l.rec) l.q l.row l.d l.e l.y o l.known)
-
-abbrev pub decreases-loop-d : goal.decreases-loop-d
-decreases-loop-d l = l.d
+invariant-loop-d l = (length l.row ≡ length l.initial.row) × ((o : Open l.q l.initial.row l.depth l.at) → walks.Back (each entry_of l.r.entries.now) l.q l.row l.d l.e l.y o l.known)

@@ -16,5 +16,5 @@ slice_bounds-result-start c = omega (arith, (forms.is_boost_lem _ _ c.requires.i
 pub returns-then-q-eq-BOOST_TAG : goal.returns-then-q-eq-BOOST_TAG
 returns-then-q-eq-BOOST_TAG c = λ x i. rw (parts.cut_from 7 c.args.q.now) (forms.is_boost_lem _ x i c.if-q-eq-BOOST_TAG.true).inner
 
-pub returns : goal.returns
-returns c = λ x i. (forms.no_boost _ x i c.if-q-eq-BOOST_TAG.false).0
+pub returns-else-q-eq-BOOST_TAG : goal.returns-else-q-eq-BOOST_TAG
+returns-else-q-eq-BOOST_TAG c = λ x i. (forms.no_boost _ x i c.if-q-eq-BOOST_TAG.false).0

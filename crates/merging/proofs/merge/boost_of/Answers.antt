@@ -24,5 +24,5 @@ big4-requires c = rw (parts.cut_from 3 c.args.q.now, length-drop) (omega (arith,
 pub returns-then-q-eq-BOOST_TAG : goal.returns-then-q-eq-BOOST_TAG
 returns-then-q-eq-BOOST_TAG c = λ x i. ap widened c.big4.ensures ∙ ap (λ (l : List _). widened (of_big (take 4 l))) (parts.cut_from 3 c.args.q.now) ∙ (forms.is_boost_lem _ x i c.if-q-eq-BOOST_TAG.true).bits
 
-pub returns : goal.returns
-returns c = λ x i. (forms.no_boost _ x i c.if-q-eq-BOOST_TAG.false).1
+pub returns-else-q-eq-BOOST_TAG : goal.returns-else-q-eq-BOOST_TAG
+returns-else-q-eq-BOOST_TAG c = λ x i. (forms.no_boost _ x i c.if-q-eq-BOOST_TAG.false).1

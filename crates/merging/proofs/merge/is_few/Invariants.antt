@@ -1,10 +1,6 @@
 -- `merging::merge::is_few` meets its contract.
 use Rattle.merging.proofs.Alike as alike
-use lib.ListN.{length}
 use Rattle.merging.proofs.merge.is_few.Given as goal
 
-abbrev pub invariant-loop-t : goal.invariant-loop-t
-invariant-loop-t l = alike.Counting l.clauses l.t l.n
-
-abbrev pub decreases-loop-t : goal.decreases-loop-t
-decreases-loop-t l = length l.t
+abbrev pub invariant-loop : goal.invariant-loop
+invariant-loop l = alike.Counting l.clauses l.t l.counter

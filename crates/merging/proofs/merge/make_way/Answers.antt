@@ -3,8 +3,8 @@ use Rattle.merging.proofs.Laid as laid
 use native.Mathlib.Omega.{arith}
 use Rattle.merging.proofs.merge.make_way.Goals as goal
 
-pub returns-then-need-at : goal.returns-then-need-at
-returns-then-need-at c = laid.way_there _ _ _ _ c.requires.0 c.if-need-at.true
+pub shift-requires : goal.shift-requires
+shift-requires c = omega (arith, c.max-begin.ensures, c.requires)
 
 pub returns : goal.returns
-returns c = laid.way_made _ _ _ _ c.requires.0 (omega arith) c.requires.1 c.requires.2 c.shift.ensures
+returns c = laid.way_made _ _ _ _ c.requires.0 _ c.max-begin.ensures c.requires.1 (omega (arith, c.max-begin.ensures, c.requires.2)) c.shift.ensures

@@ -15,5 +15,5 @@ returns-then-is_one c = rw (laid.plain_bytes _ (within c.args.m.base c.args.e c.
 pub put_boosted-requires : goal.put_boosted-requires
 put_boosted-requires c = let l = laid.size_boost _ (c.args.e - c.args.m.base) (sym c.is_one.ensures ∙ c.if-is_one.false) in (c.requires.0, c.requires.1, omega (arith, c.requires.2), omega (arith, c.requires.3))
 
-pub returns : goal.returns
-returns c = rw (laid.boost_bytes _ (within c.args.m.base c.args.e c.args.room.now) _ (sym c.is_one.ensures ∙ c.if-is_one.false) c.rounded_bits.ensures) c.put_boosted.ensures
+pub returns-else-is_one : goal.returns-else-is_one
+returns-else-is_one c = rw (laid.boost_bytes _ (within c.args.m.base c.args.e c.args.room.now) _ (sym c.is_one.ensures ∙ c.if-is_one.false) c.rounded_bits.ensures) c.put_boosted.ensures

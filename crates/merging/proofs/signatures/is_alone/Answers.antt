@@ -1,12 +1,8 @@
 -- `merging::signatures::is_alone` meets its contract.
-use Rattle.merging.proofs.Alike as alike
 use Rattle.merging.specs.Signatures.{cell_of}
 use borrow.Author.Tests.{eqb-true}
 use mathlib.Core.Path.{sym, ap, ◌∙◌}
 use Rattle.merging.proofs.signatures.is_alone.Goals as goal
-
-pub returns-then-table-ne-TABLE : goal.returns-then-table-ne-TABLE
-returns-then-table-ne-TABLE c = λ t. alike.not_alone _ t
 
 pub returns : goal.returns
 returns c = λ t. ap (cell_of c.args.table.now) (sym c.signature.ensures.0) ∙ sym c.cell.ensures ∙ eqb-true _ _ t

@@ -5,20 +5,8 @@ use lib.ListN.{replicate}
 use mathlib.Core.Path.{ap, ◌∙◌}
 use Rattle.parser.proofs.parse.parse.Goals as goal
 
-pub shape_of-room-then-room-lt-PARSE_ROOM : goal.shape_of-room-then-room-lt-PARSE_ROOM
-shape_of-room-then-room-lt-PARSE_ROOM c = c.clear.auto.room
-
 pub returns-then-room-lt-PARSE_ROOM : goal.returns-then-room-lt-PARSE_ROOM
 returns-then-room-lt-PARSE_ROOM c = parse_short c.args.operator c.args.analyzer c.args.field.now c.args.fields.now c.args.text.now c.args.out.now c.args.room.now c.if-room-lt-PARSE_ROOM.true _ c.clear.ensures
-
-pub parse_text-p-requires : goal.parse_text-p-requires
-parse_text-p-requires c = c.if-room-lt-PARSE_ROOM.false
-
-pub shape_of-out : goal.shape_of-out
-shape_of-out c = c.parse_text-p.auto.out
-
-pub shape_of-room : goal.shape_of-room
-shape_of-room c = c.clear-2.auto.room ∙ c.parse_text-p.auto.room
 
 pub returns : goal.returns
 returns c = parse_whole c.args.operator c.args.analyzer c.args.field.now c.args.fields.now c.args.text.now c.args.out.now c.args.room.now c.if-room-lt-PARSE_ROOM.false c.parse_text-p.result _ _ c.parse_text-p.ensures (c.clear-2.ensures ∙ ap (λ (k : ℕ). replicate k 0) c.parse_text-p.auto.room)

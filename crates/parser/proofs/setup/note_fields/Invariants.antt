@@ -1,11 +1,7 @@
 -- `parser::setup::note_fields` meets its contract.
-use Prim.Native.Nat.{◌-◌}
 use Rattle.fields.specs.Fields.{array_entries}
 use Rattle.parser.proofs.Notes.{Noting}
 use Rattle.parser.proofs.setup.note_fields.Given as goal
 
-abbrev pub invariant-loop-k : goal.invariant-loop-k
-invariant-loop-k l = Noting l.n (array_entries l.names l.lengths l.analyzers l.count) l.default l.initial.room l.k l.room
-
-abbrev pub decreases-loop-k : goal.decreases-loop-k
-decreases-loop-k l = l.n - l.k
+abbrev pub invariant-loop-i : goal.invariant-loop-i
+invariant-loop-i l = Noting l.n (array_entries l.names l.lengths l.analyzers l.count) l.default l.initial.room l.i l.room

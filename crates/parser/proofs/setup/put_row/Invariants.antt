@@ -1,11 +1,6 @@
 -- `parser::setup::put_row` meets its contract.
-use Prim.Native.Nat.{◌-◌}
 use Rattle.parser.proofs.Entries.{Testing}
-use lib.ListN.{length}
 use Rattle.parser.proofs.setup.put_row.Given as goal
 
 abbrev pub invariant-loop-i : goal.invariant-loop-i
-invariant-loop-i l = Testing l.initial.names l.k l.s l.names l.i
-
-abbrev pub decreases-loop-i : goal.decreases-loop-i
-decreases-loop-i l = length l.s - l.i
+invariant-loop-i l = Testing l.s l.row l.i

@@ -1,5 +1,5 @@
 -- `round::once::rewrite_clauses` and `round::once::rewrite_once` meet their contracts. What is left to read falls at each call.
-use Prim.Native.Nat.{◌+◌, ◌-◌}
+use Prim.Native.Nat.{◌+◌}
 use Rattle.places.proofs.Standing as standing
 use Rattle.round.proofs.Cycling as cycling
 use Rattle.round.proofs.Nested as nested
@@ -15,17 +15,11 @@ rewrite_clauses-loop-t-init t c = cycling.rewriting_start c.requires
 pub rewrite_clauses-end_of-e-requires : goal.rewrite_clauses-end_of-e-requires
 rewrite_clauses-end_of-e-requires t c = (omega arith, (cycling.here c.loop-t.invariant c.loop-t-test.true).part.whole)
 
-pub rewrite_clauses-overflow_add-w : goal.rewrite_clauses-overflow_add-w
-rewrite_clauses-overflow_add-w t c = omega (arith, cycling.child_low c.loop-t.invariant c.loop-t-test.true _ c.end_of-e.ensures.0, c.well_formed.0, c.loop-t.invariant.long)
-
 pub rewrite_clauses-slice_bounds-rewrite_once-count : goal.rewrite_clauses-slice_bounds-rewrite_once-count
 rewrite_clauses-slice_bounds-rewrite_once-count t c = omega (arith, cycling.child_low c.loop-t.invariant c.loop-t-test.true _ c.end_of-e.ensures.0)
 
 pub rewrite_clauses-slice_bounds-rewrite_once-start : goal.rewrite_clauses-slice_bounds-rewrite_once-start
 rewrite_clauses-slice_bounds-rewrite_once-start t c = omega (arith, cycling.child_low c.loop-t.invariant c.loop-t-test.true _ c.end_of-e.ensures.0)
-
-pub rewrite_clauses-slice_bounds-rewrite_once-end : goal.rewrite_clauses-slice_bounds-rewrite_once-end
-rewrite_clauses-slice_bounds-rewrite_once-end t c = omega (arith, cycling.child_low c.loop-t.invariant c.loop-t-test.true _ c.end_of-e.ensures.0)
 
 pub rewrite_clauses-overflow_sub-t : goal.rewrite_clauses-overflow_sub-t
 rewrite_clauses-overflow_sub-t t c = omega (arith, cycling.child_low c.loop-t.invariant c.loop-t-test.true _ c.end_of-e.ensures.0)
@@ -33,48 +27,26 @@ rewrite_clauses-overflow_sub-t t c = omega (arith, cycling.child_low c.loop-t.in
 pub rewrite_clauses-rewrite_once-n-requires : goal.rewrite_clauses-rewrite_once-n-requires
 rewrite_clauses-rewrite_once-n-requires t c = (let l = cycling.child_low c.loop-t.invariant c.loop-t-test.true _ c.end_of-e.ensures.0 in omega (arith, c.decreases, c.loop-t.invariant.low, c.loop-t.invariant.long, standing.within_length c.loop-t.room (c.loop-t.w + 3) _ l.0 l.3), cycling.child_room c.loop-t.invariant c.loop-t-test.true _ c.end_of-e.ensures.0)
 
-pub rewrite_clauses-overflow_add-w-in-loop-t : goal.rewrite_clauses-overflow_add-w-in-loop-t
-rewrite_clauses-overflow_add-w-in-loop-t t c = omega (arith, cycling.child_low c.loop-t.invariant c.loop-t-test.true _ c.end_of-e.ensures.0, c.well_formed.0, c.loop-t.invariant.long)
-
 pub rewrite_clauses-bounds-room-w : goal.rewrite_clauses-bounds-room-w
 rewrite_clauses-bounds-room-w t c = (cycling.child_fits c.loop-t.invariant c.loop-t-test.true _ c.end_of-e.ensures.0 _ c.rewrite_once-n.ensures).0
 
-pub rewrite_clauses-shape_of-room-then-is_needed : goal.rewrite_clauses-shape_of-room-then-is_needed
-rewrite_clauses-shape_of-room-then-is_needed t c = omega (arith, cycling.child_fits c.loop-t.invariant c.loop-t-test.true _ c.end_of-e.ensures.0 _ c.rewrite_once-n.ensures, c.loop-t.invariant.long)
-
 pub rewrite_clauses-returns-then-is_needed : goal.rewrite_clauses-returns-then-is_needed
-rewrite_clauses-returns-then-is_needed t c = cycling.child_dead c.loop-t.invariant c.loop-t-test.true _ c.end_of-e.ensures.0 _ c.rewrite_once-n.ensures c.if-room-w-eq-MATCH_NONE_TAG.true _ refl _ c.is_needed.ensures c.if-is_needed.true
+rewrite_clauses-returns-then-is_needed t c = cycling.child_dead c.loop-t.invariant c.loop-t-test.true _ c.end_of-e.ensures.0 _ c.rewrite_once-n.ensures c.if-room-w-ne-MATCH_NONE_TAG.false _ refl _ c.is_needed.ensures c.if-is_needed.true
 
-pub rewrite_clauses-put_header-requires : goal.rewrite_clauses-put_header-requires
-rewrite_clauses-put_header-requires t c = omega (arith, cycling.child_fits c.loop-t.invariant c.loop-t-test.true _ c.end_of-e.ensures.0 _ c.rewrite_once-n.ensures)
+pub rewrite_clauses-put_header-w-requires : goal.rewrite_clauses-put_header-w-requires
+rewrite_clauses-put_header-w-requires t c = omega (arith, cycling.child_fits c.loop-t.invariant c.loop-t-test.true _ c.end_of-e.ensures.0 _ c.rewrite_once-n.ensures)
 
-pub rewrite_clauses-overflow_add-w-else-room-w-eq-MATCH_NONE_TAG : goal.rewrite_clauses-overflow_add-w-else-room-w-eq-MATCH_NONE_TAG
-rewrite_clauses-overflow_add-w-else-room-w-eq-MATCH_NONE_TAG t c = omega (arith, cycling.child_fits c.loop-t.invariant c.loop-t-test.true _ c.end_of-e.ensures.0 _ c.rewrite_once-n.ensures)
+pub rewrite_clauses-overflow_add-w-then-room-w-ne-MATCH_NONE_TAG : goal.rewrite_clauses-overflow_add-w-then-room-w-ne-MATCH_NONE_TAG
+rewrite_clauses-overflow_add-w-then-room-w-ne-MATCH_NONE_TAG t c = omega (arith, cycling.child_fits c.loop-t.invariant c.loop-t-test.true _ c.end_of-e.ensures.0 _ c.rewrite_once-n.ensures)
 
-pub rewrite_clauses-overflow_add-w-else-room-w-eq-MATCH_NONE_TAG-2 : goal.rewrite_clauses-overflow_add-w-else-room-w-eq-MATCH_NONE_TAG-2
-rewrite_clauses-overflow_add-w-else-room-w-eq-MATCH_NONE_TAG-2 t c = omega (arith, cycling.child_fits c.loop-t.invariant c.loop-t-test.true _ c.end_of-e.ensures.0 _ c.rewrite_once-n.ensures)
-
-pub rewrite_clauses-loop-t-smaller-else-is_needed : goal.rewrite_clauses-loop-t-smaller-else-is_needed
-rewrite_clauses-loop-t-smaller-else-is_needed t c = omega (arith, cycling.child_low c.loop-t.invariant c.loop-t-test.true _ c.end_of-e.ensures.0, cycling.child_fits c.loop-t.invariant c.loop-t-test.true _ c.end_of-e.ensures.0 _ c.rewrite_once-n.ensures)
-
-pub rewrite_clauses-loop-t-preserved-else-is_needed : goal.rewrite_clauses-loop-t-preserved-else-is_needed
-rewrite_clauses-loop-t-preserved-else-is_needed t c = cycling.child_skip c.loop-t.invariant c.loop-t-test.true _ c.end_of-e.ensures.0 _ c.rewrite_once-n.ensures c.if-room-w-eq-MATCH_NONE_TAG.true _ refl _ c.is_needed.ensures c.if-is_needed.false
-
-pub rewrite_clauses-loop-t-smaller : goal.rewrite_clauses-loop-t-smaller
-rewrite_clauses-loop-t-smaller t c = omega (
-  arith,
-  cycling.child_low c.loop-t.invariant c.loop-t-test.true _
-      c.end_of-e.ensures.0,
-  cycling.child_fits c.loop-t.invariant
-      c.loop-t-test.true _ c.end_of-e.ensures.0 _ c.rewrite_once-n.ensures,
-  c.put_header.auto.out,
-)
+pub rewrite_clauses-overflow_add-w-then-room-w-ne-MATCH_NONE_TAG-2 : goal.rewrite_clauses-overflow_add-w-then-room-w-ne-MATCH_NONE_TAG-2
+rewrite_clauses-overflow_add-w-then-room-w-ne-MATCH_NONE_TAG-2 t c = omega (arith, cycling.child_fits c.loop-t.invariant c.loop-t-test.true _ c.end_of-e.ensures.0 _ c.rewrite_once-n.ensures)
 
 pub rewrite_clauses-loop-t-preserved : goal.rewrite_clauses-loop-t-preserved
-rewrite_clauses-loop-t-preserved t c = cycling.child_keep c.loop-t.invariant c.loop-t-test.true _ c.end_of-e.ensures.0 _ c.rewrite_once-n.ensures c.if-room-w-eq-MATCH_NONE_TAG.false _ refl c.put_header.ensures
+rewrite_clauses-loop-t-preserved t c = cycling.child_skip c.loop-t.invariant c.loop-t-test.true _ c.end_of-e.ensures.0 _ c.rewrite_once-n.ensures c.if-room-w-ne-MATCH_NONE_TAG.false _ refl _ c.is_needed.ensures c.if-is_needed.false
 
-pub rewrite_clauses-shape_of-room : goal.rewrite_clauses-shape_of-room
-rewrite_clauses-shape_of-room t c = c.loop-t.invariant.long
+pub rewrite_clauses-loop-t-preserved-then-room-w-ne-MATCH_NONE_TAG : goal.rewrite_clauses-loop-t-preserved-then-room-w-ne-MATCH_NONE_TAG
+rewrite_clauses-loop-t-preserved-then-room-w-ne-MATCH_NONE_TAG t c = cycling.child_keep c.loop-t.invariant c.loop-t-test.true _ c.end_of-e.ensures.0 _ c.rewrite_once-n.ensures c.if-room-w-ne-MATCH_NONE_TAG.true _ refl c.put_header-w.ensures
 
 pub rewrite_clauses-returns : goal.rewrite_clauses-returns
 rewrite_clauses-returns t c = cycling.rewriting_end c.loop-t.invariant c.loop-t-test.false
@@ -84,9 +56,6 @@ rewrite_once-bounds-room-at t c = omega (arith, nested.inside c.requires)
 
 pub rewrite_once-phrase_over-requires : goal.rewrite_once-phrase_over-requires
 rewrite_once-phrase_over-requires t c = nested.phrase_here c.requires c.in-2.is
-
-pub rewrite_once-overflow_add-at : goal.rewrite_once-overflow_add-at
-rewrite_once-overflow_add-at t c = omega (arith, nested.boolean_low c.requires c.in-3.is, c.well_formed.0)
 
 pub rewrite_once-slice_bounds-big2-count : goal.rewrite_once-slice_bounds-big2-count
 rewrite_once-slice_bounds-big2-count t c = omega (arith, nested.boolean_low c.requires c.in-3.is)
@@ -103,27 +72,24 @@ rewrite_once-slice_bounds-rewrite_clauses-count t c = omega (arith, nested.boole
 pub rewrite_once-slice_bounds-rewrite_clauses-start : goal.rewrite_once-slice_bounds-rewrite_clauses-start
 rewrite_once-slice_bounds-rewrite_clauses-start t c = omega (arith, nested.boolean_low c.requires c.in-3.is)
 
-pub rewrite_once-rewrite_clauses-r-requires : goal.rewrite_once-rewrite_clauses-r-requires
-rewrite_once-rewrite_clauses-r-requires t c = (let l = nested.boolean_low c.requires c.in-3.is in omega (arith, c.decreases, standing.within_length c.args.room.now 8 (length c.args.room.now) (omega arith) (omega arith)), nested.boolean_rooms c.requires c.in-3.is)
+pub rewrite_once-rewrite_clauses-requires : goal.rewrite_once-rewrite_clauses-requires
+rewrite_once-rewrite_clauses-requires t c = (let l = nested.boolean_low c.requires c.in-3.is in omega (arith, c.decreases, standing.within_length c.args.room.now 8 (length c.args.room.now) (omega arith) (omega arith)), nested.boolean_rooms c.requires c.in-3.is)
 
 pub rewrite_once-put_none-requires : goal.rewrite_once-put_none-requires
-rewrite_once-put_none-requires t c = omega (arith, nested.boolean_low c.requires c.in-3.is, nested.boolean_long c.requires c.in-3.is c.rewrite_clauses-r.new.room c.rewrite_clauses-r.auto.room)
+rewrite_once-put_none-requires t c = omega (arith, nested.boolean_low c.requires c.in-3.is, nested.boolean_long c.requires c.in-3.is c.rewrite_clauses.new.room c.rewrite_clauses.auto.room)
 
 pub rewrite_once-overflow_add-w : goal.rewrite_once-overflow_add-w
 rewrite_once-overflow_add-w t c = omega (
   arith,
   (nested.boolean_live c.requires c.in-3.is _
-      (rw c.in-Upto.is at c.rewrite_clauses-r.ensures) _ c.big2-least.ensures).high,
+      (rw c.in-Some.is at c.rewrite_clauses.ensures) _ c.big2-least.ensures).high,
   nested.boolean_long c.requires
-      c.in-3.is c.rewrite_clauses-r.new.room c.rewrite_clauses-r.auto.room,
+      c.in-3.is c.rewrite_clauses.new.room c.rewrite_clauses.auto.room,
   c.well_formed.0,
 )
 
 pub rewrite_once-rewrite_boolean-requires : goal.rewrite_once-rewrite_boolean-requires
-rewrite_once-rewrite_boolean-requires t c = nested.boolean_live c.requires c.in-3.is _ (rw c.in-Upto.is at c.rewrite_clauses-r.ensures) _ c.big2-least.ensures
-
-pub rewrite_once-overflow_add-at-in-4 : goal.rewrite_once-overflow_add-at-in-4
-rewrite_once-overflow_add-at-in-4 t c = omega (arith, nested.boost_low c.requires c.in-4.is, c.well_formed.0)
+rewrite_once-rewrite_boolean-requires t c = nested.boolean_live c.requires c.in-3.is _ (rw c.in-Some.is at c.rewrite_clauses.ensures) _ c.big2-least.ensures
 
 pub rewrite_once-slice_bounds-big4-count : goal.rewrite_once-slice_bounds-big4-count
 rewrite_once-slice_bounds-big4-count t c = omega (arith, nested.boost_low c.requires c.in-4.is)
@@ -167,11 +133,11 @@ rewrite_once-shift-requires t c = omega (arith, nested.inside c.requires)
 pub rewrite_once-returns-in-2 : goal.rewrite_once-returns-in-2
 rewrite_once-returns-in-2 t c = nested.phrase_done c.requires c.in-2.is _ c.phrase_over.ensures
 
-pub rewrite_once-returns-in-Dead : goal.rewrite_once-returns-in-Dead
-rewrite_once-returns-in-Dead t c = nested.boolean_dead c.requires c.in-3.is c.rewrite_clauses-r.new.room c.rewrite_clauses-r.auto.room _ (rw c.in-Dead.is at c.rewrite_clauses-r.ensures) c.put_none.ensures
+pub rewrite_once-returns-in-None : goal.rewrite_once-returns-in-None
+rewrite_once-returns-in-None t c = nested.boolean_dead c.requires c.in-3.is c.rewrite_clauses.new.room c.rewrite_clauses.auto.room _ (rw c.in-None.is at c.rewrite_clauses.ensures) c.put_none.ensures
 
-pub rewrite_once-returns-in-Upto : goal.rewrite_once-returns-in-Upto
-rewrite_once-returns-in-Upto t c = nested.boolean_done c.requires c.in-3.is _ (rw c.in-Upto.is at c.rewrite_clauses-r.ensures) _ c.big2-least.ensures c.rewrite_boolean.ensures
+pub rewrite_once-returns-in-Some : goal.rewrite_once-returns-in-Some
+rewrite_once-returns-in-Some t c = nested.boolean_done c.requires c.in-3.is _ (rw c.in-Some.is at c.rewrite_clauses.ensures) _ c.big2-least.ensures c.rewrite_boolean.ensures
 
 pub rewrite_once-returns-in-4 : goal.rewrite_once-returns-in-4
 rewrite_once-returns-in-4 t c = nested.boost_done c.requires c.in-4.is _ c.rewrite_once-n.ensures _ c.big4-b.ensures c.finish_boost.ensures
@@ -180,4 +146,4 @@ pub rewrite_once-returns-in-5 : goal.rewrite_once-returns-in-5
 rewrite_once-returns-in-5 t c = nested.score_done c.requires c.in-5.is _ c.rewrite_once-n-in-5.ensures c.score_over.ensures
 
 pub rewrite_once-returns-in_default : goal.rewrite_once-returns-in_default
-rewrite_once-returns-in_default t c = nested.plain_done c.requires _ c.in_default.in_default-own.rest.0.0.0.1 c.in_default.in_default-own.rest.0.0.1 c.in_default.in_default-own.rest.0.1 c.in_default.in_default-own.rest.1 c.shift.ensures
+rewrite_once-returns-in_default t c = nested.plain_done c.requires _ (λ z. omega (arith, z)) (λ z. omega (arith, z)) (λ z. omega (arith, z)) (λ z. omega (arith, z)) c.shift.ensures

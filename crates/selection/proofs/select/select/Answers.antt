@@ -1,24 +1,34 @@
 -- `selection::select::select` meets its contract.
 use Rattle.rules.proofs.Bools as bools
+use Rattle.rules.specs.Answers.{selected}
 use Rattle.selection.proofs.Selections as selections
+use Rattle.std.proofs.lemmas.Result as result
 use borrow.Author.Tests.{leb-true}
-use mathlib.Core.Path.{sym, ◌∙◌}
+use native.Mathlib.Omega.{arith}
 use Rattle.selection.proofs.select.select.Goals as goal
 
-pub returns-then-n-ne0 : goal.returns-then-n-ne0
-returns-then-n-ne0 c = selections.refuse c.args.query.now c.args.list.now c.args.rows.now c.checked-n.result c.checked-n.ensures c.if-n-ne0.true
+pub returns-in_err-check : goal.returns-in_err-check
+returns-in_err-check c =
+    let p = result.err_from_is_err_and c.from_residual.result c.from_residual.ensures.1 in
+    rw (p.1, p.2) (selections.refuse c.args.query.now c.args.list.now c.args.rows.now c.in_err-check.ensures)
+
+pub records-records-requires : goal.records-records-requires
+records-records-requires c = (selections.ready c.args.query.now c.args.list.now (λ i. omega (arith, c.shared_slice_known-1.given i)) (selections.sound (selected c.args.query.now c.args.list.now) c.in_ok-check.ensures)).list.records
+
+pub invariant_of-checked : goal.invariant_of-checked
+invariant_of-checked c = record { sound = selections.sound (selected c.args.query.now c.args.list.now) c.in_ok-check.ensures; all = c.records-records.ensures }
 
 pub fits-requires : goal.fits-requires
-fits-requires c = (sym c.checked-n.ensures ∙ c.if-n-ne0.false)
+fits-requires c = λ i. omega (arith, c.shared_slice_known-1.given i)
 
 pub returns-then-not-fits : goal.returns-then-not-fits
-returns-then-not-fits c = selections.no_room c.args.query.now c.args.list.now (sym c.checked-n.ensures ∙ c.if-n-ne0.false) c.args.rows.now (bools.told_no c.fits.ensures c.if-not-fits.true-raw)
+returns-then-not-fits c = selections.no_room c.args.query.now c.args.list.now (selections.sound (selected c.args.query.now c.args.list.now) c.in_ok-check.ensures) c.args.rows.now (bools.told_no c.fits.ensures c.if-not-fits.true-raw)
 
-pub fill-k-requires : goal.fill-k-requires
-fill-k-requires c = (sym c.checked-n.ensures ∙ c.if-n-ne0.false, leb-true _ _ (bools.told_yes c.fits.ensures c.if-not-fits.false-raw))
+pub fill-requires : goal.fill-requires
+fill-requires c = (λ i. omega (arith, c.shared_slice_known-1.given i), leb-true _ _ (bools.told_yes c.fits.ensures c.if-not-fits.false-raw))
 
 pub shape_of-rows : goal.shape_of-rows
-shape_of-rows c = c.fill-k.auto.rows
+shape_of-rows c = c.fill.auto.rows
 
 pub returns : goal.returns
-returns c = selections.choose c.args.query.now c.args.list.now (sym c.checked-n.ensures ∙ c.if-n-ne0.false) c.args.rows.now _ c.fill-k.result (bools.told_yes c.fits.ensures c.if-not-fits.false-raw) c.fill-k.ensures.0 c.fill-k.ensures.1
+returns c = selections.choose c.args.query.now c.args.list.now (selections.sound (selected c.args.query.now c.args.list.now) c.in_ok-check.ensures) c.args.rows.now _ c.fill.result (bools.told_yes c.fits.ensures c.if-not-fits.false-raw) c.fill.ensures.0 c.fill.ensures.1

@@ -1,30 +1,29 @@
 -- `show::answer::put_answer` meets its contract.
+use Rattle.names.specs.Refusals.{numbered}
 use Rattle.rules.specs.Bytes.{ascii}
 use Rattle.rules.specs.Show.{show_rewritten}
 use Rattle.show.proofs.Laying as laying
+use Rattle.show.proofs.Refusals as refusals
 use Rattle.show.specs.Answer.{answer_text}
 use Rattle.show.specs.Node.{kind_text}
-use borrow.Author.Tests.{eq-eqb, ne_eqb}
-use native.Mathlib.Omega.{arith}
+use borrow.Author.Tests.{ne_eqb}
 use Rattle.show.proofs.answer.put_answer.Goals as goal
 
-pub returns-then-refusal-ne0 : goal.returns-then-refusal-ne0
+pub returns-in-Err : goal.returns-in-Err
 unfolding answer_text
-returns-then-refusal-ne0 c = laying.lays_as (rw (ne_eqb c.args.refusal 0 c.if-refusal-ne0.true)) c.put_refusal.ensures
+returns-in-Err c = laying.lays_as
+    (rw (
+      c.in-Err.is,
+      ne_eqb
+          (numbered c.in-Err.f.refusal)
+          0 (refusals.numbered_some c.in-Err.f.refusal),
+    ))
+    c.put_refusal.ensures
 
-pub show_query-q-requires : goal.show_query-q-requires
-show_query-q-requires c = record { stored = c.requires.written c.if-refusal-ne0.false; low = omega (arith, c.requires.short) }
-
-pub show_query-requires : goal.show_query-requires
-show_query-requires c = record { stored = c.requires.rewritten c.if-refusal-ne0.false; low = omega (arith, c.requires.shorter) }
-
-pub returns : goal.returns
+pub returns-in-Ok : goal.returns-in-Ok
 unfolding answer_text ascii show_rewritten kind_text
-returns c = laying.lays_as
-    (rw
-    (eq-eqb
-    c.args.refusal
-    0 c.if-refusal-ne0.false))
+returns-in-Ok c = laying.lays_as
+    (rw c.in-Ok.is)
     (laying.lays_then
     (laying.lays_then
     (laying.lays_then

@@ -6,7 +6,7 @@ use Rattle.show.proofs.answer.put_refusal.Goals as goal
 
 pub returns : goal.returns
 unfolding ascii refusal_text
-returns c = laying.lays_then
+returns c = laying.lays_as (rw (← c.from-number.ensures)) (laying.lays_then
     (laying.lays_then
     (laying.lays_then
     (laying.lays_then
@@ -14,4 +14,4 @@ returns c = laying.lays_then
     c.put_decimal-q.ensures)
     c.put-r.ensures)
     c.put_decimal-s.ensures)
-    c.put.ensures
+    c.put.ensures)

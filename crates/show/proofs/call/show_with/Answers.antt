@@ -2,8 +2,8 @@
 use Rattle.show.proofs.Answering as answering
 use Rattle.show.proofs.call.show_with.Goals as goal
 
-pub deliver-requires : goal.deliver-requires
-deliver-requires c = answering.made_to_say c.make-m.ensures.makes
+pub returns-in-Err : goal.returns-in-Err
+returns-in-Err c = answering.whole_left c.args.input.now c.args.out.now c.args.room.now c.requires.2 _ _ _ c.make.new.room c.deliver.ensures (answering.made_text (rw c.in-Err.is at c.make.ensures.makes)) c.make.ensures.room_after
 
-pub returns : goal.returns
-returns c = answering.whole_left c.args.input.now c.args.out.now c.args.room.now c.requires.2 c.deliver.result _ c.deliver.new.out c.make-m.new.room c.deliver.ensures (answering.made_text c.make-m.ensures.makes) c.make-m.ensures.room_after
+pub returns-in-Ok : goal.returns-in-Ok
+returns-in-Ok c = answering.whole_left c.args.input.now c.args.out.now c.args.room.now c.requires.2 _ _ _ c.make.new.room c.deliver-in-Ok.ensures (answering.made_text (rw c.in-Ok.is at c.make.ensures.makes)) c.make.ensures.room_after

@@ -7,7 +7,6 @@ use Rattle.rules.specs.Show.{shown_words}
 use Rattle.show.proofs.Laying as laying
 use Rattle.show.proofs.Nodes as nodes
 use Rattle.show.specs.Node.{word_text}
-use mathlib.Core.Bool.{true}
 use mathlib.Core.Path.{refl}
 use native.Mathlib.Omega.{arith}
 use Rattle.show.proofs.node.put_words.Goals as goal

@@ -1,5 +1,5 @@
 -- `show::text::put_hex` meets its contract.
-use Prim.Native.Nat.{◌+◌, ◌-◌}
+use Prim.Native.Nat.{◌+◌}
 use Rattle.rules.specs.Show.{hex}
 use Rattle.show.proofs.Laying as laying
 use Rattle.show.proofs.Texts as texts
@@ -10,14 +10,14 @@ use mathlib.Core.Path.{refl}
 use native.Mathlib.Omega.{arith}
 use Rattle.show.proofs.text.put_hex.Goals as goal
 
-pub loop-k-init : goal.loop-k-init
-loop-k-init c = (omega arith, refl, laying.going_start _ _ _)
+pub loop-c-init : goal.loop-c-init
+loop-c-init c = (omega arith, refl, laying.going_start _ _ _)
 
-pub loop-k-preserved : goal.loop-k-preserved
-loop-k-preserved c = (omega arith, omega (arith, c.put_hex_byte-a.auto.out, c.loop-k.invariant.1), laying.going_next c.loop-k.invariant.2 (hex_byte (get_or c.args.s.now c.loop-k.k 0)) (hex (drop (c.loop-k.k + 1) c.args.s.now)) (texts.hex_next c.args.s.now c.loop-k.k c.loop-k-test.true) c.put_hex_byte-a.ensures)
+pub loop-c-preserved : goal.loop-c-preserved
+loop-c-preserved c = (omega arith, omega (arith, c.put_hex_byte-a.auto.out, c.loop-c.invariant.1), laying.going_next c.loop-c.invariant.2 (hex_byte (get_or c.args.s.now c.loop-c.c-index 0)) (hex (drop (c.loop-c.c-index + 1) c.args.s.now)) (texts.hex_next c.args.s.now c.loop-c.c-index c.loop-c-test.true) c.put_hex_byte-a.ensures)
 
 pub shape_of-out : goal.shape_of-out
-shape_of-out c = c.loop-k.invariant.1
+shape_of-out c = c.loop-c.invariant.1
 
 pub returns : goal.returns
-returns c = laying.going_end c.loop-k.invariant.2 (texts.hex_done c.args.s.now c.loop-k.k c.loop-k.invariant.0 c.loop-k-test.false)
+returns c = laying.going_end c.loop-c.invariant.2 (texts.hex_done c.args.s.now c.loop-c.c-index c.loop-c.invariant.0 c.loop-c-test.false)

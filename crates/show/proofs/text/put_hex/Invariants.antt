@@ -1,13 +1,10 @@
 -- `show::text::put_hex` meets its contract.
-use Prim.Native.Nat.{◌-◌, ◌≤◌}
+use Prim.Native.Nat.{◌≤◌}
 use Rattle.rules.specs.Show.{hex}
 use Rattle.show.proofs.Laying as laying
 use lib.ListN.{length, drop}
 use mathlib.Core.Path.{◌≡◌}
 use Rattle.show.proofs.text.put_hex.Given as goal
 
-abbrev pub invariant-loop-k : goal.invariant-loop-k
-invariant-loop-k l = (l.k ≤ length l.s) × (length l.out ≡ length l.initial.out) × laying.Going (hex l.s) (hex (drop l.k l.s)) l.initial.out l.at l.out l.a
-
-abbrev pub decreases-loop-k : goal.decreases-loop-k
-decreases-loop-k l = length l.s - l.k
+abbrev pub invariant-loop-c : goal.invariant-loop-c
+invariant-loop-c l = (l.c-index ≤ length l.s) × (length l.out ≡ length l.initial.out) × laying.Going (hex l.s) (hex (drop l.c-index l.s)) l.initial.out l.at l.out l.a

@@ -21,7 +21,7 @@ pub bounds-s-0 : goal.bounds-s-0
 bounds-s-0 c = omega (arith, parts.whole_le _ (bools.told_yes c.whole.ensures c.if-not-whole.false-raw))
 
 pub returns-in-48 : goal.returns-in-48
-returns-in-48 c = chains.nothing c.body-b.result.now c.body-b.ensures ∙ sym (leaves.open_bound c.args.s.now (bools.told_yes c.whole.ensures c.if-not-whole.false-raw) c.in-48.is)
+returns-in-48 c = c.is_empty.ensures ∙ chains.nothing c.body-b.result.now c.body-b.ensures ∙ sym (leaves.open_bound c.args.s.now (bools.told_yes c.whole.ensures c.if-not-whole.false-raw) c.in-48.is)
 
 pub returns-in-49 : goal.returns-in-49
 returns-in-49 c = ap (λ (l : List ℕ). eqb (length l) 8) c.body-b.ensures ∙ sym (leaves.included_bound c.args.s.now (bools.told_yes c.whole.ensures c.if-not-whole.false-raw) c.in-49.is)

@@ -1,44 +1,41 @@
 -- `stored::read::look` meets its contract.
-use Prim.Native.Nat.{ℕ, ◌+◌}
+use Prim.Native.Nat.{◌+◌}
 use Rattle.rules.proofs.Bools as bools
 use Rattle.rules.proofs.Stored.Parts as parts
+use Rattle.std.proofs.lemmas.Result as result
 use Rattle.stored.proofs.Opening as opening
-use mathlib.Core.Path.{sym, ap, ◌∙◌}
 use native.Mathlib.Omega.{arith}
 use Rattle.stored.proofs.read.look.Goals as goal
 
-pub returns-then-not-is_record : goal.returns-then-not-is_record
-returns-then-not-is_record c = opening.fault_bad c.args.left c.args.q.now (bools.told_no c.is_record.ensures c.if-not-is_record.true-raw)
+pub returns-in_err-say : goal.returns-in_err-say
+returns-in_err-say c = let p = result.err_from_is_err_and c.from_residual.result c.from_residual.ensures.1 in let f = opening.failed c.is_record.ensures c.in_err-say.ensures in rw (p.1, p.2, f.1) (opening.fault_bad c.args.depth c.args.q.now f.0)
 
-pub returns-then-left-eq0 : goal.returns-then-left-eq0
-returns-then-left-eq0 c = opening.fault_deep c.args.left c.args.q.now c.if-left-eq0.true (bools.told_yes c.is_record.ensures c.if-not-is_record.false-raw)
+pub returns-then-depth-eq0 : goal.returns-then-depth-eq0
+returns-then-depth-eq0 c = opening.fault_deep c.args.depth c.args.q.now c.if-depth-eq0.true (opening.passed c.is_record.ensures c.in_ok-say.ensures)
 
-pub size_of-e-requires : goal.size_of-e-requires
-size_of-e-requires c = omega (arith, parts.whole_le _ (bools.and_l _ _ (bools.told_yes c.is_record.ensures c.if-not-is_record.false-raw)))
+pub size_of-to-requires : goal.size_of-to-requires
+size_of-to-requires c = omega (arith, parts.whole_le c.args.q.now (bools.and_l _ _ (opening.passed c.is_record.ensures c.in_ok-say.ensures)))
 
-pub body-b-requires : goal.body-b-requires
-body-b-requires c = bools.and_l _ _ (bools.told_yes c.is_record.ensures c.if-not-is_record.false-raw)
+pub returns-in_err-say-in-3 : goal.returns-in_err-say-in-3
+returns-in_err-say-in-3 c = let p = result.err_from_is_err_and c.from_residual-in_err-say-in-3.result c.from_residual-in_err-say-in-3.ensures.1 in let f = opening.failed c.is_minimum.ensures c.in_err-say-in-3.ensures in
+    rw (p.1, p.2, f.1) (opening.boolean_fault c.args.depth c.args.q.now c.body-b.result.now (3 + c.size_of-to.result) c.if-depth-eq0.false (opening.passed c.is_record.ensures c.in_ok-say.ensures) (omega arith) (omega arith) c.body-b.ensures c.in-3.is f.0)
 
-pub bounds-q-0 : goal.bounds-q-0
-bounds-q-0 c = omega (arith, parts.whole_le _ (bools.and_l _ _ (bools.told_yes c.is_record.ensures c.if-not-is_record.false-raw)))
+pub returns-in_err-say-in-4 : goal.returns-in_err-say-in-4
+returns-in_err-say-in-4 c = let p = result.err_from_is_err_and c.from_residual-in_err-say-in-4.result c.from_residual-in_err-say-in-4.ensures.1 in let f = opening.failed c.is_boosted.ensures c.in_err-say-in-4.ensures in
+    rw (p.1, p.2, f.1) (opening.boost_fault c.args.depth c.args.q.now c.body-b.result.now (3 + c.size_of-to.result) c.if-depth-eq0.false (opening.passed c.is_record.ensures c.in_ok-say.ensures) (omega arith) (omega arith) c.body-b.ensures c.in-4.is f.0)
 
-pub returns-then-is_minimum : goal.returns-then-is_minimum
-returns-then-is_minimum c = opening.boolean_row c.args.left c.args.q.now c.body-b.result.now (3 + c.size_of-e.result) c.if-left-eq0.false (bools.told_yes c.is_record.ensures c.if-not-is_record.false-raw) (ap (λ (n : ℕ). 3 + n) c.size_of-e.ensures.0) (omega (arith, c.size_of-e.ensures.0, c.size_of-e.ensures.1)) c.body-b.ensures c.in-3.is (sym c.is_minimum.ensures ∙ c.if-is_minimum.true)
+pub returns-in_err-say-in_default : goal.returns-in_err-say-in_default
+returns-in_err-say-in_default c = let p = result.err_from_is_err_and c.from_residual-in_err-say-in_default.result c.from_residual-in_err-say-in_default.ensures.1 in let f = opening.failed c.is_leaf.ensures c.in_err-say-in_default.ensures in
+    rw (p.1, p.2, f.1) (opening.leaf_fault_lem c.args.depth c.args.q.now c.body-b.result.now (3 + c.size_of-to.result) c.if-depth-eq0.false (opening.passed c.is_record.ensures c.in_ok-say.ensures) (omega arith) (omega arith) c.body-b.ensures c.in_default.in_default-own.rest.0.0.1 c.in_default.in_default-own.rest.0.1 c.in_default.in_default-own.rest.1 f.0)
 
-pub returns-else-is_minimum : goal.returns-else-is_minimum
-returns-else-is_minimum c = opening.boolean_fault c.args.left c.args.q.now c.body-b.result.now (3 + c.size_of-e.result) c.if-left-eq0.false (bools.told_yes c.is_record.ensures c.if-not-is_record.false-raw) (ap (λ (n : ℕ). 3 + n) c.size_of-e.ensures.0) (omega (arith, c.size_of-e.ensures.0, c.size_of-e.ensures.1)) c.body-b.ensures c.in-3.is (sym c.is_minimum.ensures ∙ c.if-is_minimum.false)
+pub returns-in_ok-say-in-3 : goal.returns-in_ok-say-in-3
+returns-in_ok-say-in-3 c = opening.boolean_row c.args.depth c.args.q.now c.body-b.result.now (3 + c.size_of-to.result) c.if-depth-eq0.false (opening.passed c.is_record.ensures c.in_ok-say.ensures) (omega arith) (omega arith) c.body-b.ensures c.in-3.is (opening.passed c.is_minimum.ensures c.in_ok-say-in-3.ensures)
 
-pub returns-then-is_boosted : goal.returns-then-is_boosted
-returns-then-is_boosted c = opening.boost_query c.args.left c.args.q.now c.body-b.result.now (3 + c.size_of-e.result) c.if-left-eq0.false (bools.told_yes c.is_record.ensures c.if-not-is_record.false-raw) (ap (λ (n : ℕ). 3 + n) c.size_of-e.ensures.0) (omega (arith, c.size_of-e.ensures.0, c.size_of-e.ensures.1)) c.body-b.ensures c.in-4.is (sym c.is_boosted.ensures ∙ c.if-is_boosted.true)
-
-pub returns-else-is_boosted : goal.returns-else-is_boosted
-returns-else-is_boosted c = opening.boost_fault c.args.left c.args.q.now c.body-b.result.now (3 + c.size_of-e.result) c.if-left-eq0.false (bools.told_yes c.is_record.ensures c.if-not-is_record.false-raw) (ap (λ (n : ℕ). 3 + n) c.size_of-e.ensures.0) (omega (arith, c.size_of-e.ensures.0, c.size_of-e.ensures.1)) c.body-b.ensures c.in-4.is (sym c.is_boosted.ensures ∙ c.if-is_boosted.false)
+pub returns-in_ok-say-in-4 : goal.returns-in_ok-say-in-4
+returns-in_ok-say-in-4 c = opening.boost_query c.args.depth c.args.q.now c.body-b.result.now (3 + c.size_of-to.result) c.if-depth-eq0.false (opening.passed c.is_record.ensures c.in_ok-say.ensures) (omega arith) (omega arith) c.body-b.ensures c.in-4.is (opening.passed c.is_boosted.ensures c.in_ok-say-in-4.ensures)
 
 pub returns-in-5 : goal.returns-in-5
-returns-in-5 c = opening.constant_query c.args.left c.args.q.now c.body-b.result.now (3 + c.size_of-e.result) c.if-left-eq0.false (bools.told_yes c.is_record.ensures c.if-not-is_record.false-raw) (ap (λ (n : ℕ). 3 + n) c.size_of-e.ensures.0) (omega (arith, c.size_of-e.ensures.0, c.size_of-e.ensures.1)) c.body-b.ensures c.in-5.is
+returns-in-5 c = opening.constant_query c.args.depth c.args.q.now c.body-b.result.now (3 + c.size_of-to.result) c.if-depth-eq0.false (opening.passed c.is_record.ensures c.in_ok-say.ensures) (omega arith) (omega arith) c.body-b.ensures c.in-5.is
 
-pub returns-then-is_leaf : goal.returns-then-is_leaf
-returns-then-is_leaf c = opening.leaf_record c.args.left c.args.q.now c.body-b.result.now (3 + c.size_of-e.result) c.if-left-eq0.false (bools.told_yes c.is_record.ensures c.if-not-is_record.false-raw) (ap (λ (n : ℕ). 3 + n) c.size_of-e.ensures.0) (omega (arith, c.size_of-e.ensures.0, c.size_of-e.ensures.1)) c.body-b.ensures c.in_default.in_default-own.rest.0.0.1 c.in_default.in_default-own.rest.0.1 c.in_default.in_default-own.rest.1 (sym c.is_leaf.ensures ∙ c.if-is_leaf.true)
-
-pub returns-else-is_leaf : goal.returns-else-is_leaf
-returns-else-is_leaf c = opening.leaf_fault_lem c.args.left c.args.q.now c.body-b.result.now (3 + c.size_of-e.result) c.if-left-eq0.false (bools.told_yes c.is_record.ensures c.if-not-is_record.false-raw) (ap (λ (n : ℕ). 3 + n) c.size_of-e.ensures.0) (omega (arith, c.size_of-e.ensures.0, c.size_of-e.ensures.1)) c.body-b.ensures c.in_default.in_default-own.rest.0.0.1 c.in_default.in_default-own.rest.0.1 c.in_default.in_default-own.rest.1 (sym c.is_leaf.ensures ∙ c.if-is_leaf.false)
+pub returns-in_ok-say-in_default : goal.returns-in_ok-say-in_default
+returns-in_ok-say-in_default c = opening.leaf_record c.args.depth c.args.q.now c.body-b.result.now (3 + c.size_of-to.result) c.if-depth-eq0.false (opening.passed c.is_record.ensures c.in_ok-say.ensures) (omega arith) (omega arith) c.body-b.ensures c.in_default.in_default-own.rest.0.0.1 c.in_default.in_default-own.rest.0.1 c.in_default.in_default-own.rest.1 (opening.passed c.is_leaf.ensures c.in_ok-say-in_default.ensures)

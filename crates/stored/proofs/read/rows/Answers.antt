@@ -1,94 +1,29 @@
 -- `stored::read::rows` meets its contract.
-use Prim.Native.Nat.{◌-◌}
+use Rattle.std.proofs.lemmas.Result as result
 use Rattle.stored.proofs.Rowing as rowing
-use Rattle.stored.specs.Read.{OfNext, cut}
-use mathlib.Core.Path.{refl, subst}
-use native.Mathlib.Omega.{arith}
+use mathlib.Core.Path.{refl}
 use Rattle.stored.proofs.read.rows.Goals as goal
 
-pub loop-at-init : goal.loop-at-init
-loop-at-init c = rowing.start c.args.first c.args.sound c.args.s.now _ _ c.requires.0 c.requires.1 refl refl
+pub loop-here-init : goal.loop-here-init
+loop-here-init c = rowing.start c.args.first c.args.sound c.args.s.now _ c.requires.0 c.requires.1 refl
 
 pub slice_bounds-step-end : goal.slice_bounds-step-end
-slice_bounds-step-end c = rowing.inside c.args.first c.args.sound c.args.s.now c.loop-at.ends c.loop-at.lefts c.loop-at.n c.loop-at.at c.loop-at.end c.loop-at.left c.loop-at.good c.loop-at.invariant
+slice_bounds-step-end c = rowing.inside c.loop-here.invariant
 
-pub returns-in-Fault : goal.returns-in-Fault
-returns-in-Fault c = rowing.fault c.args.first c.args.sound c.args.s.now c.loop-at.ends c.loop-at.lefts c.loop-at.n c.loop-at.at c.loop-at.end c.loop-at.left c.loop-at.good c.loop-at.invariant _ (subst (OfNext c.loop-at.left (cut c.loop-at.at c.loop-at.end c.args.s.now)) c.in-Fault.is c.step.ensures)
+pub returns-in_err-k : goal.returns-in_err-k
+returns-in_err-k c = let p = result.err_from_is_err_and c.from_residual.result c.from_residual.ensures.1 in rw (p.1, p.2) (rowing.fault c.loop-here.invariant _ c.in_err-k.ensures)
 
-pub overflow_add-at : goal.overflow_add-at
-overflow_add-at c = record { fits = let P = (subst (OfNext c.loop-at.left (cut c.loop-at.at c.loop-at.end c.args.s.now)) c.in-Past.is c.step.ensures) in omega (arith, P.end, rowing.row_length c.args.first c.args.sound c.args.s.now c.loop-at.ends c.loop-at.lefts c.loop-at.n c.loop-at.at c.loop-at.end c.loop-at.left c.loop-at.good c.loop-at.invariant, rowing.inside c.args.first c.args.sound c.args.s.now c.loop-at.ends c.loop-at.lefts c.loop-at.n c.loop-at.at c.loop-at.end c.loop-at.left c.loop-at.good c.loop-at.invariant, c.loop-at.invariant.short) }
+pub loop-here-preserved-in-Past : goal.loop-here-preserved-in-Past
+loop-here-preserved-in-Past c = rowing.past c.loop-here.invariant _ (rw c.in-Past.is at c.in_ok-k.ensures)
 
-pub loop-at-smaller-in-Past : goal.loop-at-smaller-in-Past
-loop-at-smaller-in-Past c = let P = (subst (OfNext c.loop-at.left (cut c.loop-at.at c.loop-at.end c.args.s.now)) c.in-Past.is c.step.ensures) in
-    omega (arith, P.some, P.end, rowing.row_length c.args.first c.args.sound c.args.s.now c.loop-at.ends c.loop-at.lefts c.loop-at.n c.loop-at.at c.loop-at.end c.loop-at.left c.loop-at.good c.loop-at.invariant, rowing.inside c.args.first c.args.sound c.args.s.now c.loop-at.ends c.loop-at.lefts c.loop-at.n c.loop-at.at c.loop-at.end c.loop-at.left c.loop-at.good c.loop-at.invariant)
+pub loop-here-preserved-in-Into : goal.loop-here-preserved-in-Into
+loop-here-preserved-in-Into c = rw (c.behind-here.ensures, c.push.ensures) (rowing.into c.loop-here.invariant _ (rw c.in-Into.is at c.in_ok-k.ensures))
 
-pub loop-at-preserved-in-Past : goal.loop-at-preserved-in-Past
-loop-at-preserved-in-Past c = rowing.past c.args.first c.args.sound c.args.s.now c.loop-at.ends c.loop-at.lefts c.loop-at.n c.loop-at.at c.loop-at.end c.loop-at.left c.loop-at.good c.loop-at.invariant _ (subst (OfNext c.loop-at.left (cut c.loop-at.at c.loop-at.end c.args.s.now)) c.in-Past.is c.step.ensures)
+pub loop-here-preserved-in-Last : goal.loop-here-preserved-in-Last
+loop-here-preserved-in-Last c = rw c.behind-here-in-Last.ensures (rowing.last c.loop-here.invariant _ (rw c.in-Last.is at c.in_ok-k.ensures))
 
-pub overflow_cast-ends : goal.overflow_cast-ends
-overflow_cast-ends c = record { fits = omega (arith, rowing.inside c.args.first c.args.sound c.args.s.now c.loop-at.ends c.loop-at.lefts c.loop-at.n c.loop-at.at c.loop-at.end c.loop-at.left c.loop-at.good c.loop-at.invariant, c.loop-at.invariant.short) }
+pub returns-in-None : goal.returns-in-None
+returns-in-None c = rowing.finished c.loop-here.invariant c.if-at-here.false c.in-None.ensures.0
 
-pub offset_bounds-ends-n : goal.offset_bounds-ends-n
-offset_bounds-ends-n c = record { fits = omega (arith, c.loop-at.invariant.room) }
-
-pub bounds-ends-n : goal.bounds-ends-n
-bounds-ends-n c = omega (arith, c.loop-at.invariant.room)
-
-pub overflow_cast-lefts : goal.overflow_cast-lefts
-overflow_cast-lefts c = record { fits = omega (arith, c.loop-at.invariant.room) }
-
-pub bounds-lefts-n : goal.bounds-lefts-n
-bounds-lefts-n c = omega (arith, c.loop-at.invariant.room)
-
-pub overflow_add-n : goal.overflow_add-n
-overflow_add-n c = record { fits = omega (arith, c.loop-at.invariant.room) }
-
-pub overflow_add-end : goal.overflow_add-end
-overflow_add-end c = record { fits = let I = (subst (OfNext c.loop-at.left (cut c.loop-at.at c.loop-at.end c.args.s.now)) c.in-Into.is c.step.ensures) in omega (arith, I.at.end, rowing.row_length c.args.first c.args.sound c.args.s.now c.loop-at.ends c.loop-at.lefts c.loop-at.n c.loop-at.at c.loop-at.end c.loop-at.left c.loop-at.good c.loop-at.invariant, rowing.inside c.args.first c.args.sound c.args.s.now c.loop-at.ends c.loop-at.lefts c.loop-at.n c.loop-at.at c.loop-at.end c.loop-at.left c.loop-at.good c.loop-at.invariant, c.loop-at.invariant.short) }
-
-pub overflow_add-at-in-Into : goal.overflow_add-at-in-Into
-overflow_add-at-in-Into c = record { fits = let I = (subst (OfNext c.loop-at.left (cut c.loop-at.at c.loop-at.end c.args.s.now)) c.in-Into.is c.step.ensures) in omega (arith, I.at.order, I.at.end, rowing.row_length c.args.first c.args.sound c.args.s.now c.loop-at.ends c.loop-at.lefts c.loop-at.n c.loop-at.at c.loop-at.end c.loop-at.left c.loop-at.good c.loop-at.invariant, rowing.inside c.args.first c.args.sound c.args.s.now c.loop-at.ends c.loop-at.lefts c.loop-at.n c.loop-at.at c.loop-at.end c.loop-at.left c.loop-at.good c.loop-at.invariant, c.loop-at.invariant.short) }
-
-pub loop-at-smaller-in-Into : goal.loop-at-smaller-in-Into
-loop-at-smaller-in-Into c = let I = (subst (OfNext c.loop-at.left (cut c.loop-at.at c.loop-at.end c.args.s.now)) c.in-Into.is c.step.ensures) in
-    omega (arith, I.at.some, I.at.order, I.at.end, rowing.row_length c.args.first c.args.sound c.args.s.now c.loop-at.ends c.loop-at.lefts c.loop-at.n c.loop-at.at c.loop-at.end c.loop-at.left c.loop-at.good c.loop-at.invariant, rowing.inside c.args.first c.args.sound c.args.s.now c.loop-at.ends c.loop-at.lefts c.loop-at.n c.loop-at.at c.loop-at.end c.loop-at.left c.loop-at.good c.loop-at.invariant, c.loop-at.invariant.order)
-
-pub loop-at-preserved-in-Into : goal.loop-at-preserved-in-Into
-loop-at-preserved-in-Into c = rowing.into c.args.first c.args.sound c.args.s.now c.loop-at.ends c.loop-at.lefts c.loop-at.n c.loop-at.at c.loop-at.end c.loop-at.left c.loop-at.good c.loop-at.invariant _ _ _ (subst (OfNext c.loop-at.left (cut c.loop-at.at c.loop-at.end c.args.s.now)) c.in-Into.is c.step.ensures)
-
-pub overflow_add-end-in-Last : goal.overflow_add-end-in-Last
-overflow_add-end-in-Last c = record { fits = let L = (subst (OfNext c.loop-at.left (cut c.loop-at.at c.loop-at.end c.args.s.now)) c.in-Last.is c.step.ensures) in omega (arith, L.at.end, rowing.row_length c.args.first c.args.sound c.args.s.now c.loop-at.ends c.loop-at.lefts c.loop-at.n c.loop-at.at c.loop-at.end c.loop-at.left c.loop-at.good c.loop-at.invariant, rowing.inside c.args.first c.args.sound c.args.s.now c.loop-at.ends c.loop-at.lefts c.loop-at.n c.loop-at.at c.loop-at.end c.loop-at.left c.loop-at.good c.loop-at.invariant, c.loop-at.invariant.short) }
-
-pub overflow_add-at-in-Last : goal.overflow_add-at-in-Last
-overflow_add-at-in-Last c = record { fits = let L = (subst (OfNext c.loop-at.left (cut c.loop-at.at c.loop-at.end c.args.s.now)) c.in-Last.is c.step.ensures) in omega (arith, L.at.order, L.at.end, rowing.row_length c.args.first c.args.sound c.args.s.now c.loop-at.ends c.loop-at.lefts c.loop-at.n c.loop-at.at c.loop-at.end c.loop-at.left c.loop-at.good c.loop-at.invariant, rowing.inside c.args.first c.args.sound c.args.s.now c.loop-at.ends c.loop-at.lefts c.loop-at.n c.loop-at.at c.loop-at.end c.loop-at.left c.loop-at.good c.loop-at.invariant, c.loop-at.invariant.short) }
-
-pub loop-at-smaller-in-Last : goal.loop-at-smaller-in-Last
-loop-at-smaller-in-Last c = let L = (subst (OfNext c.loop-at.left (cut c.loop-at.at c.loop-at.end c.args.s.now)) c.in-Last.is c.step.ensures) in
-    omega (arith, L.at.some, L.at.order, L.at.end, rowing.row_length c.args.first c.args.sound c.args.s.now c.loop-at.ends c.loop-at.lefts c.loop-at.n c.loop-at.at c.loop-at.end c.loop-at.left c.loop-at.good c.loop-at.invariant, rowing.inside c.args.first c.args.sound c.args.s.now c.loop-at.ends c.loop-at.lefts c.loop-at.n c.loop-at.at c.loop-at.end c.loop-at.left c.loop-at.good c.loop-at.invariant, c.loop-at.invariant.order)
-
-pub loop-at-preserved-in-Last : goal.loop-at-preserved-in-Last
-loop-at-preserved-in-Last c = rowing.last c.args.first c.args.sound c.args.s.now c.loop-at.ends c.loop-at.lefts c.loop-at.n c.loop-at.at c.loop-at.end c.loop-at.left c.loop-at.good c.loop-at.invariant _ _ _ (subst (OfNext c.loop-at.left (cut c.loop-at.at c.loop-at.end c.args.s.now)) c.in-Last.is c.step.ensures)
-
-pub returns-then-n-eq0 : goal.returns-then-n-eq0
-returns-then-n-eq0 c = rowing.finished c.args.first c.args.sound c.args.s.now c.loop-at.ends c.loop-at.lefts c.loop-at.n c.loop-at.at c.loop-at.end c.loop-at.left c.loop-at.good c.loop-at.invariant c.if-at-end.false c.if-n-eq0.true
-
-pub offset_bounds-ends-n-else-n-eq0 : goal.offset_bounds-ends-n-else-n-eq0
-offset_bounds-ends-n-else-n-eq0 c = record { fits = omega (arith, c.loop-at.invariant.room) }
-
-pub bounds-ends-n-else-n-eq0 : goal.bounds-ends-n-else-n-eq0
-bounds-ends-n-else-n-eq0 c = omega (arith, c.loop-at.invariant.room)
-
-pub overflow_cast-end : goal.overflow_cast-end
-overflow_cast-end c = record { fits = omega (arith, rowing.inside _ _ _ _ _ _ _ _ _ _ (rowing.popped c.args.first c.args.sound c.args.s.now c.loop-at.ends c.loop-at.lefts c.loop-at.n c.loop-at.at c.loop-at.end c.loop-at.left c.loop-at.good c.loop-at.invariant c.if-at-end.false (c.loop-at.n - 1) (omega (arith, c.if-n-eq0.false))), c.loop-at.invariant.short) }
-
-pub bounds-lefts-n-else-n-eq0 : goal.bounds-lefts-n-else-n-eq0
-bounds-lefts-n-else-n-eq0 c = omega (arith, c.loop-at.invariant.room)
-
-pub overflow_cast-left : goal.overflow_cast-left
-overflow_cast-left c = record { fits = omega (arith, (rowing.popped c.args.first c.args.sound c.args.s.now c.loop-at.ends c.loop-at.lefts c.loop-at.n c.loop-at.at c.loop-at.end c.loop-at.left c.loop-at.good c.loop-at.invariant c.if-at-end.false (c.loop-at.n - 1) (omega (arith, c.if-n-eq0.false))).room) }
-
-pub loop-at-smaller : goal.loop-at-smaller
-loop-at-smaller c = omega (arith, c.if-n-eq0.false)
-
-pub loop-at-preserved : goal.loop-at-preserved
-loop-at-preserved c = (rowing.popped c.args.first c.args.sound c.args.s.now c.loop-at.ends c.loop-at.lefts c.loop-at.n c.loop-at.at c.loop-at.end c.loop-at.left c.loop-at.good c.loop-at.invariant c.if-at-end.false (c.loop-at.n - 1) (omega (arith, c.if-n-eq0.false)))
+pub loop-here-preserved : goal.loop-here-preserved
+loop-here-preserved c = let P = c.in-Some.ensures in rw (c.from.ensures, c.from-in-Some.ensures, P.1, P.2) (rowing.popped c.loop-here.invariant c.if-at-here.false c.pop.new.self.n P.0)

@@ -4,8 +4,8 @@ use Rattle.stored.proofs.Rowing as rowing
 use lib.ListN.{length}
 use Rattle.stored.proofs.read.rows.Given as goal
 
-abbrev pub invariant-loop-at : goal.invariant-loop-at
-invariant-loop-at l = rowing.Rowing l.first l.sound l.s l.ends l.lefts l.n l.at l.end l.left l.good
+abbrev pub invariant-loop-here : goal.invariant-loop-here
+invariant-loop-here l = rowing.Rowing l.first l.fn.sound l.s l.around.rows l.around.n l.here l.good
 
-abbrev pub decreases-loop-at : goal.decreases-loop-at
-decreases-loop-at l = 2 * (length l.s - l.at) + l.n
+abbrev pub decreases-loop-here : goal.decreases-loop-here
+decreases-loop-here l = 2 * (length l.s - l.here.from) + l.around.n

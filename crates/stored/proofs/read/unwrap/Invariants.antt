@@ -3,8 +3,8 @@ use Prim.Native.Nat.{◌-◌}
 use Rattle.stored.proofs.Opening as opening
 use Rattle.stored.proofs.read.unwrap.Given as goal
 
-abbrev pub invariant-loop-r : goal.invariant-loop-r
-invariant-loop-r l = opening.Opening l.depth l.s l.at l.end l.left
+abbrev pub invariant-loop-e : goal.invariant-loop-e
+invariant-loop-e l = opening.Opening l.depth l.s l.here
 
-abbrev pub decreases-loop-r : goal.decreases-loop-r
-decreases-loop-r l = l.end - l.at
+abbrev pub decreases-loop-e : goal.decreases-loop-e
+decreases-loop-e l = l.here.to - l.here.from

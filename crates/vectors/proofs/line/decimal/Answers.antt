@@ -1,16 +1,10 @@
--- `vectors::line::decimal` meets its contract. The loop's invariant: what is left makes the rest of the number.
-use Prim.Native.Nat.{◌-◌}
+-- `vectors::line::decimal`: a turn of the loop, and its end.
+use Rattle.std.proofs.Common.{◌∙◌, sym, arith}
 use Rattle.vectors.proofs.Reading.{decimal_turn, decimal_end}
-use borrow.Author.Rules.{rules}
-use mathlib.Core.Path.{refl, sym, ◌∙◌}
-use native.Mathlib.Omega.{arith}
 use Rattle.vectors.proofs.line.decimal.Goals as goal
 
-pub loop-i-init : goal.loop-i-init
-loop-i-init c = (search rules, refl)
-
-pub loop-i-preserved : goal.loop-i-preserved
-loop-i-preserved c = (search rules, decimal_turn c.args.s.now c.loop-i.n c.loop-i.i (omega arith) _ c.wide.ensures.0 ∙ c.loop-i.invariant.1)
+pub loop-c-preserved : goal.loop-c-preserved
+loop-c-preserved c = decimal_turn c.args.s.now c.loop-c.n c.loop-c.c-index c.loop-c-test.true _ c.from.ensures ∙ c.loop-c.invariant
 
 pub returns : goal.returns
-returns c = sym (decimal_end c.args.s.now c.loop-i.n c.loop-i.i (omega arith)) ∙ c.loop-i.invariant.1
+returns c = sym (decimal_end c.args.s.now c.loop-c.n c.loop-c.c-index (omega (arith, c.loop-c-test.false))) ∙ c.loop-c.invariant

@@ -1,11 +1,6 @@
--- `vectors::line::decode` meets its contract. The loop's invariant is `Decoding`.
-use Prim.Native.Nat.{◌-◌}
+-- `vectors::line::decode`: the bytes so far are decoded.
 use Rattle.vectors.proofs.Reading.{Decoding}
-use lib.ListN.{length}
 use Rattle.vectors.proofs.line.decode.Given as goal
 
-abbrev pub invariant-loop-n : goal.invariant-loop-n
-invariant-loop-n l = Decoding l.hex l.initial.out l.n l.out
-
-abbrev pub decreases-loop-n : goal.decreases-loop-n
-decreases-loop-n l = length l.out - l.n
+abbrev pub invariant-loop-i : goal.invariant-loop-i
+invariant-loop-i l = Decoding l.hex l.initial.out l.i l.out

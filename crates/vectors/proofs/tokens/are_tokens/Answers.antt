@@ -1,5 +1,4 @@
 -- `vectors::tokens::are_tokens` is safe and ends. The loop's invariant: what was passed lies within the text and the row.
-use Prim.Native.Nat.{◌-◌}
 use native.Mathlib.Omega.{arith}
 use Rattle.vectors.proofs.tokens.are_tokens.Goals as goal
 
