@@ -137,6 +137,7 @@ pub fn next_token(text: &[u8], analyzer: u8, at: usize, position: usize) -> Toke
     requires { position ≤ at }
     ensures { Next analyzer text.now at position result.start result.len result.position }
 {
+    // Stays: position is part of the answer, and from goes on by pieces.
     let mut from = at;
     let mut position = position;
     while let Some(t) = next_piece(text, analyzer, from) {

@@ -8,7 +8,7 @@ ghost use Rattle.analysis.specs.Words.{joins_by, Starts, Begins, Held};
 use classes::class_of;
 use names::{DIGIT_CLASS, LETTER_CLASS, MID_LETTERS_CLASS, MID_NUMBERS_CLASS, UNDERSCORE_CLASS};
 
-// Stays: a place in a text stands in three contracts here and there; a type of both would be made anew at each byte that a loop goes on by.
+// Stays: a place in a text stands in these contracts as a bound; a type of both would be made, with its proof, for at - 1, at and i in `is_within` alone.
 
 // The byte between two others joins them, by their classes.
 #[tactic(auto, using(std::proofs::lemmas::Bool::Decides::nat_tests), unfolding(crate::specs::Words::joins_by))]

@@ -12,7 +12,7 @@ use Rattle.rules.specs.Batch.{read_queries, answerable, leave_all, select_all_le
 use Rattle.std.specs.Prelude.{Result, Err}
 use Rattle.names.specs.Refusals.{numbered}
 use Rattle.names.specs.declared.refusal.Refusal.{Refusal as Code}
-use Rattle.selection.proofs.Selections.{numbered_coded}
+use Rattle.names.proofs.Refusals.{numbered_coded}
 use Rattle.batch.specs.Cut.{cut_as, queries_of, Cuts}
 use Rattle.batch.specs.All.{all_left, Few, Turned}
 

@@ -82,7 +82,7 @@ fn plan_query(
     requires { (fault ≡ checked (read_for_selection q.now)) × ((i : ℕ) → get_or masks.old i 0 < 2 ^ 63) }
     ensures { Planning q.now fault masks.old masks.new }
 {
-    // Stays: as the slots of `keep`.
+    // Stays: fixed memory and no heap; a mark is found by its hash, and no number says how many count.
     let mut wanted = [0u8; SLOTS];
     let said = say(q, fault, &mut wanted, row);
     push(masks, &wanted, said);

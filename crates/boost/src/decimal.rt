@@ -88,6 +88,7 @@ pub fn scaled_up(d: &Digits, x: u64) -> u32
 }
 
 // The pattern nearest to the digits' number over 10^x, the point counted.
+// Stays: no twin of `scaled_up`, which has two ends, a point that moves and a number that grows; here it only shrinks.
 pub fn scaled_down(d: &Digits, x: u64) -> u32
     ensures { Down (number d.now) x (length d.now.fraction.now) result }
 {

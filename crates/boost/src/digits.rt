@@ -89,7 +89,7 @@ pub fn number(d: &Digits, from: usize) -> Words
     requires { from ≤ 9 }
     ensures { NumberRow (number_of d.now.whole.now d.now.fraction.now) from result }
 {
-    // Stays: all words count, and those that are not used are 0; no heap holds a number of this size.
+    // Stays: fixed memory and no heap: all 18 words count, and those that are not used are 0.
     let mut row = [0u16; WORDS];
     fill(&mut row, from, d.whole);
     fill(&mut row, from, d.fraction);

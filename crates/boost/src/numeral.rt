@@ -44,7 +44,7 @@ fn after_sign(text: &[u8]) -> &[u8]
 }
 
 // An exponent's digits, which end the numeral.
-// Stays: `down` chooses between two values, not between steps, and so does `minus` in `signed`.
+// Stays: the definitions of these names take the Bool, here and in `signed`; a closure for the variant would say the same in more words.
 fn exponent(down: bool, s: &[u8]) -> Option<Scale>
     ensures { (d f : ℕ) → Scaled result d f (exponent down d f s.now) }
 {

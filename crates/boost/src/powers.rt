@@ -10,6 +10,7 @@ pub const FIVES_MOST: u32 = 20;
 pub const ALL_FIVES: u64 = 95367431640625;
 
 // 5^n.
+// Stays: each is one call of the library; one over the base would ask callers for base ^ n < 2 ^ 64 in place of a plain bound.
 pub fn five(n: u32) -> u64
     requires { n ≤ 20 }
     ensures { result ≡ 5 ^ n }

@@ -41,6 +41,7 @@ pub struct Lead {
 }
 
 // A clause that was read: the length of its query, 0 where it analyzes to nothing, and the number of the next token.
+// Stays: here and in `leaf` 0 is the length of no query, as `made_length` says; an Option would be turned into it in each sum.
 #[derive(Clone, Copy)]
 pub struct Clause {
     pub len: usize,

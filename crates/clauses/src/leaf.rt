@@ -82,6 +82,7 @@ fn term_len(text: &[u8], analyzer: u8, field: usize) -> usize
 }
 
 // One token makes a term, several a phrase; 0 where there is none.
+// Stays: like `term_len` in its steps alone: what one token and several come to is all that they hold, and both differ.
 fn phrase_len(text: &[u8], analyzer: u8, field: usize) -> usize
     requires { (field ≤ field_most) × (length text.now ≤ text_most) }
     ensures made { (f : List ℕ) → length f ≡ field → result ≡ made_length (phrase_of f (tokenize analyzer text.now)) }

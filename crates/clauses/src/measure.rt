@@ -66,7 +66,7 @@ fn with_boost(row: &Row, len: usize, i: usize) -> Result<Clause, Fault>
 }
 
 // The refusal of a tilde behind a term, or behind a quote.
-// Stays: `plain` chooses between two values, not between steps.
+// Stays: the definition of this name takes the Bool; a closure for the refusal would say the same in more words.
 fn leaf_fault(plain: bool) -> Refusal
     ensures { result ≡ coded_fault (leaf_fault plain) }
 {
@@ -161,6 +161,7 @@ pub fn measure_query(row: &Row, p: Scope, at: usize) -> Result<Counted, Fault>
         tag: NO_TAG,
         bytes: 0,
     };
+    // Stays: no index is counted: i goes on by what a clause took.
     while kinds::more_at(row, i) {
         let lead = kinds::lead_at(row, 0 < s.count, i);
         let clause = measure_clause(row, p, lead.next)?;

@@ -12,7 +12,7 @@ pub struct Row<'a> {
 
 // The field in force by number, how many brackets are open, the operator of the setup, the analyzer of the field.
 // The wide ones stand first: so it is three words on the stack, for each bracket.
-// Stays: operator and analyzer are the numbers that `gorbihesh_parse` is handed from C, and that the definitions of `rules` take.
+// Stays: `row::field_part`, which docs/ANSWERS.md names, and its definition `name_from` take the field as a number; operator and analyzer are the numbers that `gorbihesh_parse` is handed from C, and that the definitions of `rules` take.
 #[derive(Clone, Copy)]
 pub struct Scope {
     pub from: usize,

@@ -94,7 +94,7 @@ fn write_leaf(row: &Row, p: Scope, plain: bool, i: usize, out: &mut [u8], at: us
     put_boost(row, i + 1, out, at, start, end)
 }
 
-// Stays: `alone` is in the clauses of the public `write_query` (`QueryToWrite`), and what it leaves out is a front, not another step; likewise `kept` of a header.
+// Stays: `alone` is in the clauses of the public `write_query` (`QueryToWrite`), and what it leaves out is a front, not another step.
 
 // The front of a Boolean that fills the stretch; none where a query is its one clause.
 fn put_query_front(out: &mut [u8], alone: bool) -> usize
@@ -185,6 +185,7 @@ pub fn write_query(row: &Row, p: Scope, at: usize, alone: bool, out: &mut [u8])
     let mut w = put_query_front(out, alone);
     let mut last = 0;
     let mut i = at;
+    // Stays: no index is counted: i goes on by what a clause took.
     while kinds::more_at(row, i) {
         let lead = kinds::lead_at(row, BOOLEAN_FRONT < w, i);
         touch_last(out, BOOLEAN_FRONT < w, last, p.operator, lead.conjunction);

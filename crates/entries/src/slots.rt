@@ -109,6 +109,7 @@ pub fn note(rec: &[u8], from: usize, slots: &mut [u16])
 // ---- looking
 
 // Whether the slots say that no entry of the record has this field and this text.
+// Stays: docs/ANSWERS.md names both searches, which take any slice, and `Told` says nothing of an empty one: no slots.
 pub fn is_missing(f: &[u8], t: &[u8], rec: &[u8], from: usize, slots: &[u16]) -> bool
     requires { Told slots.now from rec.now }
     ensures { result ≡ true → has_term (each entry_of rec.now) f.now t.now ≡ false }

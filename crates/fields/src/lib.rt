@@ -1,6 +1,6 @@
 // The analyzer of a field: up to eight names, each with an analyzer of its own, and a default for all others.
 // The names are an array of byte arrays, with their lengths and analyzers beside it.
-// Stays: no array of entries, since the paper holds the names so, and `array_entries` says what they mean (docs/DECISIONS.md, "The entries of a setup").
+// Stays: docs/ANSWERS.md names `analyzer_of`, which may ask no more of its arrays, and `array_entries` says what they mean (docs/DECISIONS.md, "The entries of a setup").
 #![tactic(auto)]
 
 ghost use Rattle.std.specs.Prelude.{◌≡◌};

@@ -44,6 +44,7 @@ pub fn lex(text: &[u8], room: &mut [u8]) -> Result<usize, Fault>
     ensures answer { result ≡ answered_at length (lex text.now) }
     ensures row { Row (lex text.now) room.new }
 {
+    // Stays: n is the answer, and a token ends where it says.
     let mut i = 0;
     let mut n = 0;
     while let Some(spaces) = text[i..].iter().position(|c| !is_space(*c)) {

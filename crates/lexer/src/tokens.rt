@@ -49,6 +49,7 @@ fn sign_kind(c: u8) -> Option<u8>
 }
 
 // `&&` and `||`.
+// Stays: a byte, as of `sign_kind`.
 #[tactic(auto, unfolding(crate::specs::Tokens::double_kind))]
 fn double_kind(c: u8, d: u8) -> Option<u8>
     ensures { result ≡ double_kind c d }
@@ -82,6 +83,7 @@ fn is_wildcard(c: u8) -> bool
 }
 
 // The kind of a finished unescaped text.
+// Stays: a byte, as of `sign_kind`; every text has a kind, so there is no Option.
 fn word_kind(word: &[u8]) -> u8
     ensures { result ≡ word_kind word.now }
 {
@@ -103,6 +105,7 @@ fn kept_len(kind: u8, len: usize) -> usize
     if kind == TERM_KIND { len } else { 0 }
 }
 
+// Stays: `word` is one of three tests for a note, and chooses no step.
 // A term that is letters only is noted as a word, if it is no longer than a chunk.
 #[tactic(auto, unfolding(crate::specs::Tokens::note_of))]
 fn word_note(kind: u8, word: bool, len: usize) -> u8

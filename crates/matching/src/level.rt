@@ -19,6 +19,7 @@ pub struct Level {
 }
 
 // What a row holds where no Boolean is open.
+// Stays: fixed memory: a row is filled with it, and no level is read before it is laid.
 pub const NO_LEVEL: Level = Level {
     end: 0,
     asked: 0,
@@ -39,7 +40,7 @@ impl Level {
     }
 
     // After the clause at hand, whose query is true or not.
-    // Stays: `yes` is that answer; what follows from it depends on the kind of the clause first.
+    // Stays: the definition `answered` takes the Bool, and most of what follows depends on the kind first.
     pub(crate) fn answered(self, yes: bool) -> Level
         ensures { result ≡ answered self yes }
     {

@@ -10,6 +10,7 @@ ghost use Rattle.matching.specs.Order.{ordered};
 
 use names::{WIDE_INFINITY, WIDE_SIGN};
 
+// Stays: one over PartialOrd would want a law that joins its < with `ordered`, for a line.
 // Stays: `strict` and `float` are what a bound says of itself; a closure for the comparison would be made at each of the two calls by the same tests.
 fn whole_ordered(strict: bool, a: u64, b: u64) -> bool
     ensures { result ≡ ordered strict whole a b }

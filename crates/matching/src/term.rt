@@ -9,6 +9,7 @@ use super::record::Record;
 use entries::slots::{find_term, is_missing};
 use parts::part::{body, rest};
 
+// Stays: `term_true` and `term_missing` are one call each, of `find_term` and `is_missing`, whose answers mean different things.
 pub fn term_true(q: &[u8], r: &Record) -> bool
     requires { StoredAs term_tag q.now × Known r.now }
     ensures { Truth q.now (each entry_of r.now.entries.now) result }

@@ -58,6 +58,7 @@ fn worth(tag: u8) -> usize
 const MINIMUM_AT: usize = HEADER + HEADER;
 
 // The minimum of the Boolean at the front, and 0 where none is there.
+// Stays: `least_of` gives 0 where no Boolean stands, which the largest takes no notice of; an Option would be turned into it.
 fn least(t: &[u8]) -> usize
     requires { (1 ≤ length t.now) × (tag_of t.now ≡ boolean_tag → 8 ≤ length t.now) }
     ensures { (result ≡ least_of t.now) × (result < 65536) }

@@ -46,6 +46,7 @@ fn turn(g: usize) -> usize
 }
 
 // What the table has of a signature: 0, 1, or 2 where more than one clause has it.
+// Stays: two bits of a byte hold none, one or several, and the table has no room for more.
 fn cell(table: &[u8; TABLE], g: usize) -> u8
     requires { g < signatures }
     ensures { result ≡ cell_of table.now g }

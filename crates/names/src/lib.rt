@@ -1,5 +1,5 @@
 // The numbers of the rules, each once, under the name that `rules/specs/Numbers` and `rules/specs/Lexing` give it: limits, rooms,
-// operators, analyzers, tags, kinds of token, classes of bytes, patterns of floats, refusals; and how many bytes the stored form has for what it
+// operators, analyzers, tags, kinds of token, classes of bytes, patterns of floats; the module `refusal` has the refusals; and how many bytes the stored form has for what it
 // holds. Whoever uses one is proved against the definition of that name.
 #![tactic(auto)]
 
@@ -79,6 +79,8 @@ pub const BOOST_FRONT: usize = HEADER + BOOST_BYTES;
 pub const BOOLEAN_FRONT: usize = HEADER + HEADER + MINIMUM_BYTES;
 
 // ---- tags: queries
+
+// Stays: a tag and a kind are bytes of the stored form and of the row; an enum would be made of the byte at each look, and the definitions take numbers.
 
 pub const TERM_TAG: u8 = 0x01;
 
@@ -197,60 +199,4 @@ pub const EXPONENT_STEP: u32 = 0x80_0000;
 
 pub const WIDE_INFINITY: u64 = 0x7ff0_0000_0000_0000;
 
-pub const WIDE_NAN: u64 = 0x7ff8_0000_0000_0000;
-
 pub const WIDE_SIGN: u64 = 0x8000_0000_0000_0000;
-
-pub const WIDE_EXPONENT_STEP: u64 = 0x10_0000_0000_0000;
-
-// ---- refusals
-
-pub const LONG_TEXT: u8 = 1;
-
-pub const NOT_ASCII: u8 = 2;
-
-pub const BAD_SETUP: u8 = 3;
-
-pub const OPEN_QUOTE: u8 = 4;
-
-pub const NOTHING_ESCAPED: u8 = 5;
-
-pub const RANGE_BRACKET: u8 = 6;
-
-pub const WILDCARD: u8 = 7;
-
-pub const FUZZY_TERM: u8 = 8;
-
-pub const SLOPPY_PHRASE: u8 = 9;
-
-pub const UNEXPECTED_END: u8 = 10;
-
-pub const UNEXPECTED_TOKEN: u8 = 11;
-
-pub const OPEN_BRACKET: u8 = 12;
-
-pub const BAD_NUMERAL: u8 = 13;
-
-pub const NO_NUMERAL: u8 = 14;
-
-pub const LONG_FIELD: u8 = 15;
-
-pub const MANY_BRACKETS: u8 = 16;
-
-pub const LONG_NUMERAL: u8 = 17;
-
-pub const LONG_ANSWER: u8 = 18;
-
-pub const LONG_QUERY: u8 = 19;
-
-pub const MALFORMED_QUERY: u8 = 20;
-
-pub const DEEP_QUERY: u8 = 21;
-
-pub const LONG_LIST: u8 = 22;
-
-pub const MALFORMED_LIST: u8 = 23;
-
-pub const MANY_QUERIES: u8 = 24;
-
-pub const SHORT_ROOM: u8 = 32;

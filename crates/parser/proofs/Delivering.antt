@@ -37,38 +37,7 @@ use Rattle.counted.specs.declared.Counted.{Counted}
 use Rattle.counted.proofs.Deciding.{made_some}
 use Rattle.row.proofs.Rows.{length_tokens, token_none}
 use Rattle.clauses.proofs.Rows.{place_most_lem}
-
--- ---- the numbers of refusals
-
-numbered_fault : (f : rules.Fault) → numbered (coded_fault f) ≡ fault_number f
-numbered_fault rules.open_quote = refl
-numbered_fault rules.nothing_escaped = refl
-numbered_fault rules.range_bracket = refl
-numbered_fault rules.wildcard = refl
-numbered_fault rules.fuzzy_term = refl
-numbered_fault rules.sloppy_phrase = refl
-numbered_fault rules.unexpected_end = refl
-numbered_fault rules.unexpected_token = refl
-numbered_fault rules.open_bracket = refl
-numbered_fault rules.bad_numeral = refl
-numbered_fault rules.no_numeral = refl
-numbered_fault rules.long_field = refl
-numbered_fault rules.many_brackets = refl
-numbered_fault rules.long_numeral = refl
-
-pub numbered_code : (x : Refusal) → numbered (coded x) ≡ number x
-numbered_code rules.long_text = refl
-numbered_code rules.not_ascii = refl
-numbered_code rules.bad_setup = refl
-numbered_code rules.long_answer = refl
-numbered_code rules.long_query = refl
-numbered_code rules.malformed_query = refl
-numbered_code rules.deep_query = refl
-numbered_code rules.long_list = refl
-numbered_code rules.malformed_list = refl
-numbered_code rules.many_queries = refl
-numbered_code rules.short_room = refl
-numbered_code (faulty f p) = numbered_fault f
+use Rattle.names.proofs.Refusals.{numbered_coded}
 
 -- ---- the whole answer
 
@@ -82,7 +51,7 @@ reply_fit (got q) n = by (leb (length (encode q)) n)
 
 left_is : (X : Read Query) (out room out' room' : List ℕ) (p : Result ℕ Met) → Delivers X out p out' → room' ≡ replicate (length room) 0
     → left_of p out' room' ≡ leave_at (and_then (on_read stored_reply X) (fitting (length out))) out room
-left_is X out room out' room' (Err e) (x, d, w, o, b) z = rw (reply_fit X (length out), d, w, numbered_code x, o, z)
+left_is X out room out' room' (Err e) (x, d, w, o, b) z = rw (reply_fit X (length out), d, w, numbered_coded x, o, z)
 left_is X out room out' room' (Ok n) (q, d, m, o, b) z = rw (reply_fit X (length out), d, o, z, m)
 
 answer_is : (X : Read Query) (out out' : List ℕ) (p : Result ℕ Met) → Delivers X out p out' → p ≡ told (and_then (on_read stored_reply X) (fitting (length out)))

@@ -22,6 +22,7 @@ use row::{kind_at, place_at};
 use stretches::{clear, is_text};
 
 // What is refused at no place of the text: values of `Fault`, no numbers.
+// Stays: C has place 0 there (include/gorbihesh.h), and the clause of `parse` says so.
 const BAD_SETUP: Fault = Fault {
     refusal: Refusal::BadSetup,
     place: 0,

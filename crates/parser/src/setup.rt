@@ -36,7 +36,8 @@ pub fn is_plain(operator: u8, analyzer: u8, field: &[u8]) -> bool
     operator <= AND_OPERATOR && is_analyzer(analyzer) && is_field(field)
 }
 
-// Lays a name in a row; false where a byte of it is not ASCII. One loop for both: a call to copy four bytes takes longer.
+// Lays a name in a row; false where a byte of it is not ASCII.
+// Stays: one loop for both, since a call to copy four bytes takes longer.
 fn put_row(row: &mut [u8; FIELD_MOST], s: &[u8]) -> bool
     requires { (length row.old ≡ 32) × (length s.now ≤ 32) }
     ensures { RowPut s.now result row.new }
@@ -60,6 +61,7 @@ pub fn read_entries(
     requires { (length names.old ≡ 8) × (length lengths.old ≡ 8) × (length analyzers.old ≡ 8) × ((k : ℕ) → k < 8 → length (get_or names.old k []) ≡ 32) }
     ensures { Entered fields.now names.new lengths.new analyzers.new result }
 {
+    // Stays: an entry ends where its length says, and what breaks a rule ends the reading; count is the answer too.
     let mut rest = fields;
     let mut count: usize = 0;
     while let [analyzer, len, tail @ ..] = rest {

@@ -13,6 +13,7 @@ ghost use Rattle.probe.specs.Packed.{packed};
 const UPPER: u64 = 0x1_0000_0000;
 
 // A refusal's number in the upper 32 bits, or the float's bits in the lower.
+// Stays: the C interface has the refusal and the bits in one number.
 #[unsafe(no_mangle)]
 pub extern "C" fn probe_numeral(text: &[u8]) -> u64
     ensures { result ≡ packed (answer_of (numeral_bits text.now)) }

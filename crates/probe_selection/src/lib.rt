@@ -11,6 +11,7 @@ use selection::select::{select, select_bytes};
 const UPPER: u64 = 0x1_0000_0000;
 
 // The refusal's number in the upper half, and the count in the lower.
+// Stays: the C interface has the refusal and the count in one number.
 #[unsafe(no_mangle)]
 pub extern "C" fn probe_select_bytes(
     query: &[u8],

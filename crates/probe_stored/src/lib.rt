@@ -42,6 +42,7 @@ pub extern "C" fn probe_list(l: &[u8]) -> u8
 }
 
 // 0 where selection does not read a query.
+// Stays: the C interface has a number, and `weight_read` and `largest_read` give 0.
 #[unsafe(no_mangle)]
 pub extern "C" fn probe_weight(s: &[u8]) -> usize
     ensures { result ≡ weight_read (read_for_selection s.now) }

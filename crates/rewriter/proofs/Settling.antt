@@ -35,6 +35,7 @@ use Rattle.places.proofs.Standing.{within_length, stands_put}
 use Rattle.merging.proofs.Forms.{is_same_lem}
 use Rattle.round.proofs.Finishing.{moved}
 use Rattle.round.proofs.Nested.{once_bulk}
+use Rattle.names.proofs.Refusals.{numbered_coded}
 
 -- ---- counted rounds
 
@@ -186,36 +187,6 @@ module _ {strict : Bool} {at : ℕ} {room₀ room : List ℕ} {t count left : �
             }
 
 -- ---- the call
-
-numbered_fault : (f : Fault) → numbered (coded_fault f) ≡ fault_number f
-numbered_fault open_quote = refl
-numbered_fault nothing_escaped = refl
-numbered_fault range_bracket = refl
-numbered_fault wildcard = refl
-numbered_fault fuzzy_term = refl
-numbered_fault sloppy_phrase = refl
-numbered_fault unexpected_end = refl
-numbered_fault unexpected_token = refl
-numbered_fault open_bracket = refl
-numbered_fault bad_numeral = refl
-numbered_fault no_numeral = refl
-numbered_fault long_field = refl
-numbered_fault many_brackets = refl
-numbered_fault long_numeral = refl
-
-pub numbered_coded : (r : Refusal) → numbered (coded r) ≡ number r
-numbered_coded long_text = refl
-numbered_coded not_ascii = refl
-numbered_coded bad_setup = refl
-numbered_coded (faulty f p) = numbered_fault f
-numbered_coded long_answer = refl
-numbered_coded long_query = refl
-numbered_coded malformed_query = refl
-numbered_coded deep_query = refl
-numbered_coded long_list = refl
-numbered_coded malformed_list = refl
-numbered_coded many_queries = refl
-numbered_coded short_room = refl
 
 is_read : {A : Type 0} (o : Read A) → Ok tt ≡ checked o → (a : A) × (o ≡ got a)
 is_read (got a) e = (a, refl)

@@ -32,7 +32,7 @@ use Rattle.names.specs.Refusals.{coded}
 use Rattle.names.specs.declared.refusal.Refusal.{Refusal as code}
 use Rattle.names.specs.declared.refusal.Refusal.TheVariants.{ShortRoom}
 use Rattle.selection.specs.Select.{within, answer_of, rows_after, Selects}
-use Rattle.selection.proofs.Selections.{numbered_coded}
+use Rattle.names.proofs.Refusals.{numbered_coded}
 use Rattle.selection.proofs.Exactness.{Exactly, selected_exactly}
 use Rattle.rewritten_selection.specs.Choice.{held_room, Chosen, chosen_by, fitting, chosen, Left, left, leave, met, choice_left, refusal_of, count_of as counted_of, rounds_of, left_of, told, Chooses, DemandedOf, Demanded}
 use Rattle.rewritten_selection.specs.declared.Choice.{Choice}

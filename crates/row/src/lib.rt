@@ -21,6 +21,7 @@ pub const ABOVE_SIZE: usize = 8;
 pub const SIZE_BYTE: usize = 256;
 
 // The notes that are no analyzer: none, and that of a term of letters only.
+// Stays: a note is three bits of the row's byte, and `note_at`, which docs/ANSWERS.md names, gives them as they stand.
 pub const NO_NOTE: u8 = 0;
 
 pub const WORD_NOTE: u8 = 6;

@@ -9,7 +9,7 @@ use lib.ListN.{length, get_or, take, drop, set, replicate, length-append, length
 use lib.Seq.{take_at, drop_at, drop-drop, set_split}
 use lib.Dec.{leb}
 use borrow.Author.Tests.{le-leb, leb-true}
-use Rattle.rules.specs.Numbers.{record_tag, list_most, selection_bytes, selection_depth, Fault, open_quote, nothing_escaped, range_bracket, wildcard, fuzzy_term, sloppy_phrase, unexpected_end, unexpected_token, open_bracket, bad_numeral, no_numeral, long_field, many_brackets, long_numeral, fault_number, Refusal, long_text, not_ascii, bad_setup, faulty, long_answer, long_query, malformed_query, deep_query, long_list, malformed_list, many_queries, short_room, Read, got, refused, number, on_read, and_then}
+use Rattle.rules.specs.Numbers.{record_tag, list_most, selection_bytes, selection_depth, Refusal, long_answer, Read, got, refused, number, on_read, and_then}
 use Rattle.rules.specs.Bytes.{Bytes, big, body_of, rest_of, whole_of, is_part, every, each, some}
 use Rattle.rules.specs.Query.{Query}
 use Rattle.rules.specs.Reading.{number_of, read_for_selection}
@@ -28,7 +28,7 @@ use Rattle.numbers.specs.Laid.{laid, Put}
 use Rattle.std.specs.Int.{from_bool as bool_byte}
 use Rattle.std.specs.Prelude.{Result, Ok, Err, Option, Some, None}
 use Rattle.selection.specs.declared.ask.Plan.{Plan}
-use Rattle.names.specs.Refusals.{numbered, coded as code_of, coded_fault, checked}
+use Rattle.names.specs.Refusals.{numbered, coded as code_of, checked}
 use Rattle.names.specs.declared.refusal.Refusal.{Refusal as Code}
 use Rattle.names.specs.declared.refusal.Refusal.TheVariants as code
 use Rattle.selection.specs.declared.ask.Question.{Question}
@@ -39,6 +39,7 @@ use Rattle.wanted.specs.Marks.{is_marked, Marks}
 use Rattle.wanted.proofs.Occurring.{unwanted_empty}
 use Rattle.matching.specs.Truth.{Truth, StoredFor}
 use Rattle.selection.specs.Select.{listed, within, coded, rows_of, answer_of, rows_after, Selects, SelectsBytes}
+use Rattle.names.proofs.Refusals.{numbered_coded}
 
 -- ---- what was checked
 
@@ -61,37 +62,6 @@ module _ {s l : List ℕ} (R : Ready s l) where
 
   pub numbers : listed (selected s l) ≡ chosen R.query.query (each record_of l)
   numbers = ap listed R.picks
-
--- a refusal has the number that the rules give it
-numbered_fault : (f : Fault) → numbered (coded_fault f) ≡ fault_number f
-numbered_fault open_quote = refl
-numbered_fault nothing_escaped = refl
-numbered_fault range_bracket = refl
-numbered_fault wildcard = refl
-numbered_fault fuzzy_term = refl
-numbered_fault sloppy_phrase = refl
-numbered_fault unexpected_end = refl
-numbered_fault unexpected_token = refl
-numbered_fault open_bracket = refl
-numbered_fault bad_numeral = refl
-numbered_fault no_numeral = refl
-numbered_fault long_field = refl
-numbered_fault many_brackets = refl
-numbered_fault long_numeral = refl
-
-pub numbered_coded : (r : Refusal) → numbered (code_of r) ≡ number r
-numbered_coded long_text = refl
-numbered_coded not_ascii = refl
-numbered_coded bad_setup = refl
-numbered_coded (faulty f p) = numbered_fault f
-numbered_coded long_answer = refl
-numbered_coded long_query = refl
-numbered_coded malformed_query = refl
-numbered_coded deep_query = refl
-numbered_coded long_list = refl
-numbered_coded malformed_list = refl
-numbered_coded many_queries = refl
-numbered_coded short_room = refl
 
 ok_same : {m n : ℕ} → m ≡ n → ◌≡◌ {A = Result ℕ Code} (Ok m) (Ok n)
 ok_same e = cc

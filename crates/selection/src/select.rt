@@ -43,7 +43,7 @@ pub fn records(list: &[u8]) -> usize
 // The number of a list's first record.
 const FIRST: u32 = 0;
 
-// Stays: a function over the kind of row wants bytes laid in rows of any type, and `numbers::specs::Laid`, which the theorems name, speaks of numbers alone.
+// Stays: the flag chooses between two rows, of which one is empty; `Put`, which the theorems name, lays numbers, and a row of bytes takes four for one.
 // The number i goes to w, in rows of either kind; the answer is where the next one goes.
 fn put(rows: &mut [u32], bytes: &mut [u8], in_bytes: bool, w: usize, i: u32) -> usize
     requires { w + length (coded in_bytes i) ≤ length (filled in_bytes rows.old bytes.old) }
@@ -118,6 +118,8 @@ impl Checked<'_> {
 }
 
 // ---- rows of 32-bit numbers
+
+// Stays: `select` and `select_bytes` are two public calls that docs/ANSWERS.md names, each a few lines over `Checked`.
 
 pub fn select(query: &[u8], list: &[u8], rows: &mut [u32]) -> Result<usize, Refusal>
     ensures { Selects query.now list.now rows.old rows.new result }

@@ -20,7 +20,7 @@ use Rattle.show.specs.Answer.{text_reply, show_left, answer_of, left_of}
 use Rattle.std.specs.Prelude.{Result, Ok, Err}
 use Rattle.names.specs.Refusals.{numbered}
 use Rattle.names.specs.declared.refusal.Refusal.{Refusal}
-use Rattle.show.proofs.Refusals.{with_number, back}
+use Rattle.names.proofs.Refusals.{with_number, back}
 
 rewritten_some : (q : Query) (r : Rewritten) → 0 < length (show_rewritten q r)
 unfolding show_rewritten ascii

@@ -14,7 +14,7 @@ use names::refusal::{Fault, Refusal};
 use rewriter::rounds::{ORIGINAL, rewrite};
 
 // The bytes of the query as written, and as rewritten; the rounds.
-// Stays: lengths and no slices, since the clause `makes` says what both stretches hold after the call.
+// Stays: lengths and no slices: a slice would keep both stretches lent, and the caller reads them both behind the call, as the clause `makes` says.
 #[derive(Drop)]
 pub struct Made {
     pub written: usize,

@@ -40,6 +40,7 @@ pub fn is_field(s: &[u8]) -> bool
 // So the ends are compared as words that may overlap, one width for 4 to 7 bytes and one for 8 to 16.
 
 // What the first eight bytes of two stretches differ by, and the first four.
+// Stays: as `big8` and `big4` of the crate `numbers`, of which each is one line.
 fn differ8(a: &[u8], b: &[u8]) -> u64
     requires { (8 ≤ length a.now) × (8 ≤ length b.now) }
     ensures { eqb result 0 ≡ same (take 8 a.now) (take 8 b.now) }

@@ -5,7 +5,7 @@ use boost::numeral;
 fn answers(text: &[u8], refusal: usize, bits: &[u8]) -> bool {
     match numeral::numeral(text) {
         Err(e) => {
-            if numbers::wide(e as u8) != refusal {
+            if numbers::wide(u8::from(e)) != refusal {
                 return false;
             }
             check::same(bits, b"-")

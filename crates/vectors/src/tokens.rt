@@ -54,6 +54,7 @@ fn token_columns(row: &[u8], at: usize) -> Columns
 
 // The tokens are those of the row, and none is left behind them.
 fn are_tokens(text: &[u8], analyzer: u8, row: &[u8]) -> bool {
+    // Stays: each place goes on by what was read.
     let mut from: usize = 0;
     let mut position: usize = 0;
     let mut at: usize = 0;

@@ -5,7 +5,7 @@ use Rattle.rules.proofs.Stored.Parts as parts
 use Rattle.rules.specs.Answers.{zeros}
 use Rattle.show.proofs.Answering as answering
 use Rattle.show.proofs.Mapped as mapped
-use Rattle.show.proofs.Refusals as refusals
+use Rattle.names.proofs.Refusals as refusals
 use Rattle.show.specs.Answer.{shown_refusal}
 use Rattle.show.specs.Lines.{written_in}
 use Rattle.std.proofs.lemmas.Result.{err_from_is_err_and}

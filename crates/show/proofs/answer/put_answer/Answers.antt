@@ -3,7 +3,7 @@ use Rattle.names.specs.Refusals.{numbered}
 use Rattle.rules.specs.Bytes.{ascii}
 use Rattle.rules.specs.Show.{show_rewritten}
 use Rattle.show.proofs.Laying as laying
-use Rattle.show.proofs.Refusals as refusals
+use Rattle.names.proofs.Refusals as refusals
 use Rattle.show.specs.Answer.{answer_text}
 use Rattle.show.specs.Node.{kind_text}
 use borrow.Author.Tests.{ne_eqb}
