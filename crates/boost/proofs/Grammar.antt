@@ -108,6 +108,7 @@ fraction_point (c ∷ t) start v digits rest h e g = let k : Reading t start dig
   is = k.is;
   all_digits = All-same (λ x. is_digit x ≡ true) digits (front is_digit t) k.digits_are (front_digits t);
   few = omega (arith, ap length k.digits_are, front_length t);
+  small = k.small;
   means = λ some d.
       ap (λ (b : Bool). cond b (cond (some || not (is_empty (front is_digit t))) (after_digits (digits_on d (front is_digit t)) (length (front is_digit t)) (after is_digit t)) bad) (cond some (after_digits d 0 (c ∷ t)) bad)) (eq_yes c 46 e)
       ∙ ap (λ (l : List ℕ). cond (some || not (is_empty l)) (after_digits (digits_on d l) (length l) (after is_digit t)) bad) (sym k.digits_are)
@@ -124,6 +125,7 @@ fraction_none s start v n e = record {
   is = λ w f. e ∙ cut start w f ∙ ap (λ (x : ℕ). min x short_most) (sym (digits_none w));
   all_digits = All-nil (λ x. is_digit x ≡ true);
   few = omega arith;
+  small = omega (arith, e);
   means = λ some d. whole_plain s some d n ∙ ap (λ (b : Bool). cond b (after_digits d 0 s) bad) (sym (or_false some)) ∙ ap (λ (x : ℕ). cond (some || false) (after_digits x 0 s) bad) (sym (digits_none d));
 }
   where

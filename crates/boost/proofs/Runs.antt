@@ -191,6 +191,7 @@ module _ (s rest : List ℕ) (start v : ℕ) (g : Counting s start v rest) (z : 
     is = λ w e. f ∙ (g.is w e).2 ∙ ap (λ (x : ℕ). min x short_most) (sym ((g.is w e).1 ∙ ap (digits_on (g.is w e).0) z.none ∙ digits_none (g.is w e).0) ∙ ap (digits_on w) (sym digits_are));
     digits_are = digits_are;
     rest_is = sym (g.after_is ∙ z.all);
+    small = omega (arith, f);
   }
     where
       digits_are : take (length s - length rest) s ≡ front is_digit s

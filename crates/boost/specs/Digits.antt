@@ -22,6 +22,7 @@ pub record Reading (s : List ℕ) (start : ℕ) (digits : List ℕ) (v : ℕ) (r
   pub is : Counted digits start v
   pub digits_are : digits ≡ front is_digit s
   pub rest_is : rest ≡ after is_digit s
+  pub small : v ≤ short_most
 
 -- the number of a numeral's digits: those before its point, and those behind it
 abbrev pub number_of : List ℕ → List ℕ → ℕ

@@ -27,6 +27,7 @@ pub record Fraction (s : List ℕ) (start : ℕ) (digits : List ℕ) (v : ℕ) (
   pub is : Counted digits start v
   pub all_digits : AllPass is_digit digits
   pub few : length digits ≤ length s
+  pub small : v ≤ short_most
   pub means : (some : Bool) (d : ℕ) → after_whole some d s ≡ cond (some || not (is_empty digits)) (after_digits (digits_on d digits) (length digits) rest) bad
 
 -- the digits d, of which f stand behind the point, times the power of ten are the numeral o; an exponent is cut off

@@ -9,12 +9,20 @@ pub mod table;
 
 use crate::table::CLASSES;
 
-// The classes of an ASCII byte.
-pub fn class_at(c: u8) -> u8
+// The classes of an ASCII byte, by whatever table is lent.
+pub fn class_at(table: &[u8; 128], c: u8) -> u8
+    requires { c < 128 }
+    ensures { result ≡ get_or table.now c 0 }
+{
+    table[usize::from(c)]
+}
+
+// The classes of an ASCII byte by the table of the rules.
+pub fn ascii_class(c: u8) -> u8
     requires { c < 128 }
     ensures { result ≡ get_or classes c 0 }
 {
-    CLASSES[usize::from(c)]
+    class_at(&CLASSES, c)
 }
 
 // The classes of any byte: those from 128 on have none.

@@ -1,2 +1,5 @@
 pub mod Model
-pub mod Rounding
+pub mod Widen
+pub mod Shift
+pub mod Narrow
+pub mod Nans

@@ -1,24 +1,36 @@
 // A nested boost is one 32-bit product. A sum of boosts runs in 64 bits, in clause order, and is rounded once to 32.
-// A boost comes as its pattern, and every NaN leaves as the one NaN's.
-#![tactic(auto, using(crate::proofs::Rounding::rounded_is), unfolding(rules::specs::Floats::widened, rules::specs::Floats::narrowed, rules::specs::Floats::plus, rules::specs::Floats::times, rules::specs::Floats::is_one, rules::specs::Floats::one))]
-
-ghost use Rattle.std.specs.Prelude.{◌≡◌};
+// A boost comes as its pattern, and each function tests for a NaN before it makes a float of it or a pattern of a float, where a NaN has no one value.
+ghost use Rattle.std.specs.Prelude.{◌≡◌, ◌<◌};
 ghost use Rattle.rules.specs.Floats.{widened, narrowed, plus, times, is_one};
 
-use std::num::{f32_from_bits_with_nan, f32_to_bits_with_nan, nearest_f64_to_f32_with_nan};
+use names::{INFINITY, SIGN, THE_NAN, WIDE_INFINITY, WIDE_SIGN};
 
-// One 32-bit product, by the patterns.
+// One 32-bit product, by the patterns. A NaN gives the one NaN.
 pub fn product(a: u32, b: u32) -> u32
     ensures { result ≡ times a b }
 {
-    f32_to_bits_with_nan(f32_from_bits_with_nan(a) * f32_from_bits_with_nan(b))
+    if INFINITY < a % SIGN {
+        return THE_NAN;
+    }
+    if INFINITY < b % SIGN {
+        return THE_NAN;
+    }
+    let p = f32::from_bits(a) * f32::from_bits(b);
+    if p != p {
+        return THE_NAN;
+    }
+    f32::to_bits(p)
 }
 
 // The boost b as the first of a sum.
 pub fn as_sum(b: u32) -> f64
     ensures { result ≡ widened b }
 {
-    f64::from(f32_from_bits_with_nan(b))
+    let w = crate::bits::widen(b);
+    if WIDE_INFINITY < w % WIDE_SIGN {
+        return 0.0 / 0.0;
+    }
+    f64::from_bits(w)
 }
 
 // The boost b is added to a sum.
@@ -32,7 +44,10 @@ pub fn add(sum: f64, b: u32) -> f64
 pub fn rounded_bits(sum: f64) -> u32
     ensures { result ≡ narrowed sum }
 {
-    f32_to_bits_with_nan(nearest_f64_to_f32_with_nan(sum))
+    if sum != sum {
+        return THE_NAN;
+    }
+    crate::bits::narrow(f64::to_bits(sum))
 }
 
 // Is the sum 1?
@@ -46,5 +61,8 @@ pub fn is_one(sum: f64) -> bool
 pub fn is_one_bits(b: u32) -> bool
     ensures { result ≡ is_one (widened b) }
 {
-    f32_from_bits_with_nan(b) == 1.0
+    if INFINITY < b % SIGN {
+        return false;
+    }
+    f32::from_bits(b) == 1.0
 }

@@ -39,15 +39,23 @@ module _ {o a : ℕ} {f es text out room out' room' : List ℕ} {p : Result ℕ 
 
 -- ---- rewriting
 
+-- of all numbers that the definition leaves, a refusal's too
+module _ (strict : Bool) (s out room : List ℕ) (B : Bytes s) {out' room' : List ℕ} {a b c : ℕ} (e : left a b 0 c 0 out' room' ≡ rewrite_left strict s out room) where
+  pub rewrite_short : b ≤ selection_bytes
+  rewrite_short = rw (ap (λ (x : Left). x.answer.written) e) (rewrite_small strict s B out room).0
+
+  pub rewrite_few : c ≤ rewriter_bytes
+  rewrite_few = rw (ap (λ (x : Left). x.answer.rounds) e) (rewrite_small strict s B out room).1
+
 module _ {strict : Bool} {s out room out' room' : List ℕ} {r : Result Rounds Refusal} (R : Rewrites strict s out room r out' room') where
   rewritten_is : {x : Result Rounds Refusal} → r ≡ x → rewritten_left x out' room' ≡ rewrite_left strict s out room
   rewritten_is e = ap (λ (x : Result Rounds Refusal). rewritten_left x out' room') (sym e) ∙ R.is
 
-  pub rewrite_short : Bytes s → {a : Rounds} → r ≡ Ok a → a.len ≤ selection_bytes
-  rewrite_short B e = rw (ap (λ (x : Left). x.answer.written) (rewritten_is e)) (rewrite_small strict s B out room).0
+  pub rewritten_short : Bytes s → {a : Rounds} → r ≡ Ok a → a.len ≤ selection_bytes
+  rewritten_short B e = rewrite_short strict s out room B (rewritten_is e)
 
-  pub rewrite_few : Bytes s → {a : Rounds} → r ≡ Ok a → a.rounds ≤ rewriter_bytes
-  rewrite_few B e = rw (ap (λ (x : Left). x.answer.rounds) (rewritten_is e)) (rewrite_small strict s B out room).1
+  pub rewritten_few : Bytes s → {a : Rounds} → r ≡ Ok a → a.rounds ≤ rewriter_bytes
+  rewritten_few B e = rewrite_few strict s out room B (rewritten_is e)
 
   pub rewrite_left_lem : {a : Rounds} {refusal len count rounds place : ℕ} → r ≡ Ok a → Told 0 a.len 0 a.rounds 0 refusal len count rounds place
       → left refusal len count rounds place out' room' ≡ rewrite_left strict s out room

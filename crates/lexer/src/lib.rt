@@ -10,8 +10,8 @@ ghost use Rattle.row.specs.Row.{room_least, entry_at, entry};
 ghost use Rattle.names.specs.Refusals.{answered_at};
 ghost use Rattle.lexer.specs.Lexing.{Row};
 
-use names::TEXT_MOST;
 use names::refusal::Fault;
+use names::{END_CLASS, SPACE_CLASS, TEXT_MOST};
 use row::{ABOVE_PLACE, ABOVE_SIZE, ENTRY, PLACE_HALF, SIZE_BYTE};
 use tokens::Step;
 
@@ -31,11 +31,12 @@ fn put_token(room: &mut [u8], n: usize, place: usize, token: Step)
     ]);
 }
 
-// Tested by comparison: few bytes are asked, and none twice.
+// The table's flag of whitespace.
+#[tactic(auto, using(rules::proofs::Text::Classes::space_flag))]
 fn is_space(c: u8) -> bool
     ensures { result ≡ is_space c }
 {
-    matches!(c, b'\t'..=b'\r' | b' ')
+    classes::class_of(c) % END_CLASS == SPACE_CLASS
 }
 
 // Lexes a text of at most 1,024 ASCII bytes into a room of at least 5,120. Gives the number of its tokens.

@@ -147,7 +147,7 @@ pub fn token_at(text: &[u8], at: usize, room: &mut [u8]) -> Result<Step, Fault>
     ensures makes { Makes result (token_at (length text.now) (get_or text.now at 0) (drop (at + 1) text.now)) text.now at room.new }
 {
     let c = text[at];
-    if LETTER_CLASS <= classes::class_at(c) {
+    if LETTER_CLASS <= classes::ascii_class(c) {
         return term_at(text, at, room);
     }
     if let Some(kind) = sign_kind(c) {

@@ -1,4 +1,4 @@
--- The two orders of ranges: the signed one, which is the unsigned one with the top bit turned, and the IEEE one, in which a NaN is below and above nothing.
+-- The two orders of ranges: the signed one by turning the top bit, and the IEEE one, in which a NaN is below and above nothing.
 use mathlib.Core.Path.{◌≡◌, refl, sym, ap, ◌∙◌, subst}
 use Prim.Native.Nat.{ℕ, suc, ◌-◌, ◌≤◌, ◌<◌, ◌%◌}
 use mathlib.Core.Bool.{Bool, true, false, not}

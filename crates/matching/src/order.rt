@@ -6,17 +6,28 @@ ghost use Rattle.std.specs.Float.Ieee.{of_bits, is_nan};
 ghost use Rattle.rules.specs.Query.{whole, float};
 ghost use Rattle.rules.specs.Matching.{is_number};
 ghost use Rattle.entries.specs.Entry.{numbers};
-ghost use Rattle.matching.specs.Order.{ordered};
+ghost use Rattle.matching.specs.Order.{Turned, ordered};
 
 use names::{WIDE_INFINITY, WIDE_SIGN};
+
+// With its top bit turned: the signed order of x is the unsigned order of the answer.
+fn turned(x: u64) -> u64
+    ensures { Turned x result }
+{
+    if x < WIDE_SIGN {
+        x + WIDE_SIGN
+    } else {
+        x - WIDE_SIGN
+    }
+}
 
 // Stays: one over PartialOrd would want a law that joins its < with `ordered`, for a line.
 // Stays: `strict` and `float` are what a bound says of itself; a closure for the comparison would be made at each of the two calls by the same tests.
 fn whole_ordered(strict: bool, a: u64, b: u64) -> bool
     ensures { result ≡ ordered strict whole a b }
 {
-    let x = a.cast_signed();
-    let y = b.cast_signed();
+    let x = turned(a);
+    let y = turned(b);
     if strict { x < y } else { x <= y }
 }
 

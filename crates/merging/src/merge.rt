@@ -62,11 +62,11 @@ fn boost_of(q: &[u8]) -> u32
 
 // A merged clause: where its base stands, its kind, its running sum.
 #[derive(Clone, Copy)]
-struct Merged {
-    base: usize,
+pub struct Merged {
+    pub base: usize,
     // Stays: a kind is the tag that is read and laid again; an enum would be made of that byte and turned into it within one turn of the loop.
-    kind: u8,
-    sum: f64,
+    pub kind: u8,
+    pub sum: f64,
 }
 
 // Where the clauses that were left begin, and the sum with those that were taken up.

@@ -199,4 +199,8 @@ pub const EXPONENT_STEP: u32 = 0x80_0000;
 
 pub const WIDE_INFINITY: u64 = 0x7ff0_0000_0000_0000;
 
+pub const WIDE_NAN: u64 = 0x7ff8_0000_0000_0000;
+
 pub const WIDE_SIGN: u64 = 0x8000_0000_0000_0000;
+
+pub const WIDE_EXPONENT_STEP: u64 = 0x10_0000_0000_0000;

@@ -64,7 +64,7 @@ pub laid_sets : (s out : List ℕ) (at : ℕ) → at + length s ≤ length out �
 unfolding laid
 laid_sets s out at h = sets-eq s out at h
 
--- a number in two bytes and in four, stored byte by byte
+-- a number in two bytes and in four, as code stores them
 pub two_laid : (out : List ℕ) (at v : ℕ) → at + 2 ≤ length out → v < 65536 → set (set out at (v / 256)) (at + 1) (v % 256) ≡ laid out at (big 2 v)
 two_laid out at v h l =
     rw (big_two v l) (ap (λ (i : ℕ). set (set out at (v / 256)) i (v % 256)) (add-one at) ∙ laid_sets (v / 256 ∷ v % 256 ∷ []) out at h)

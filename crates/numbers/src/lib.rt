@@ -40,14 +40,20 @@ pub fn put_big2(out: &mut [u8], at: usize, v: usize) -> usize
     requires { (at + 2 ≤ length out.old) × (v < 65536) }
     ensures { Put out.old at (big 2 v) result out.new }
 {
-    copy(out, at, &u16::to_be_bytes(v as u16))
+    out[at] = (v / 256) as u8;
+    out[at + 1] = (v % 256) as u8;
+    at + 2
 }
 
 pub fn put_big4(out: &mut [u8], at: usize, v: u32) -> usize
     requires { at + 4 ≤ length out.old }
     ensures { Put out.old at (big 4 v) result out.new }
 {
-    copy(out, at, &u32::to_be_bytes(v))
+    out[at] = (v / 16777216) as u8;
+    out[at + 1] = (v / 65536 % 256) as u8;
+    out[at + 2] = (v / 256 % 256) as u8;
+    out[at + 3] = (v % 256) as u8;
+    at + 4
 }
 
 pub fn put_big8(out: &mut [u8], at: usize, v: u64) -> usize

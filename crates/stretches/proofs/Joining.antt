@@ -1,20 +1,17 @@
--- Texts and pairs of stretches: what the library's tests say of them, and what they are byte by byte, in words and in two pieces.
-use Rattle.std.proofs.Common.{slice_index, MatchBool}
-use Rattle.std.specs.Cmp.Lexicographic.{pointwise}
-use Rattle.std.specs.Str.{IsAscii, IsNotAscii}
+-- Texts and pairs of stretches, byte by byte and in words of eight and four bytes: what is joined by `|`, and what it says at the end.
 use mathlib.Core.Path.{◌≡◌, refl, sym, ap, ◌∙◌}
 use Prim.Native.Nat.{ℕ, zero, suc, ◌+◌, ◌-◌, ◌*◌, ◌/◌, ◌%◌, ◌≤◌, ◌<◌}
 use mathlib.Core.List.{List, [], ◌∷◌}
 use mathlib.Core.Bool.{Bool, true, false, ◌&&◌, and-true}
 use native.Mathlib.Omega.{arith}
 use native.Mathlib.Numerals.{add-one}
-use lib.ListN.{length, get_or, take, drop, length-drop}
+use lib.ListN.{length, get_or, take, drop, length-drop, drop_of_length-le}
 use lib.Seq.{take-nil, drop-cons, drop-drop, take_all, length-take-le}
 use lib.Dec.{leb, eqb}
 use lib.Bits.{bit_and, bit_or, bit_xor, and_le_l, and_le_r, and_block, and_high, or_lt, or_add_and, xor_add_and, xor_self, or_zero_l}
-use borrow.Author.Tests.{leb-true, le-leb, lt-leb, eqb-true, eq-eqb}
+use borrow.Author.Tests.{leb-true, le-leb, eqb-true, eq-eqb}
 use Rattle.rules.specs.Bytes.{Bytes, onto, of_big, big, is_text, same}
-use Rattle.rules.proofs.Bools.{alike, and_l, and_r, both, and_no_l, and_no_r}
+use Rattle.rules.proofs.Bools.{alike, and_l, and_r, both, and_no_r}
 use Rattle.rules.proofs.Stored.Bigs.{write_big}
 use Rattle.rules.proofs.Stored.Parts.{none_empty, empty_nil, bytes_take, cut_from, text_step}
 use Rattle.rules.proofs.Stored.Equal.{same_refl, same_eq}
@@ -59,37 +56,17 @@ and_again : (a b c : Bool) → ((a && b) && c) ≡ (a && (b && c))
 and_again true b c = refl
 and_again false b c = refl
 
--- ---- what the library's tests say
-
-text_all : (s : List ℕ) → IsAscii s → true ≡ is_text s
-unfolding is_text
-text_all [] h = refl
-text_all (x ∷ s) h = sym (both (le-leb x 0x7f (omega (arith, h 0))) (sym (text_all s (λ i. h (suc i)))))
-
-text_not : (s : List ℕ) (i : ℕ) → 128 ≤ slice_index s i → false ≡ is_text s
-unfolding is_text
-text_not [] i h = absurd (omega arith)
-text_not (x ∷ s) zero h = sym (and_no_l (is_text s) (lt-leb x 0x7f (omega (arith, h))))
-text_not (x ∷ s) (suc i) h = sym (and_no_r (leb x 0x7f) (sym (text_not s i h)))
-
-pub ascii_text : (s : List ℕ) (r : Bool) → MatchBool r (IsAscii s) (IsNotAscii s) → r ≡ is_text s
-ascii_text s true h = text_all s h
-ascii_text s false (i, h) = text_not s i h
-
-pub equal_same : (a b : List ℕ) → pointwise eqb a b ≡ same a b
-unfolding same
-equal_same [] [] = refl
-equal_same [] (y ∷ b) = refl
-equal_same (x ∷ a) [] = refl
-equal_same (x ∷ a) (y ∷ b) = ap (λ (t : Bool). eqb x y && t) (equal_same a b)
-
--- ---- byte by byte
+-- ---- byte by byte: a turn of each loop, and its end
 
 pub text_turn : (s : List ℕ) (i seen : ℕ) → i < length s → is_text s ≡ (leb seen 0x7f && is_text (drop i s))
     → is_text s ≡ (leb (bit_or seen (get_or s i 0)) 0x7f && is_text (drop (i + 1) s))
 text_turn s i seen h e =
     let x = get_or s i 0 in
     e ∙ rw (text_step s i h, add-one, text_joined seen x) (sym (and_again (leb seen 0x7f) (leb x 0x7f) (is_text (drop (suc i) s))))
+
+pub text_end : (s : List ℕ) (i seen : ℕ) → length s ≤ i → is_text s ≡ (leb seen 0x7f && is_text (drop i s)) → leb seen 0x7f ≡ is_text s
+unfolding is_text
+text_end s i seen h e = sym (e ∙ rw (drop_of_length-le s h) (and-true (leb seen 0x7f)))
 
 same_step : (a b : List ℕ) (i : ℕ) → i < length a → i < length b
     → same (drop i a) (drop i b) ≡ (eqb (get_or a i 0) (get_or b i 0) && same (drop (suc i) a) (drop (suc i) b))
@@ -102,6 +79,10 @@ same_turn a b i seen h k e =
     let x = get_or a i 0 in
     let y = get_or b i 0 in
     e ∙ rw (same_step a b i h k, add-one, same_joined seen x y) (sym (and_again (eqb seen 0) (eqb x y) (same (drop (suc i) a) (drop (suc i) b))))
+
+pub same_end : (a b : List ℕ) (i seen : ℕ) → length a ≤ i → length b ≤ i → same a b ≡ (eqb seen 0 && same (drop i a) (drop i b)) → eqb seen 0 ≡ same a b
+unfolding same
+same_end a b i seen h k e = sym (e ∙ rw (drop_of_length-le a h, drop_of_length-le b k) (and-true (eqb seen 0)))
 
 -- ---- the top bits of a word
 
@@ -259,6 +240,18 @@ twice false b = refl
 
 thrice : (a b c : Bool) → ((a && b) && c) ≡ (a && (b && (c && true)))
 thrice a b c = and_again a b c ∙ rw (and-true c)
+
+three_joined : (a b c : ℕ) → leb (bit_or (bit_or a b) c) 0x7f ≡ ((leb a 0x7f && leb b 0x7f) && leb c 0x7f)
+three_joined a b c = text_joined (bit_or a b) c ∙ ap (λ (t : Bool). t && leb c 0x7f) (text_joined a b)
+
+pub three_text : (s : List ℕ) (n : ℕ) → n ≡ length s → 1 ≤ n → n < 4
+    → leb (bit_or (bit_or (get_or s 0 0) (get_or s (n / 2) 0)) (get_or s (n - 1) 0)) 0x7f ≡ is_text s
+unfolding is_text
+three_text [] n e h k = absurd (omega arith)
+three_text (x ∷ []) n e h k = rw e (three_joined x x x ∙ once (leb x 0x7f))
+three_text (x ∷ y ∷ []) n e h k = rw e (three_joined x y y ∙ twice (leb x 0x7f) (leb y 0x7f))
+three_text (x ∷ y ∷ z ∷ []) n e h k = rw e (three_joined x y z ∙ thrice (leb x 0x7f) (leb y 0x7f) (leb z 0x7f))
+three_text (x ∷ y ∷ z ∷ u ∷ s) n e h k = absurd (omega arith)
 
 three_differ : (a b c x y z : ℕ) → eqb (bit_or (bit_or (bit_xor a x) (bit_xor b y)) (bit_xor c z)) 0 ≡ ((eqb a x && eqb b y) && eqb c z)
 three_differ a b c x y z =

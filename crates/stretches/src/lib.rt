@@ -1,18 +1,26 @@
-// Stretches of bytes: texts and fields, comparison, copy, clear.
+// Stretches of bytes: texts and fields, comparison, copy, clear. Short ones are tested in words that may overlap, the last one first;
+// longer ones go by a loop without a way out before its end, which a compiler widens.
 #![tactic(auto)]
 
 ghost use Rattle.std.specs.Prelude.{◌≡◌, ◌≤◌, ◌<◌, length, take, replicate, eqb};
 ghost use Rattle.rules.specs.Bytes.{is_text, is_field, same};
 
-use names::FIELD_MOST;
+use names::{ASCII_MOST, FIELD_MOST};
 use numbers::{big4, big8};
+
+// How long a stretch is that two pairs of words cover.
+pub const MIDDLE_LEAST: usize = 8;
+
+pub const MIDDLE_MOST: usize = 32;
 
 // ---- texts
 
 // The top bit of each byte of a word.
 const TOPS8: u64 = 0x8080_8080_8080_8080;
 
-// The top bits of the first eight bytes: 0 exactly where these bytes are ASCII.
+const TOPS4: u32 = 0x8080_8080;
+
+// The top bits of the first eight bytes and of the first four: 0 exactly where these bytes are ASCII.
 pub fn tops8(s: &[u8]) -> u64
     requires { 8 ≤ length s.now }
     ensures { eqb result 0 ≡ is_text (take 8 s.now) }
@@ -20,12 +28,87 @@ pub fn tops8(s: &[u8]) -> u64
     big8(s) & TOPS8
 }
 
+fn tops4(s: &[u8]) -> u32
+    requires { 4 ≤ length s.now }
+    ensures { eqb result 0 ≡ is_text (take 4 s.now) }
+{
+    big4(s) & TOPS4
+}
+
+// Most texts are short: two words of four bytes that may overlap, or the first, the middle and the last byte.
+fn is_short_text(s: &[u8]) -> bool
+    requires { length s.now < 8 }
+    ensures { result ≡ is_text s.now }
+{
+    let n = s.len();
+    if n >= 4 {
+        let e = n - 4;
+        if tops4(&s[e..]) != 0 {
+            return false;
+        }
+        return tops4(s) == 0;
+    }
+    if n == 0 {
+        return true;
+    }
+    (s[0] | s[n / 2] | s[n - 1]) <= ASCII_MOST
+}
+
+fn is_long_text(s: &[u8]) -> bool
+    ensures { result ≡ is_text s.now }
+{
+    let mut seen: u8 = 0;
+    for i in 0..s.len() {
+        seen |= s[i];
+    }
+    seen <= ASCII_MOST
+}
+
+// From eight to sixteen bytes.
+fn is_pair_text(s: &[u8]) -> bool
+    requires { (8 ≤ length s.now) × (length s.now ≤ 16) }
+    ensures { result ≡ is_text s.now }
+{
+    let e = s.len() - 8;
+    if tops8(&s[e..]) != 0 {
+        return false;
+    }
+    tops8(s) == 0
+}
+
+// From eight to thirty-two bytes.
+pub fn is_middle_text(s: &[u8]) -> bool
+    requires { (8 ≤ length s.now) × (length s.now ≤ 32) }
+    ensures { result ≡ is_text s.now }
+{
+    if s.len() <= 16 {
+        return is_pair_text(s);
+    }
+    let e = s.len() - 16;
+    if !is_pair_text(&s[e..]) {
+        return false;
+    }
+    is_pair_text(&s[0..16])
+}
+
+fn is_longer_text(s: &[u8]) -> bool
+    requires { 8 ≤ length s.now }
+    ensures { result ≡ is_text s.now }
+{
+    if s.len() <= MIDDLE_MOST {
+        return is_middle_text(s);
+    }
+    is_long_text(s)
+}
+
 // Whether every byte is ASCII.
-#[tactic(auto, using(crate::proofs::Joining::ascii_text))]
 pub fn is_text(s: &[u8]) -> bool
     ensures { result ≡ is_text s.now }
 {
-    s.is_ascii()
+    if s.len() < MIDDLE_LEAST {
+        return is_short_text(s);
+    }
+    is_longer_text(s)
 }
 
 pub fn is_field(s: &[u8]) -> bool
@@ -75,14 +158,24 @@ fn same_short(a: &[u8], b: &[u8]) -> bool
     ((a[0] ^ b[0]) | (a[m] ^ b[m]) | (a[l] ^ b[l])) == 0
 }
 
-#[tactic(auto, using(crate::proofs::Joining::equal_same))]
+fn same_long(a: &[u8], b: &[u8]) -> bool
+    requires { length a.now ≡ length b.now }
+    ensures { result ≡ same a.now b.now }
+{
+    let mut seen: u8 = 0;
+    for i in 0..a.len() {
+        seen |= a[i] ^ b[i];
+    }
+    seen == 0
+}
+
 fn same_longer(a: &[u8], b: &[u8]) -> bool
     requires { (length a.now ≡ length b.now) × (8 ≤ length a.now) }
     ensures { result ≡ same a.now b.now }
 {
     let n = a.len();
     if n > 16 {
-        return a == b;
+        return same_long(a, b);
     }
     let e = n - 8;
     if differ8(&a[e..], &b[e..]) != 0 {

@@ -25,14 +25,14 @@ fn is_letter(c: u8) -> bool
     requires { c < 128 }
     ensures { result ≡ is_letter c }
 {
-    LETTER_CLASS <= classes::class_at(c)
+    LETTER_CLASS <= classes::ascii_class(c)
 }
 
 fn ends_term(c: u8) -> bool
     requires { c < 128 }
     ensures { result ≡ ends_term c }
 {
-    classes::class_at(c) / END_CLASS % 2 == 1
+    classes::ascii_class(c) / END_CLASS % 2 == 1
 }
 
 // Letters stand for themselves. Gives how many the term begins with.
@@ -69,8 +69,13 @@ fn unescape<F: Fn(u8) -> bool>(
         if ends(*c) {
             break;
         }
-        let shown = if *c == b'\\' { tail } else { rest };
-        let [byte, behind @ ..] = shown else {
+        if *c != b'\\' {
+            out[len] = *c;
+            len += 1;
+            rest = tail;
+            continue;
+        }
+        let [byte, behind @ ..] = tail else {
             return Err(Fault {
                 refusal: Refusal::NothingEscaped, // in an open quote too
                 place: text.len() - rest.len(),

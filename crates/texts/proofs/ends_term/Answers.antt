@@ -4,4 +4,4 @@ use mathlib.Core.Path.{sym}
 use Rattle.texts.proofs.ends_term.Goals as goal
 
 pub returns : goal.returns
-returns c = sym (end_is c.args.c c.requires c.class_at.ensures)
+returns c = sym (end_is c.args.c c.requires c.ascii_class.ensures)

@@ -4,4 +4,4 @@ use mathlib.Core.Path.{sym}
 use Rattle.texts.proofs.is_letter.Goals as goal
 
 pub returns : goal.returns
-returns c = sym (letter_is c.args.c c.requires c.class_at.ensures)
+returns c = sym (letter_is c.args.c c.requires c.ascii_class.ensures)

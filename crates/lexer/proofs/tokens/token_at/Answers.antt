@@ -8,13 +8,13 @@ use Rattle.std.proofs.lemmas.Result.{err_from_is_err_and}
 use lib.ListN.{get_or, drop}
 use Rattle.lexer.proofs.tokens.token_at.Goals as goal
 
-pub class_at-requires : goal.class_at-requires
-class_at-requires c = text_byte c.args.text.now c.args.at c.requires.2
+pub ascii_class-requires : goal.ascii_class-requires
+ascii_class-requires c = text_byte c.args.text.now c.args.at c.requires.2
 
-pub returns-then-class_at-ge-LETTER_CLASS-clause-makes : goal.returns-then-class_at-ge-LETTER_CLASS-clause-makes
-returns-then-class_at-ge-LETTER_CLASS-clause-makes c =
+pub returns-then-ascii_class-ge-LETTER_CLASS-clause-makes : goal.returns-then-ascii_class-ge-LETTER_CLASS-clause-makes
+returns-then-ascii_class-ge-LETTER_CLASS-clause-makes c =
     made_letter c.args.text.now c.args.at c.term_at.new.room c.requires.0
-    (letter_told (get_or c.args.text.now c.args.at 0) (text_byte c.args.text.now c.args.at c.requires.2) c.class_at.ensures c.if-class_at-ge-LETTER_CLASS.true)
+    (letter_told (get_or c.args.text.now c.args.at 0) (text_byte c.args.text.now c.args.at c.requires.2) c.ascii_class.ensures c.if-ascii_class-ge-LETTER_CLASS.true)
     c.term_at.result c.term_at.ensures.makes
 
 pub returns-in-Some-clause-makes : goal.returns-in-Some-clause-makes

@@ -1,8 +1,0 @@
--- `classes::class_at` meets its contract: the static is the table of the rules. Assumes nothing.
-use Rattle.std.proofs.Common.{rules}
-use Rattle.rules.specs.Analysis.{classes}
-use Rattle.classes.proofs.class_at.Goals as goal
-
-pub returns : goal.returns
-unfolding classes
-returns c = search rules
